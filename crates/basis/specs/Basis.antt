@@ -1,0 +1,110 @@
+-- The six bases: STEP, the length rule, and the matrices, each entry the double nearest to its fraction. Definitions only.
+use mathlib.Core.List.{List, [], _∷_}
+use mathlib.Core.Bool.{Bool, true, false, not, _&&_}
+use Prim.Native.Nat.{ℕ, suc, _-_, _+_, _/_, _%_}
+use lib.Dec.{leb, eqb}
+use lib.IntN.{ℤ, pos, negsuc}
+use lib.Ieee.{Float, binary64, round}
+use Rattle.basis.specs.declared.Basis.{Basis}
+use Rattle.basis.specs.declared.Basis.the-variants.{Bspline, Bezier, CatmullRom, Hermite, Linear, Power}
+
+abbrev pub stepOf : Basis → ℕ
+stepOf Bspline = 1
+stepOf Bezier = 3
+stepOf CatmullRom = 1
+stepOf Hermite = 2
+stepOf Linear = 1
+stepOf Power = 4
+
+-- (knots − 4) is a multiple of STEP
+abbrev pub regular : Basis → ℕ → Bool
+regular b n = eqb ((n - 4) % stepOf b) 0
+
+-- at least 4 knots, and regular
+abbrev pub lengthOk : Basis → ℕ → Bool
+lengthOk b n = leb 4 n && regular b n
+
+-- n knots give (n − 4)/STEP + 1 segments
+abbrev pub segmentsOf : Basis → ℕ → ℕ
+segmentsOf b n = (n - 4) / stepOf b + 1
+
+-- the double nearest to z / d
+unfoldable pub frac : ℕ → ℤ → Float
+unfolding round
+frac d (pos n) = round binary64 false n d
+frac d (negsuc n) = round binary64 true (suc n) d
+
+unfoldable pub row : ℕ → ℤ → ℤ → ℤ → ℤ → List Float
+unfolding frac
+row d a b c e = frac d a ∷ frac d b ∷ frac d c ∷ frac d e ∷ []
+
+-- whole numbers, signed
+abbrev -6 : ℤ
+-6 = negsuc 5
+
+abbrev -5 : ℤ
+-5 = negsuc 4
+
+abbrev -3 : ℤ
+-3 = negsuc 2
+
+abbrev -2 : ℤ
+-2 = negsuc 1
+
+abbrev -1 : ℤ
+-1 = negsuc 0
+
+abbrev +0 : ℤ
++0 = pos 0
+
+abbrev +1 : ℤ
++1 = pos 1
+
+abbrev +2 : ℤ
++2 = pos 2
+
+abbrev +3 : ℤ
++3 = pos 3
+
+abbrev +4 : ℤ
++4 = pos 4
+
+-- four rows of four
+unfoldable pub matrixOf : Basis → List (List Float)
+unfolding row
+matrixOf Bspline =
+    row 6 -1 +3 -3 +1 ∷
+    row 6 +3 -6 +3 +0 ∷
+    row 6 -3 +0 +3 +0 ∷
+    row 6 +1 +4 +1 +0 ∷
+    []
+matrixOf Bezier =
+    row 1 -1 +3 -3 +1 ∷
+    row 1 +3 -6 +3 +0 ∷
+    row 1 -3 +3 +0 +0 ∷
+    row 1 +1 +0 +0 +0 ∷
+    []
+matrixOf CatmullRom =
+    row 2 -1 +3 -3 +1 ∷
+    row 2 +2 -5 +4 -1 ∷
+    row 2 -1 +0 +1 +0 ∷
+    row 2 +0 +2 +0 +0 ∷
+    []
+matrixOf Hermite =
+    row 1 +2 +1 -2 +1 ∷
+    row 1 -3 -2 +3 -1 ∷
+    row 1 +0 +1 +0 +0 ∷
+    row 1 +1 +0 +0 +0 ∷
+    []
+matrixOf Linear =
+    row 1 +0 +0 +0 +0 ∷
+    row 1 +0 +0 +0 +0 ∷
+    row 1 +0 -1 +1 +0 ∷
+    row 1 +0 +1 +0 +0 ∷
+    []
+matrixOf Power =
+    row 1 +1 +0 +0 +0 ∷
+    row 1 +0 +1 +0 +0 ∷
+    row 1 +0 +0 +1 +0 ∷
+    row 1 +0 +0 +0 +1 ∷
+    []

@@ -1,0 +1,37 @@
+// The six bases: STEP, the length rule and the matrices. Rust: src/basis.rs.
+ghost use mathlib.Core.Path.{_≡_};
+ghost use Prim.Native.Nat.{_≤_, _<_};
+ghost use Rattle.basis.specs.Basis.{stepOf, lengthOk};
+pub mod basis_macros;
+
+pub enum Basis {
+    Bspline,
+    Bezier,
+    CatmullRom,
+    Hermite,
+    Linear,
+    Power,
+}
+
+pub fn step(b: Basis) -> usize
+    ensures { λ r. ⌜ (r ≡ stepOf b) × (0 < r) × (r ≤ 4) ⌝ }
+{
+    match b {
+        Basis::Bspline => 1,
+        Basis::Bezier => 3,
+        Basis::CatmullRom => 1,
+        Basis::Hermite => 2,
+        Basis::Linear => 1,
+        Basis::Power => 4,
+    }
+}
+
+// Whether n knots suit the basis.
+pub fn is_len_ok(b: Basis, n: usize) -> bool
+    ensures { λ r. ⌜ r ≡ lengthOk b n ⌝ }
+{
+    if n < 4 {
+        return false;
+    }
+    (n - 4) % step(b) == 0
+}
