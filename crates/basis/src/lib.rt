@@ -2,6 +2,7 @@
 ghost use mathlib.Core.Path.{_≡_};
 ghost use Prim.Native.Nat.{_≤_, _<_};
 ghost use Rattle.basis.specs.Basis.{stepOf, lengthOk};
+
 pub mod basis_macros;
 
 pub enum Basis {

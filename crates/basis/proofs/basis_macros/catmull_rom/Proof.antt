@@ -1,0 +1,11 @@
+use lib.Ieee.{ofBits}
+use Rattle.basis.specs.Basis.{matrixOf}
+use Rattle.basis.proofs.basis_macros.catmull_rom.Statement.{statement}
+use Rattle.basis.proofs.basis_macros.catmull_rom.Tie as tie
+
+returns : tie.Need-returns
+unfolding matrixOf ofBits
+returns c = cc
+
+pub catmull-rom-spec : {M : Type 1} → statement M
+catmull-rom-spec = tie.close (tie.spec returns)

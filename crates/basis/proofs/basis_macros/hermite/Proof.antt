@@ -1,0 +1,11 @@
+use lib.Ieee.{ofBits}
+use Rattle.basis.specs.Basis.{matrixOf}
+use Rattle.basis.proofs.basis_macros.hermite.Statement.{statement}
+use Rattle.basis.proofs.basis_macros.hermite.Tie as tie
+
+returns : tie.Need-returns
+unfolding matrixOf ofBits
+returns c = cc
+
+pub hermite-spec : {M : Type 1} → statement M
+hermite-spec = tie.close (tie.spec returns)
