@@ -1,0 +1,28 @@
+// Doubles: the magnitude, the clamp to 0..1 and the interpolation. Rust: the dependency `lerp`, and methods of f64.
+ghost use mathlib.Core.Path.{_≡_};
+ghost use Rattle.doubles.specs.Numbers.{magnitudeOf, clamp};
+ghost use Rattle.doubles.specs.Lerp.{lerpOf};
+
+pub fn magnitude(x: f64) -> f64
+    ensures { λ r. ⌜ r ≡ magnitudeOf x ⌝ }
+{
+    if x < 0.0 { -x } else { x }
+}
+
+pub fn clamped(x: f64) -> f64
+    ensures { λ r. ⌜ r ≡ clamp x ⌝ }
+{
+    if x < 0.0 {
+        0.0
+    } else if 1.0 < x {
+        1.0
+    } else {
+        x
+    }
+}
+
+pub fn lerp(lower: f64, upper: f64, t: f64) -> f64
+    ensures { λ r. ⌜ r ≡ lerpOf lower upper t ⌝ }
+{
+    lower + (upper - lower) * t
+}
