@@ -1,7 +1,8 @@
 -- Numbered replies: the table's rows, their numbers and their order. Definitions only.
-use mathlib.Core.Bool.{Bool, cond}
+use mathlib.Core.Bool.{Bool, false, cond}
 use mathlib.Core.List.{List, [], _∷_}
 use Prim.Native.Nat.{ℕ}
+use lib.Dec.{eqb}
 use Rattle.error.specs.declared.Refusal.{Refusal}
 use Rattle.error.specs.declared.Refusal.the-variants.{TooFew, BadPattern, TooMany, NotANumber, BadPrecision, NoRounds, LinearOutput, ShortBuffer, BadKnot, TurnsBack, OffCurve, BadLine}
 use Rattle.error.specs.declared.Verdict.{Verdict}
@@ -26,11 +27,24 @@ numberOf BadLine = 12
 abbrev pub rows : List Refusal
 rows = TooFew ∷ BadPattern ∷ TooMany ∷ NotANumber ∷ BadPrecision ∷ NoRounds ∷ LinearOutput ∷ ShortBuffer ∷ BadKnot ∷ TurnsBack ∷ OffCurve ∷ BadLine ∷ []
 
--- the first of the rows that applies
-abbrev pub firstOf : List Refusal → (Refusal → Bool) → Verdict
-firstOf [] applies = Passed
-firstOf (r ∷ rs) applies = cond (applies r) (Failed r) (firstOf rs applies)
+-- the rows that a call uses, in any order, each with whether it applies
+abbrev pub Uses : Type 0
+Uses = List (Refusal × Bool)
 
--- a call says of each row whether it applies; a row that it has no use for never does
-abbrev pub first : (Refusal → Bool) → Verdict
-first applies = firstOf rows applies
+-- whether a row applies; one that the call has no use for never does
+abbrev pub applies : Refusal → Uses → Bool
+applies r [] = false
+applies r (u ∷ us) = cond (eqb (numberOf r) (numberOf (u .0))) (u .1) (applies r us)
+
+-- the first of the rows that applies
+abbrev pub firstOf : List Refusal → Uses → Verdict
+firstOf [] us = Passed
+firstOf (r ∷ rs) us = cond (applies r us) (Failed r) (firstOf rs us)
+
+abbrev pub first : Uses → Verdict
+first us = firstOf rows us
+
+-- a verdict, and the next one where it is passed
+abbrev pub andThen : Verdict → Verdict → Verdict
+andThen Passed w = w
+andThen (Failed r) w = Failed r

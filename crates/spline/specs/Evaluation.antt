@@ -1,0 +1,34 @@
+-- The two calls of evaluation: what each refuses, and what it answers. Definitions only.
+use mathlib.Core.Bool.{not, _&&_}
+use mathlib.Core.List.{List, [], _∷_, _++_}
+use lib.ListN.{length}
+use lib.Ieee.{Float, le, isNan}
+use Rattle.error.specs.declared.Refusal.the-variants.{NotANumber, BadKnot}
+use Rattle.error.specs.declared.Verdict.{Verdict}
+use Rattle.error.specs.declared.Verdict.the-variants.{Passed, Failed}
+use Rattle.error.specs.Refusals.{Uses, first}
+use Rattle.basis.specs.declared.Basis.{Basis}
+use Rattle.doubles.specs.Numbers.{nought, one}
+use Rattle.spline.specs.declared.Evaluated.{Evaluated}
+use Rattle.spline.specs.declared.Evaluated.the-variants.{Value, Refused}
+use Rattle.spline.specs.Segment.{segmentOf}
+use Rattle.spline.specs.Rows.{curveLength, segmentLength, allInRange}
+use Rattle.spline.specs.Curve.{curveValue}
+
+abbrev pub evaluated : Verdict → Float → Evaluated
+evaluated Passed v = Value v
+evaluated (Failed r) v = Refused r
+
+-- a curve
+abbrev pub splineUses : Basis → Float → List Float → Uses
+splineUses b x ks = curveLength b (length ks) ++ ((NotANumber, isNan x) ∷ (BadKnot, not (allInRange ks)) ∷ [])
+
+unfoldable pub splineOf : Basis → Float → List Float → Evaluated
+splineOf b x ks = evaluated (first (splineUses b x ks)) (curveValue b x ks)
+
+-- one segment: a parameter outside 0 to 1 is refused too, and NaN lies outside
+abbrev pub splineSegmentUses : Float → List Float → Uses
+splineSegmentUses x cv = segmentLength (length cv) ++ ((NotANumber, not (le nought x && le x one)) ∷ (BadKnot, not (allInRange cv)) ∷ [])
+
+unfoldable pub splineSegmentOf : Basis → Float → List Float → Evaluated
+splineSegmentOf b x cv = evaluated (first (splineSegmentUses x cv)) (segmentOf b cv 0 x)

@@ -1,0 +1,5 @@
+pub mod Segment
+pub mod Whole
+pub mod Rows
+pub mod Curve
+pub mod Evaluation

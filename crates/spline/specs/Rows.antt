@@ -1,0 +1,31 @@
+-- When the rows of the refusal table apply to knots and parameters. Definitions only.
+use mathlib.Core.Bool.{Bool, true, false, not, _&&_}
+use mathlib.Core.List.{List, [], _∷_}
+use Prim.Native.Nat.{ℕ}
+use lib.Dec.{ltb}
+use lib.IntN.{pos}
+use lib.Ieee.{Float, fin, neg, le}
+use Rattle.error.specs.declared.Refusal.the-variants.{TooFew, BadPattern, TooMany}
+use Rattle.error.specs.Refusals.{Uses}
+use Rattle.basis.specs.declared.Basis.{Basis}
+use Rattle.basis.specs.Basis.{regular}
+
+-- 2^40
+abbrev pub bound : Float
+bound = fin false 1 (pos 40)
+
+-- finite, and at most 2^40 in magnitude
+unfoldable pub inRange : Float → Bool
+inRange x = le (neg bound) x && le x bound
+
+unfoldable pub allInRange : List Float → Bool
+allInRange [] = true
+allInRange (x ∷ xs) = inRange x && allInRange xs
+
+-- a curve of n knots: fewer than 4; (n − 4) is no multiple of STEP; more than 4,096
+abbrev pub curveLength : Basis → ℕ → Uses
+curveLength b n = (TooFew, ltb n 4) ∷ (BadPattern, not (regular b n)) ∷ (TooMany, ltb 4096 n) ∷ []
+
+-- one segment of n knots: fewer than 4; more than 4
+abbrev pub segmentLength : ℕ → Uses
+segmentLength n = (TooFew, ltb n 4) ∷ (BadPattern, ltb 4 n) ∷ []

@@ -1,0 +1,33 @@
+// A curve's value, past the refusals.
+ghost use mathlib.Core.Path.{_≡_};
+ghost use Prim.Native.Nat.{_≤_, _<_};
+ghost use lib.ListN.{length};
+ghost use Rattle.spline.specs.Curve.{curveAt, curveValue};
+use basis::Basis;
+
+// The segment is the part of the knots that starts at its place: nothing is copied.
+pub fn at(m: [[f64; 4]; 4], step: usize, x: f64, knots: &[f64]) -> f64
+    requires { ⌜ (0 < step) × (4 ≤ length (now knots)) × (length (now knots) ≤ 4096) ⌝ }
+    ensures { λ r. ⌜ r ≡ curveAt m step x (now (knots .entry)) ⌝ }
+{
+    let k = (knots.len() - 4) / step + 1;
+    let p = doubles::clamped(x) * crate::whole::double_of(k);
+    let s = crate::whole::whole_up_to(k - 1, p);
+    let t = p - crate::whole::double_of(s);
+    let start = s * step;
+    crate::segment::horner(crate::segment::sums(m, &knots[start..]), t)
+}
+
+pub fn curve_value(b: Basis, x: f64, knots: &[f64]) -> f64
+    requires { ⌜ (4 ≤ length (now knots)) × (length (now knots) ≤ 4096) ⌝ }
+    ensures { λ r. ⌜ r ≡ curveValue b x (now (knots .entry)) ⌝ }
+{
+    match b {
+        Basis::Bspline => at(basis::basis_macros::bspline(), 1, x, knots),
+        Basis::Bezier => at(basis::basis_macros::bezier(), 3, x, knots),
+        Basis::CatmullRom => at(basis::basis_macros::catmull_rom(), 1, x, knots),
+        Basis::Hermite => at(basis::basis_macros::hermite(), 2, x, knots),
+        Basis::Linear => at(basis::basis_macros::linear(), 1, x, knots),
+        Basis::Power => at(basis::basis_macros::power(), 4, x, knots),
+    }
+}

@@ -1,0 +1,46 @@
+// Evaluation of a curve and of one segment. Rust: `spline` and `spline_segment` of src/spline_trait.rs.
+ghost use mathlib.Core.Path.{_≡_};
+ghost use lib.ListN.{length};
+ghost use Rattle.spline.specs.Evaluation.{splineOf, splineSegmentOf};
+use basis::Basis;
+use error::Refusal;
+use error::Verdict;
+pub mod curve;
+pub mod rows;
+pub mod segment;
+pub mod whole;
+
+pub enum Evaluated {
+    Value(f64),
+    Refused(Refusal),
+}
+
+// The four row sums of a segment.
+pub struct Weights {
+    pub w0: f64,
+    pub w1: f64,
+    pub w2: f64,
+    pub w3: f64,
+}
+
+// The curve at x; x is clamped to 0..1.
+pub fn spline(b: Basis, x: f64, knots: &[f64]) -> Evaluated
+    ensures { λ r. ⌜ r ≡ splineOf b x (now (knots .entry)) ⌝ }
+{
+    let v = rows::curve_verdict(b, x, knots);
+    match v {
+        Verdict::Failed(r) => Evaluated::Refused(r),
+        Verdict::Passed => Evaluated::Value(curve::curve_value(b, x, knots)),
+    }
+}
+
+// One segment at x.
+pub fn spline_segment(b: Basis, x: f64, cv: &[f64]) -> Evaluated
+    ensures { λ r. ⌜ r ≡ splineSegmentOf b x (now (cv .entry)) ⌝ }
+{
+    let v = rows::segment_verdict(x, cv);
+    match v {
+        Verdict::Failed(r) => Evaluated::Refused(r),
+        Verdict::Passed => Evaluated::Value(segment::segment_value(b, cv, x)),
+    }
+}

@@ -1,0 +1,104 @@
+// The refusals of evaluation, apart from the computing; lengths and ranges serve the other calls too.
+ghost use mathlib.Core.Path.{_≡_};
+ghost use mathlib.Core.Bool.{true};
+ghost use lib.ListN.{length};
+ghost use Rattle.error.specs.Refusals.{first};
+ghost use Rattle.basis.specs.Basis.{regular};
+ghost use Rattle.spline.specs.Rows.{inRange, allInRange, curveLength, segmentLength};
+ghost use Rattle.spline.specs.Evaluation.{splineUses, splineSegmentUses};
+use basis::Basis;
+use error::Refusal;
+use error::Verdict;
+
+// A match, so that each divisor is a constant.
+pub fn is_regular(b: Basis, n: usize) -> bool
+    ensures { λ r. ⌜ r ≡ regular b n ⌝ }
+{
+    if n < 4 {
+        return true;
+    }
+    let m = n - 4;
+    match b {
+        Basis::Bspline => true,
+        Basis::Bezier => m % 3 == 0,
+        Basis::CatmullRom => true,
+        Basis::Hermite => m % 2 == 0,
+        Basis::Linear => true,
+        Basis::Power => m % 4 == 0,
+    }
+}
+
+pub fn curve_length(b: Basis, n: usize) -> Verdict
+    ensures { λ r. ⌜ r ≡ first (curveLength b n) ⌝ }
+{
+    if n < 4 {
+        return Verdict::Failed(Refusal::TooFew);
+    }
+    if is_regular(b, n) {
+        if 4096 < n {
+            return Verdict::Failed(Refusal::TooMany);
+        }
+        return Verdict::Passed;
+    }
+    Verdict::Failed(Refusal::BadPattern)
+}
+
+pub fn segment_length(n: usize) -> Verdict
+    ensures { λ r. ⌜ r ≡ first (segmentLength n) ⌝ }
+{
+    if n < 4 {
+        return Verdict::Failed(Refusal::TooFew);
+    }
+    if 4 < n {
+        return Verdict::Failed(Refusal::BadPattern);
+    }
+    Verdict::Passed
+}
+
+pub fn in_range(x: f64) -> bool
+    ensures { λ r. ⌜ r ≡ inRange x ⌝ }
+{
+    if -1099511627776.0 <= x { x <= 1099511627776.0 } else { false }
+}
+
+// No early exit: a flag is several times quicker on good knots.
+pub fn all_in_range(knots: &[f64]) -> bool
+    ensures { λ r. ⌜ r ≡ allInRange (now (knots .entry)) ⌝ }
+{
+    let mut good = true;
+    for i in 0..knots.len() {
+        good = good & in_range(knots[i]);
+    }
+    good
+}
+
+pub fn curve_verdict(b: Basis, x: f64, knots: &[f64]) -> Verdict
+    ensures { λ r. ⌜ r ≡ first (splineUses b x (now (knots .entry))) ⌝ }
+{
+    let l = curve_length(b, knots.len());
+    let Verdict::Passed = l else {
+        return l;
+    };
+    if x != x {
+        return Verdict::Failed(Refusal::NotANumber);
+    }
+    if all_in_range(knots) { Verdict::Passed } else { Verdict::Failed(Refusal::BadKnot) }
+}
+
+pub fn segment_verdict(x: f64, cv: &[f64]) -> Verdict
+    ensures { λ r. ⌜ r ≡ first (splineSegmentUses x (now (cv .entry))) ⌝ }
+{
+    let l = segment_length(cv.len());
+    let Verdict::Passed = l else {
+        return l;
+    };
+    if 0.0 <= x {
+        if x <= 1.0 {
+            if all_in_range(cv) {
+                return Verdict::Passed;
+            }
+            return Verdict::Failed(Refusal::BadKnot);
+        }
+    }
+    Verdict::Failed(Refusal::NotANumber)
+}

@@ -1,0 +1,63 @@
+// The whole part of a double.
+ghost use mathlib.Core.Path.{_≡_};
+ghost use Prim.Native.Nat.{_≤_, min};
+ghost use Rattle.spline.specs.Whole.{double, wholeUpTo};
+
+pub fn double_of(n: usize) -> f64
+    requires { ⌜ n ≤ 4097 ⌝ }
+    ensures { λ r. ⌜ r ≡ double n ⌝ }
+{
+    let short = n as u16;
+    short as f64
+}
+
+pub fn lesser(a: usize, b: usize) -> usize
+    ensures { λ r. ⌜ r ≡ min a b ⌝ }
+{
+    if a < b { a } else { b }
+}
+
+// Up to 4096, and nearly always the whole part of y: the last bits of y - 1/2, pushed to where a unit is the last bit.
+// Nothing rests on it: `whole_up_to` compares.
+fn guess(y: f64) -> usize
+    ensures { λ r. ⌜ r ≤ 4096 ⌝ }
+{
+    let g = (y - 0.4999999) + 6755399441055744.0;
+    if g != g {
+        return 0;
+    }
+    let n = std::num::wrapping_sub_u64(f64::to_bits(g), 4843621399236968448);
+    if n < 4096 { n as usize } else { 4096 }
+}
+
+// By comparing with the whole number in the middle.
+fn by_halving(m: usize, y: f64) -> usize
+    requires { ⌜ m ≤ 4096 ⌝ }
+    ensures { λ r. ⌜ r ≡ wholeUpTo m y ⌝ }
+{
+    let mut low = 0;
+    let mut high = m;
+    while low < high {
+        let mid = (low + high + 1) / 2;
+        if double_of(mid) <= y {
+            low = mid;
+        } else {
+            high = mid - 1;
+        }
+    }
+    low
+}
+
+// The greatest whole number up to m that is at most y: the guess, if y lies from it up to the next.
+pub fn whole_up_to(m: usize, y: f64) -> usize
+    requires { ⌜ m ≤ 4096 ⌝ }
+    ensures { λ r. ⌜ (r ≡ wholeUpTo m y) × (r ≤ m) ⌝ }
+{
+    let n = guess(y);
+    if double_of(n) <= y {
+        if y < double_of(n + 1) {
+            return lesser(n, m);
+        }
+    }
+    by_halving(m, y)
+}
