@@ -5,6 +5,7 @@ ghost use Rattle.spline.specs.Evaluation.{splineOf, splineSegmentOf};
 use basis::Basis;
 use error::Refusal;
 use error::Verdict;
+
 pub mod curve;
 pub mod rows;
 pub mod segment;

@@ -58,7 +58,11 @@ pub fn segment_length(n: usize) -> Verdict
 pub fn in_range(x: f64) -> bool
     ensures { λ r. ⌜ r ≡ inRange x ⌝ }
 {
-    if -1099511627776.0 <= x { x <= 1099511627776.0 } else { false }
+    if -1099511627776.0 <= x {
+        x <= 1099511627776.0
+    } else {
+        false
+    }
 }
 
 // No early exit: a flag is several times quicker on good knots.
@@ -82,7 +86,11 @@ pub fn curve_verdict(b: Basis, x: f64, knots: &[f64]) -> Verdict
     if x != x {
         return Verdict::Failed(Refusal::NotANumber);
     }
-    if all_in_range(knots) { Verdict::Passed } else { Verdict::Failed(Refusal::BadKnot) }
+    if all_in_range(knots) {
+        Verdict::Passed
+    } else {
+        Verdict::Failed(Refusal::BadKnot)
+    }
 }
 
 pub fn segment_verdict(x: f64, cv: &[f64]) -> Verdict

@@ -4,8 +4,8 @@ ghost use Prim.Native.Nat.{_≤_};
 ghost use lib.ListN.{length};
 ghost use Rattle.basis.specs.Basis.{matrixOf};
 ghost use Rattle.spline.specs.Segment.{weightsOf, hornerOf, segmentValue};
-use basis::Basis;
 use crate::Weights;
+use basis::Basis;
 
 pub fn sums(m: [[f64; 4]; 4], cv: &[f64]) -> Weights
     requires { ⌜ 4 ≤ length (now cv) ⌝ }
