@@ -1,0 +1,66 @@
+use borrow.Author.Needs.{needs}
+use native.Mathlib.Omega.{arith}
+use Prim.Native.Nat.{_≤_, _<_, _-_, _^_}
+use mathlib.Core.Path.{_≡_, refl, sym, _∙_}
+use lib.ListN.{length, drop}
+use Rattle.text.specs.Text.{valueOf}
+use Rattle.text.proofs.Words.{value-step, value-stop, value-done, hex-is, hex-not, grow16, room16}
+use Rattle.text.proofs.hex.Statement.{statement}
+use Rattle.text.proofs.hex.Tie as tie
+
+abbrev Inv-loop : tie.InvT-loop
+Inv-loop s n₀ i₀ n i = (i ≤ length s) × (length s ≡ 16) × (n < 16 ^ i) × (valueOf n (drop i s) ≡ valueOf 0 s)
+
+abbrev μ-loop : tie.MeasureT-loop
+μ-loop s n₀ i₀ n i = length s - i
+
+returns : tie.Need-returns Inv-loop μ-loop
+returns c = sym (hex-not _ (c .if1 .taken))
+
+loop-holds : tie.Need-loop-holds Inv-loop μ-loop
+loop-holds c = (omega arith, omega arith, omega arith, refl)
+
+shared-slice-read-digit : tie.Need-shared-slice-read-digit Inv-loop μ-loop
+shared-slice-read-digit c = search needs
+
+digit-requires : tie.Need-digit-requires Inv-loop μ-loop
+digit-requires c κs = search needs
+
+returns-2 : tie.Need-returns-2 Inv-loop μ-loop
+returns-2 c = sym (hex-is _ (omega arith) ∙ sym (c .before .before .before .before .loop .inv .3) ∙ value-stop (c .before .before .before .before .loop .n) _ (c .before .before .before .before .before .before .before .args .s .now) (c .before .before .before .before .loop .i) (omega arith) (c .before .digit .ensures .0) (c .if2 .taken))
+
+mul-n : tie.Need-mul-n Inv-loop μ-loop
+mul-n c = omega (arith, room16 (c .before .before .before .before .loop .n) (c .before .before .before .before .loop .i) (omega arith) (omega arith))
+
+add-n : tie.Need-add-n Inv-loop μ-loop
+add-n c = omega (arith, room16 (c .before .before .before .before .loop .n) (c .before .before .before .before .loop .i) (omega arith) (omega arith))
+
+add-i : tie.Need-add-i Inv-loop μ-loop
+add-i c = search needs
+
+loop-less : tie.Need-loop-less Inv-loop μ-loop
+loop-less c = search needs
+
+loop-again : tie.Need-loop-again Inv-loop μ-loop
+loop-again c = (omega arith, omega arith, grow16 _ _ _ (omega arith) (omega arith), value-step (c .before .before .before .before .loop .n) _ (c .before .before .before .before .before .before .before .args .s .now) (c .before .before .before .before .loop .i) (omega arith) (c .before .digit .ensures .0) (c .if2 .left) ∙ c .before .before .before .before .loop .inv .3)
+
+returns-3 : tie.Need-returns-3 Inv-loop μ-loop
+returns-3 c = sym (hex-is _ (omega arith) ∙ sym (c .before .loop .inv .3) ∙ value-done _ (c .before .before .before .before .args .s .now) (c .before .loop .i) (omega arith) (omega arith))
+
+pub hex-spec : {M : Type 1} → statement M
+hex-spec =
+    tie.close
+    (tie.spec
+    Inv-loop
+    μ-loop
+    returns
+    loop-holds
+    shared-slice-read-digit
+    digit-requires
+    returns-2
+    mul-n
+    add-n
+    add-i
+    loop-less
+    loop-again
+    returns-3)

@@ -1,0 +1,21 @@
+use borrow.Author.Needs.{needs}
+use mathlib.Core.Path.{sym, ap, subst}
+use lib.Dec.{T}
+use lib.Ieee.{toBits, binary64}
+use lib.Ieee.Compare.{differs-from-itself}
+use Rattle.text.proofs.Nan.{is-itself}
+use Rattle.text.proofs.to_bits.Statement.{statement}
+use Rattle.text.proofs.to_bits.Tie as tie
+
+returns : tie.Need-returns
+unfolding toBits
+returns c = sym (ap (toBits binary64) (differs-from-itself (c .before .args .x) (subst T (sym (c .if1 .taken)) tt)))
+
+float-to-bits-result : tie.Need-float-to-bits-result
+float-to-bits-result c = is-itself (c .before .args .x) (c .if1 .left)
+
+returns-2 : tie.Need-returns-2
+returns-2 c = search needs
+
+pub to-bits-spec : {M : Type 1} → statement M
+to-bits-spec = tie.close (tie.spec returns float-to-bits-result returns-2)
