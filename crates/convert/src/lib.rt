@@ -1,0 +1,45 @@
+// Conversion of one segment and of a knot vector from basis to basis, into a lent buffer. Rust: src/convert.rs.
+ghost use mathlib.Core.Path.{_≡_};
+ghost use lib.ListN.{length};
+ghost use Rattle.convert.specs.Conversion.{convertedOf, convertedSegmentOf};
+ghost use Rattle.convert.specs.Buffer.{answerOf, bufferOf};
+use basis::Basis;
+use error::Refusal;
+use error::Verdict;
+
+pub mod output;
+pub mod rows;
+
+pub enum Converted {
+    Written(usize),
+    Refused(Refusal),
+}
+
+// Writes four.
+pub fn convert_segment(from: Basis, to: Basis, cv: &[f64], out: &mut [f64]) -> Converted
+    ensures { λ r. ⌜ (r ≡ answerOf (convertedSegmentOf from to (now (cv .entry)) (length (now (out .entry))))) × (now (out .exit) ≡ bufferOf (convertedSegmentOf from to (now (cv .entry)) (length (now (out .entry)))) (now (out .entry))) ⌝ }
+{
+    let v = rows::segment_verdict(to, cv, out.len());
+    match v {
+        Verdict::Failed(r) => Converted::Refused(r),
+        Verdict::Passed => {
+            let m = matrix::conversion_matrix(from, to);
+            output::put_last(out, 0, spline::segment::sums(m, cv), 4);
+            Converted::Written(4)
+        }
+    }
+}
+
+// Writes 4 + (k - 1) * STEP of the output's basis.
+pub fn convert_spline(from: Basis, to: Basis, knots: &[f64], out: &mut [f64]) -> Converted
+    ensures { λ r. ⌜ (r ≡ answerOf (convertedOf from to (now (knots .entry)) (length (now (out .entry))))) × (now (out .exit) ≡ bufferOf (convertedOf from to (now (knots .entry)) (length (now (out .entry)))) (now (out .entry))) ⌝ }
+{
+    let v = rows::spline_verdict(from, to, knots, out.len());
+    match v {
+        Verdict::Failed(r) => Converted::Refused(r),
+        Verdict::Passed => {
+            let m = matrix::conversion_matrix(from, to);
+            Converted::Written(output::put_windows(m, basis::step(from), knots, basis::step(to), out))
+        }
+    }
+}

@@ -1,0 +1,51 @@
+// The writing, past the refusals: windows through the matrix, straight into the buffer.
+ghost use mathlib.Core.Path.{_≡_};
+ghost use Prim.Native.Nat.{_+_, _-_, _*_, _/_, _≤_, _<_};
+ghost use lib.ListN.{length, drop};
+ghost use Rattle.convert.specs.Output.{windows};
+ghost use Rattle.convert.specs.Conversion.{gives};
+ghost use Rattle.convert.specs.Buffer.{bufferOf, placed, listOf};
+use spline::Weights;
+
+// The last gap of the four, from place at on.
+pub fn put_last(out: &mut [f64], at: usize, w: Weights, gap: usize)
+    requires { ⌜ (0 < gap) × (gap ≤ 4) × (at + gap ≤ length (now out)) ⌝ }
+    ensures { λ _. ⌜ now (out .exit) ≡ placed at (drop (4 - gap) (listOf w)) (now (out .entry)) ⌝ }
+{
+    if gap == 1 {
+        out[at] = w.w3;
+        return;
+    }
+    if gap == 2 {
+        out[at] = w.w2;
+        out[at + 1] = w.w3;
+        return;
+    }
+    if gap == 3 {
+        out[at] = w.w1;
+        out[at + 1] = w.w2;
+        out[at + 2] = w.w3;
+        return;
+    }
+    out[at] = w.w0;
+    out[at + 1] = w.w1;
+    out[at + 2] = w.w2;
+    out[at + 3] = w.w3;
+}
+
+// Segment 0 fills four places, each later one gap more.
+pub fn put_windows(m: [[f64; 4]; 4], step: usize, knots: &[f64], gap: usize, out: &mut [f64]) -> usize
+    requires { ⌜ (0 < step) × (0 < gap) × (gap ≤ 4) × (4 ≤ length (now knots)) × (length (now knots) ≤ 4096) × (4 + (length (now knots) - 4) / step * gap ≤ length (now out)) ⌝ }
+    ensures { λ r. ⌜ (r ≡ 4 + (length (now (knots .entry)) - 4) / step * gap) × (now (out .exit) ≡ bufferOf (gives (windows m step gap (now (knots .entry)) ((length (now (knots .entry)) - 4) / step))) (now (out .entry))) ⌝ }
+{
+    let last = (knots.len() - 4) / step;
+    put_last(&mut *out, 0, spline::segment::sums(m, knots), 4);
+    let mut s = 0;
+    while s < last {
+        let at = 4 + s * gap;
+        s += 1;
+        let start = s * step;
+        put_last(&mut *out, at, spline::segment::sums(m, &knots[start..]), gap);
+    }
+    4 + last * gap
+}

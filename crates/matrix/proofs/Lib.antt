@@ -1,0 +1,2 @@
+pub mod Inverses
+mod Steps

@@ -1,0 +1,36 @@
+-- Matrices as four rows of four doubles: the product, and a matrix applied to four values. Definitions only.
+use mathlib.Core.List.{List, [], _∷_}
+use Prim.Native.Nat.{ℕ}
+use lib.ListN.{getD}
+use lib.Ieee.{Float, nan, add, mul}
+use Rattle.spline.specs.Segment.{rowSum}
+
+abbrev pub Rows : Type 0
+Rows = List (List Float)
+
+abbrev pub at : List Float → ℕ → Float
+at r j = getD r j nan
+
+abbrev pub row : Rows → ℕ → List Float
+row m i = getD m i []
+
+abbrev pub entry : Rows → ℕ → ℕ → Float
+entry m i j = at (row m i) j
+
+abbrev pub four : {A : Type 0} → (ℕ → A) → List A
+four f = f 0 ∷ f 1 ∷ f 2 ∷ f 3 ∷ []
+
+abbrev pub column : Rows → ℕ → List Float
+column m j = four (λ k. entry m k j)
+
+-- a row times each column, added left to right
+abbrev pub rowTimes : List Float → Rows → List Float
+rowTimes r b = four (λ j. rowSum r (column b j))
+
+unfoldable pub product : Rows → Rows → Rows
+unfolding add mul
+product a b = four (λ i. rowTimes (row a i) b)
+
+-- each row times the four values, added left to right
+abbrev pub applied : Rows → List Float → List Float
+applied m cv = four (λ i. rowSum cv (row m i))
