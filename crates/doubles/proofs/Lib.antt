@@ -5,3 +5,4 @@ pub mod Units
 pub mod Interpolation
 pub mod Reciprocal
 pub mod Share
+pub mod WholePart

@@ -3,6 +3,8 @@ ghost use mathlib.Core.Path.{_≡_};
 ghost use Rattle.doubles.specs.Numbers.{magnitudeOf, clamp};
 ghost use Rattle.doubles.specs.Lerp.{lerpOf};
 
+pub mod whole;
+
 pub fn magnitude(x: f64) -> f64
     ensures { λ r. ⌜ r ≡ magnitudeOf x ⌝ }
 {

@@ -7,7 +7,7 @@ use Rattle.basis.specs.declared.Basis.{Basis}
 use Rattle.basis.specs.Basis.{stepOf, matrixOf}
 use Rattle.doubles.specs.Numbers.{clamp}
 use Rattle.spline.specs.Segment.{segmentValue}
-use Rattle.spline.specs.Whole.{double, wholeUpTo}
+use Rattle.doubles.specs.Whole.{double, wholeUpTo}
 
 -- the clamped parameter, multiplied by k
 abbrev pub scaled : ℕ → Float → Float

@@ -11,9 +11,9 @@ pub fn at(m: [[f64; 4]; 4], step: usize, x: f64, knots: &[f64]) -> f64
     ensures { λ r. ⌜ r ≡ curveAt m step x (now (knots .entry)) ⌝ }
 {
     let k = (knots.len() - 4) / step + 1;
-    let p = doubles::clamped(x) * crate::whole::double_of(k);
-    let s = crate::whole::whole_up_to(k - 1, p);
-    let t = p - crate::whole::double_of(s);
+    let p = doubles::clamped(x) * doubles::whole::double_of(k);
+    let s = doubles::whole::whole_up_to(k - 1, p);
+    let t = p - doubles::whole::double_of(s);
     let start = s * step;
     crate::segment::horner(crate::segment::sums(m, &knots[start..]), t)
 }

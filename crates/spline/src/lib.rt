@@ -9,7 +9,6 @@ use error::Verdict;
 pub mod curve;
 pub mod rows;
 pub mod segment;
-pub mod whole;
 
 pub enum Evaluated {
     Value(f64),

@@ -1,7 +1,7 @@
 // The whole part of a double.
 ghost use mathlib.Core.Path.{_≡_};
 ghost use Prim.Native.Nat.{_≤_, min};
-ghost use Rattle.spline.specs.Whole.{double, wholeUpTo};
+ghost use Rattle.doubles.specs.Whole.{double, wholeUpTo};
 
 pub fn double_of(n: usize) -> f64
     requires { ⌜ n ≤ 4097 ⌝ }

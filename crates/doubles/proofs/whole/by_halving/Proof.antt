@@ -1,0 +1,64 @@
+use borrow.Author.Needs.{needs}
+use mathlib.Core.Path.{sym, ap, _∙_}
+use Prim.Native.Nat.{_+_, _-_, _/_}
+use native.Mathlib.Omega.{arith}
+use lib.Ieee.{Float, le}
+use Rattle.doubles.proofs.WholePart.{Halving, begun, raised, lowered, met}
+use Rattle.doubles.proofs.whole.by_halving.Statement.{statement}
+use Rattle.doubles.proofs.whole.by_halving.Tie as tie
+use Rattle.doubles.proofs.whole.by_halving.Reads as reads
+use Rattle.doubles.proofs.whole.by_halving.Lts as lts
+use Rattle.doubles.proofs.whole.double_of.Reads as double-of-reads
+
+abbrev Inv-loop : tie.InvT-loop
+Inv-loop m y low₀ high₀ low high = Halving m y low high
+
+abbrev μ-loop : tie.MeasureT-loop
+μ-loop m y low₀ high₀ low high = high - low
+
+loop-holds : tie.Need-loop-holds Inv-loop μ-loop
+loop-holds c = begun _ _
+
+add-mid : tie.Need-add-mid Inv-loop μ-loop
+add-mid c = search needs
+
+add-mid-2 : tie.Need-add-mid-2 Inv-loop μ-loop
+add-mid-2 c = search needs
+
+double-of-requires : tie.Need-double-of-requires Inv-loop μ-loop
+double-of-requires c κs = search needs
+
+loop-less : tie.Need-loop-less Inv-loop μ-loop
+loop-less c = search needs
+
+loop-again : tie.Need-loop-again Inv-loop μ-loop
+loop-again c = raised ((c .before .before .before .loop .low + c .before .before .before .loop .high + 1) / 2) (omega arith) (c .before .before .before .loop .inv) (sym (ap (λ (z : Float). le z (c .before .before .before .before .args .y)) (c .before .double-of .ensures)) ∙ c .if1 .taken)
+
+sub-high : tie.Need-sub-high Inv-loop μ-loop
+sub-high c = search needs
+
+loop-less-2 : tie.Need-loop-less-2 Inv-loop μ-loop
+loop-less-2 c = search needs
+
+loop-again-2 : tie.Need-loop-again-2 Inv-loop μ-loop
+loop-again-2 c = lowered ((c .before .before .before .loop .low + c .before .before .before .loop .high + 1) / 2) (omega arith) (omega arith) (c .before .before .before .loop .inv) (sym (ap (λ (z : Float). le z (c .before .before .before .before .args .y)) (c .before .double-of .ensures)) ∙ c .if1 .left)
+
+returns : tie.Need-returns Inv-loop μ-loop
+returns c = met (c .before .loop .inv) (omega arith)
+
+pub by-halving-spec : {M : Type 1} → statement M
+by-halving-spec =
+    tie.close
+    (tie.spec
+    Inv-loop
+    μ-loop
+    loop-holds
+    add-mid
+    add-mid-2
+    double-of-requires
+    loop-less
+    loop-again
+    sub-high
+    loop-less-2
+    loop-again-2
+    returns)

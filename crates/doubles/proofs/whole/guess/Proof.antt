@@ -1,0 +1,30 @@
+use mathlib.Core.Path.{sym, subst}
+use mathlib.Core.Bool.{Bool, not}
+use lib.Dec.{T}
+use Rattle.doubles.proofs.Order.{no-nan}
+use borrow.Author.Needs.{needs}
+use Rattle.doubles.proofs.whole.guess.Statement.{statement}
+use Rattle.doubles.proofs.whole.guess.Tie as tie
+use Rattle.doubles.proofs.whole.guess.Reads as reads
+use Rattle.doubles.proofs.whole.guess.Lts as lts
+use Rattle.std.proofs.num.wrapping_sub_u64.Reads as wrapping-sub-u64-reads
+
+returns : tie.Need-returns
+returns c = search needs
+
+float-to-bits-wrapping-sub-u64 : tie.Need-float-to-bits-wrapping-sub-u64
+float-to-bits-wrapping-sub-u64 c = no-nan _ (subst (λ (b : Bool). T (not b)) (sym (c .if1 .left)) tt)
+
+wrapping-sub-u64-requires : tie.Need-wrapping-sub-u64-requires
+wrapping-sub-u64-requires c κs = search needs
+
+returns-2 : tie.Need-returns-2
+returns-2 c = search needs
+
+returns-3 : tie.Need-returns-3
+returns-3 c = search needs
+
+pub guess-spec : {M : Type 1} → statement M
+guess-spec =
+    tie.close
+    (tie.spec returns float-to-bits-wrapping-sub-u64 wrapping-sub-u64-requires returns-2 returns-3)
