@@ -1,6 +1,6 @@
 // The refusals of evaluation, apart from the computing; lengths and ranges serve the other calls too.
 ghost use mathlib.Core.Path.{_≡_};
-ghost use mathlib.Core.Bool.{true};
+ghost use Prim.Native.Nat.{_≤_};
 ghost use lib.ListN.{length};
 ghost use Rattle.error.specs.Refusals.{first};
 ghost use Rattle.basis.specs.Basis.{regular};
@@ -12,11 +12,9 @@ use error::Verdict;
 
 // A match, so that each divisor is a constant.
 pub fn is_regular(b: Basis, n: usize) -> bool
+    requires { ⌜ 4 ≤ n ⌝ }
     ensures { λ r. ⌜ r ≡ regular b n ⌝ }
 {
-    if n < 4 {
-        return true;
-    }
     let m = n - 4;
     match b {
         Basis::Bspline => true,

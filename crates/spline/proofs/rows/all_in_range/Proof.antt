@@ -1,0 +1,58 @@
+use borrow.Author.Needs.{needs}
+use mathlib.Core.Path.{_≡_, refl}
+use mathlib.Core.Bool.{_&&_}
+use Prim.Native.Nat.{_≤_, _-_}
+use native.Mathlib.Omega.{arith}
+use Rattle.spline.proofs.Scan.{scanned, scanned-all}
+use lib.ListN.{length, drop}
+use Rattle.spline.specs.Rows.{allInRange}
+use Rattle.spline.proofs.rows.all_in_range.Statement.{statement}
+use Rattle.spline.proofs.rows.all_in_range.Tie as tie
+use Rattle.spline.proofs.rows.all_in_range.Reads as reads
+use Rattle.spline.proofs.rows.all_in_range.Lts as lts
+use Rattle.spline.proofs.rows.in_range.Reads as in-range-reads
+
+abbrev Inv-loop : tie.InvT-loop
+Inv-loop knots good₀ i₀ i-end good i = (i ≤ length knots) × ((good && allInRange (drop i knots)) ≡ allInRange knots)
+
+abbrev μ-loop : tie.MeasureT-loop
+μ-loop knots good₀ i₀ i-end good i = length knots - i
+
+loop-holds : tie.Need-loop-holds Inv-loop μ-loop
+loop-holds c = (omega arith, refl)
+
+mul-in-range : tie.Need-mul-in-range Inv-loop μ-loop
+mul-in-range c = search needs
+
+shared-slice-read-in-range : tie.Need-shared-slice-read-in-range Inv-loop μ-loop
+shared-slice-read-in-range c = search needs
+
+in-range-requires : tie.Need-in-range-requires Inv-loop μ-loop
+in-range-requires c κs = search needs
+
+add-i : tie.Need-add-i Inv-loop μ-loop
+add-i c = search needs
+
+loop-less : tie.Need-loop-less Inv-loop μ-loop
+loop-less c = search needs
+
+loop-again : tie.Need-loop-again Inv-loop μ-loop
+loop-again c = let l = c .before .before .before .loop in (omega arith, scanned _ (l .i) (l .good) _ (omega arith) (l .inv .1) (c .in-range .ensures))
+
+returns : tie.Need-returns Inv-loop μ-loop
+returns c = scanned-all _ (c .before .loop .i) _ (omega arith) (c .before .loop .inv .1)
+
+pub all-in-range-spec : {M : Type 1} → statement M
+all-in-range-spec =
+    tie.close
+    (tie.spec
+    Inv-loop
+    μ-loop
+    loop-holds
+    mul-in-range
+    shared-slice-read-in-range
+    in-range-requires
+    add-i
+    loop-less
+    loop-again
+    returns)

@@ -1,0 +1,18 @@
+use borrow.Author.Needs.{needs}
+use lib.Ieee.{ofBits, neg}
+use Rattle.spline.specs.Rows.{inRange}
+use Rattle.spline.proofs.rows.in_range.Statement.{statement}
+use Rattle.spline.proofs.rows.in_range.Tie as tie
+use Rattle.spline.proofs.rows.in_range.Reads as reads
+use Rattle.spline.proofs.rows.in_range.Lts as lts
+
+returns : tie.Need-returns
+unfolding inRange ofBits neg
+returns c = simp (c .if1 .taken)
+
+returns-2 : tie.Need-returns-2
+unfolding inRange ofBits neg
+returns-2 c = simp (c .if1 .left)
+
+pub in-range-spec : {M : Type 1} → statement M
+in-range-spec = tie.close (tie.spec returns returns-2)
