@@ -39,7 +39,13 @@ pub fn convert_spline(from: Basis, to: Basis, knots: &[f64], out: &mut [f64]) ->
         Verdict::Failed(r) => Converted::Refused(r),
         Verdict::Passed => {
             let m = matrix::conversion_matrix(from, to);
-            Converted::Written(output::put_windows(m, basis::step(from), knots, basis::step(to), out))
+            Converted::Written(output::put_windows(
+                m,
+                basis::step(from),
+                knots,
+                basis::step(to),
+                out,
+            ))
         }
     }
 }

@@ -34,7 +34,13 @@ pub fn put_last(out: &mut [f64], at: usize, w: Weights, gap: usize)
 }
 
 // Segment 0 fills four places, each later one gap more.
-pub fn put_windows(m: [[f64; 4]; 4], step: usize, knots: &[f64], gap: usize, out: &mut [f64]) -> usize
+pub fn put_windows(
+    m: [[f64; 4]; 4],
+    step: usize,
+    knots: &[f64],
+    gap: usize,
+    out: &mut [f64],
+) -> usize
     requires { ⌜ (0 < step) × (0 < gap) × (gap ≤ 4) × (4 ≤ length (now knots)) × (length (now knots) ≤ 4096) × (4 + (length (now knots) - 4) / step * gap ≤ length (now out)) ⌝ }
     ensures { λ r. ⌜ (r ≡ 4 + (length (now (knots .entry)) - 4) / step * gap) × (now (out .exit) ≡ bufferOf (gives (windows m step gap (now (knots .entry)) ((length (now (knots .entry)) - 4) / step))) (now (out .entry))) ⌝ }
 {
@@ -45,7 +51,12 @@ pub fn put_windows(m: [[f64; 4]; 4], step: usize, knots: &[f64], gap: usize, out
         let at = 4 + s * gap;
         s += 1;
         let start = s * step;
-        put_last(&mut *out, at, spline::segment::sums(m, &knots[start..]), gap);
+        put_last(
+            &mut *out,
+            at,
+            spline::segment::sums(m, &knots[start..]),
+            gap,
+        );
     }
     4 + last * gap
 }

@@ -1,5 +1,5 @@
 -- The order of floats, of either sign: transitive, total but for nan. Assumes nothing.
-use mathlib.Core.Path.{_≡_, sym, ap, _∙_, subst, subst₂}
+use mathlib.Core.Path.{_≡_, refl, sym, ap, _∙_, subst, subst₂}
 use mathlib.Core.Logic.{inl, inr}
 use mathlib.Core.Bool.{Bool, true, false, not, cond, _&&_, _||_}
 use Prim.Native.Nat.{ℕ, _+_, _*_, _≤_, _<_}
@@ -7,6 +7,7 @@ use native.Mathlib.Nat.{le-trans, le-of-eq, le-of-lt, eq-or-lt-of-le, mul-le-mul
 use native.Mathlib.Omega.{arith}
 use lib.Dec.{T, ltb, eqb, ltb→lt, nltb→le, lt→ltb, eqb→eq}
 use lib.Ieee.{Float, nan, inf, fin, up, down, below, level, lt, le, eq, ne, isNan}
+use lib.Ieee.Compare.{differs-from-itself, nan-differs}
 use lib.Ieee.Fits.{and-l, and-r, and-i, eq→eqb, down-pos}
 
 pub or-elim : {C : Type 0} (p q : Bool) → (T p → C) → (T q → C) → T (p || q) → C
@@ -163,3 +164,18 @@ unfolding ne isNan
 no-nan nan h = h
 no-nan (inf s) h = tt
 no-nan (fin s m e) h = tt
+
+untrue : (b : Bool) → (T b → ⊥) → b ≡ false
+untrue true h = absurd (h tt)
+untrue false h = refl
+
+number : (x : Float) → x ≡ nan → T (not (isNan x)) → ⊥
+unfolding isNan
+number x e h = subst (λ (z : Float). T (not (isNan z))) e h
+
+-- and nan alone differs from itself
+pub ne-itself : (x : Float) → ne x x ≡ isNan x
+unfolding isNan
+ne-itself nan = nan-differs
+ne-itself (inf s) = untrue (ne (inf s) (inf s)) (λ h. let e : inf s ≡ nan = differs-from-itself (inf s) h in number (inf s) e tt)
+ne-itself (fin s m d) = untrue (ne (fin s m d) (fin s m d)) (λ h. let e : fin s m d ≡ nan = differs-from-itself (fin s m d) h in number (fin s m d) e tt)

@@ -44,8 +44,8 @@ skipped (suc m) n y h k =
     elim (eq-or-lt-of-le h) [
       | inl e ↦ ap (λ (i : ℕ). wholeUpTo i y) (sym e)
       | inr l ↦ branch (λ (r : ℕ). r ≡ wholeUpTo n y) (le (double (suc m)) y)
-        (λ t. absurd (clash (le (double (n + 1)) y) (le-trans-float (double (n + 1)) (double (suc m)) y (double-mono (omega arith)) t) k))
-        (λ t. skipped m n y (omega arith) k)
+          (λ t. absurd (clash (le (double (n + 1)) y) (le-trans-float (double (n + 1)) (double (suc m)) y (double-mono (omega arith)) t) k))
+          (λ t. skipped m n y (omega arith) k)
     ]
 
 -- y lies from n up to n + 1

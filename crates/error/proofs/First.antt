@@ -1,13 +1,17 @@
 -- The first row that applies: rows tested in groups, and what a verdict says of each row. Assumes nothing.
-use mathlib.Core.Path.{_≡_, refl, sym, _∙_}
+use mathlib.Core.Path.{_≡_, refl, sym, ap, _∙_, subst}
 use mathlib.Core.Bool.{Bool, true, false, cond}
 use mathlib.Core.List.{List, [], _∷_, _++_}
 use Prim.Native.Nat.{ℕ}
 use native.Mathlib.Omega.{arith}
 use Rattle.error.specs.declared.Refusal.{Refusal}
+use Rattle.error.specs.declared.Refusal.the-variants.{TooFew, BadPattern, TooMany, NotANumber, BadPrecision, NoRounds, LinearOutput, ShortBuffer, BadKnot, TurnsBack, OffCurve, BadLine}
 use Rattle.error.specs.declared.Verdict.{Verdict}
 use Rattle.error.specs.declared.Verdict.the-variants.{Passed, Failed}
-use Rattle.error.specs.Refusals.{Uses, applies, firstOf, andThen}
+use Rattle.error.specs.Refusals.{Uses, applies, firstOf, first, andThen}
+
+pub never : {r : Refusal} → Failed r ≡ Passed → ⊥
+never {r} e = let z : _≡_ {A = ℕ} 0 1 = cc in omega arith
 
 -- rows in two groups, one after the other
 pub graft : (xs ys : List Refusal) (us : Uses) → firstOf (xs ++ ys) us ≡ andThen (firstOf xs us) (firstOf ys us)
@@ -31,5 +35,34 @@ stops us {l} {r} e k = k ∙ sym (graft lengthRows otherRows us ∙ ap (λ (v : 
 pub goes-on : (us : Uses) {l w : Verdict} → l ≡ firstOf lengthRows us → l ≡ Passed → w ≡ firstOf otherRows us → w ≡ first us
 goes-on us {l} {w} e k h = h ∙ sym (graft lengthRows otherRows us ∙ ap (λ (v : Verdict). andThen v (firstOf otherRows us)) (sym e ∙ k))
 
--- a verdict that all rows pass says so of each
-pub passed : (rs : List Refusal) (us : Uses) (r : Refusal) → firstOf rs us ≡ Passed → List·Memᴰ r rs → applies r us ≡ false
+-- ---- what a verdict says of the rows
+-- none of the rows applies
+abbrev pub None : List Refusal → Uses → Type 0
+None [] us = Unit
+None (r ∷ rs) us = (applies r us ≡ false) × None rs us
+
+pub passed : (rs : List Refusal) (us : Uses) → firstOf rs us ≡ Passed → None rs us
+passed [] us e = tt
+passed (r ∷ rs) us e = go (applies r us) refl e (passed rs us)
+  where
+    go : (t : Bool) → applies r us ≡ t → cond t (Failed r) (firstOf rs us) ≡ Passed → (firstOf rs us ≡ Passed → None rs us) → (applies r us ≡ false) × None rs us
+    go true p h k = absurd (never h)
+    go false p h k = (p, k h)
+
+-- r applies, and no row before it
+pub data First (us : Uses) : List Refusal → Refusal → Type 0 where
+  here : {r : Refusal} {rs : List Refusal} → applies r us ≡ true → First us (r ∷ rs) r
+  there : {q r : Refusal} {rs : List Refusal} → applies q us ≡ false → First us rs r → First us (q ∷ rs) r
+
+pub first-sound : (rs : List Refusal) (us : Uses) (r : Refusal) → firstOf rs us ≡ Failed r → First us rs r
+first-sound [] us r e = absurd (never (sym e))
+first-sound (q ∷ rs) us r e = go (applies q us) refl e (first-sound rs us r)
+  where
+    go : (t : Bool) → applies q us ≡ t → cond t (Failed q) (firstOf rs us) ≡ Failed r → (firstOf rs us ≡ Failed r → First us rs r) → First us (q ∷ rs) r
+    go true p h k = let e : q ≡ r = cc in subst (λ (z : Refusal). First us (q ∷ rs) z) e (here p)
+    go false p h k = there p (k h)
+
+pub first-complete : (rs : List Refusal) (us : Uses) (r : Refusal) → First us rs r → firstOf rs us ≡ Failed r
+first-complete [] us r f = elim f [ ]
+first-complete (q ∷ rs) us r (here p) = simp p
+first-complete (q ∷ rs) us r (there p f) = simp p (first-complete rs us r f)

@@ -22,7 +22,7 @@ abbrev pub localAt : ℕ → Float → Float
 localAt k x = sub binary64 (scaled k x) (double (segmentAt k x))
 
 -- the segment s of k is the four knots from place s × step onward
-abbrev pub curveAt : List (List Float) → ℕ → Float → List Float → Float
+unfoldable pub curveAt : List (List Float) → ℕ → Float → List Float → Float
 curveAt m step x ks = let k = (length ks - 4) / step + 1 in segmentValue m (drop (segmentAt k x * step) ks) (localAt k x)
 
 abbrev pub curveValue : Basis → Float → List Float → Float

@@ -8,10 +8,11 @@ use Rattle.error.specs.declared.Verdict.{Verdict}
 use Rattle.error.specs.declared.Verdict.the-variants.{Passed, Failed}
 use Rattle.error.specs.Refusals.{Uses, first}
 use Rattle.basis.specs.declared.Basis.{Basis}
+use Rattle.basis.specs.Basis.{matrixOf}
 use Rattle.doubles.specs.Numbers.{nought, one}
 use Rattle.spline.specs.declared.Evaluated.{Evaluated}
 use Rattle.spline.specs.declared.Evaluated.the-variants.{Value, Refused}
-use Rattle.spline.specs.Segment.{segmentOf}
+use Rattle.spline.specs.Segment.{segmentValue}
 use Rattle.spline.specs.Rows.{curveLength, segmentLength, allInRange}
 use Rattle.spline.specs.Curve.{curveValue}
 
@@ -31,4 +32,4 @@ abbrev pub splineSegmentUses : Float → List Float → Uses
 splineSegmentUses x cv = segmentLength (length cv) ++ ((NotANumber, not (le nought x && le x one)) ∷ (BadKnot, not (allInRange cv)) ∷ [])
 
 unfoldable pub splineSegmentOf : Basis → Float → List Float → Evaluated
-splineSegmentOf b x cv = evaluated (first (splineSegmentUses x cv)) (segmentOf b cv 0 x)
+splineSegmentOf b x cv = evaluated (first (splineSegmentUses x cv)) (segmentValue (matrixOf b) cv x)

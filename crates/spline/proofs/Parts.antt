@@ -1,0 +1,38 @@
+-- The part of a slice from a place on, and where a curve's segments start. Assumes nothing.
+use mathlib.Core.Path.{_≡_, sym, ap, _∙_}
+use mathlib.Core.List.{List}
+use Prim.Native.Nat.{ℕ, _+_, _-_, _*_, _/_, _≤_}
+use native.Mathlib.Nat.{le-trans, mul-le-mul-right, div-mul-le-self, div-le-self}
+use native.Mathlib.Omega.{arith}
+use lib.ListN.{length, take, drop, length-drop}
+use lib.Seq.{take-all}
+use lib.Ieee.{Float, binary64, mul, sub}
+use Rattle.basis.specs.declared.Basis.{Basis}
+use Rattle.basis.specs.Basis.{stepOf, matrixOf}
+use Rattle.doubles.specs.Numbers.{clamp}
+use Rattle.doubles.specs.Whole.{double, wholeUpTo}
+use Rattle.spline.specs.Segment.{weightsOf, hornerOf}
+use Rattle.spline.specs.Curve.{curveAt, curveValue}
+use Rattle.spline.specs.declared.Weights.{Weights}
+
+-- the part from i on
+pub rest : (i : ℕ) (ks : List Float) → take (length ks - i) (drop i ks) ≡ drop i ks
+rest i ks = take-all (length ks - i) (drop i ks) (omega (arith, length-drop i ks))
+
+-- a segment up to the last starts where four knots are left
+pub inside : (i step d : ℕ) → i ≤ d / step → i * step ≤ d
+inside i step d h = le-trans (mul-le-mul-right step h) (div-mul-le-self d step)
+
+pub few : (n step : ℕ) → n ≤ 4096 → (n - 4) / step ≤ 4092
+few n step h = le-trans (div-le-self (n - 4) step) (omega arith)
+
+-- a curve's value, from what its steps come to
+pub put-together : (m : List (List Float)) (step : ℕ) (x : Float) (ks : List Float) {q kd sd r : Float} {s : ℕ} {w : Weights} → q ≡ clamp x → kd ≡ double ((length ks - 4) / step + 1)
+    → s ≡ wholeUpTo ((length ks - 4) / step + 1 - 1) (mul binary64 q kd) → sd ≡ double s → w ≡ weightsOf m (take (length ks - s * step) (drop (s * step) ks))
+    → r ≡ hornerOf w (sub binary64 (mul binary64 q kd) sd) → r ≡ curveAt m step x ks
+unfolding curveAt
+put-together m step x ks a b c d e f = f ∙ simp (e, d, rest, c, b, a)
+
+-- the value for a basis that is known
+pub by-basis : (b c : Basis) (m : List (List Float)) (x : Float) (ks : List Float) {r : Float} → b ≡ c → m ≡ matrixOf c → r ≡ curveAt m (stepOf c) x ks → r ≡ curveValue b x ks
+by-basis b c m x ks e k h = h ∙ (ap (λ (n : List (List Float)). curveAt n (stepOf c) x ks) k ∙ ap (λ (d : Basis). curveValue d x ks) (sym e))

@@ -1,0 +1,65 @@
+-- The verdicts of evaluation, by the tests as the code makes them. Assumes nothing.
+use mathlib.Core.Path.{_≡_, sym, _∙_}
+use mathlib.Core.Bool.{true, false}
+use mathlib.Core.List.{List}
+use Prim.Native.Nat.{_≤_}
+use borrow.Author.Tests.{ltb-false, not-false}
+use lib.ListN.{length}
+use lib.Ieee.{Float, le, ne, isNan}
+use Rattle.error.specs.declared.Refusal.{Refusal}
+use Rattle.error.specs.declared.Refusal.the-variants.{NotANumber, BadKnot}
+use Rattle.error.specs.declared.Verdict.{Verdict}
+use Rattle.error.specs.declared.Verdict.the-variants.{Passed, Failed}
+use Rattle.error.specs.Refusals.{first, rows}
+use Rattle.error.proofs.First.{stops, goes-on, passed}
+use Rattle.basis.specs.declared.Basis.{Basis}
+use Rattle.doubles.specs.Numbers.{nought, one}
+use Rattle.doubles.proofs.Order.{ne-itself}
+use Rattle.spline.specs.Rows.{allInRange, curveLength, segmentLength}
+use Rattle.spline.specs.Evaluation.{splineUses, splineSegmentUses}
+
+-- ---- a curve
+module _ (b : Basis) (x : Float) (ks : List Float) {l : Verdict} (e : l ≡ first (curveLength b (length ks))) where
+  pub curve-stops : {r : Refusal} → l ≡ Failed r → l ≡ first (splineUses b x ks)
+  curve-stops k = stops (splineUses b x ks) e k
+
+  pub curve-number : l ≡ Passed → ne x x ≡ true → Failed NotANumber ≡ first (splineUses b x ks)
+  curve-number k n = goes-on (splineUses b x ks) e k (simp (sym (ne-itself x) ∙ n))
+
+  pub curve-knot : l ≡ Passed → ne x x ≡ false → allInRange ks ≡ false → Failed BadKnot ≡ first (splineUses b x ks)
+  curve-knot k n a = goes-on (splineUses b x ks) e k (simp (sym (ne-itself x) ∙ n, a))
+
+  pub curve-passes : l ≡ Passed → ne x x ≡ false → allInRange ks ≡ true → Passed ≡ first (splineUses b x ks)
+  curve-passes k n a = goes-on (splineUses b x ks) e k (simp (sym (ne-itself x) ∙ n, a))
+
+-- ---- one segment
+module _ (x : Float) (cv : List Float) {l : Verdict} (e : l ≡ first (segmentLength (length cv))) where
+  pub segment-stops : {r : Refusal} → l ≡ Failed r → l ≡ first (splineSegmentUses x cv)
+  segment-stops k = stops (splineSegmentUses x cv) e k
+
+  pub segment-below : l ≡ Passed → le nought x ≡ false → Failed NotANumber ≡ first (splineSegmentUses x cv)
+  segment-below k n = goes-on (splineSegmentUses x cv) e k (simp n)
+
+  pub segment-above : l ≡ Passed → le nought x ≡ true → le x one ≡ false → Failed NotANumber ≡ first (splineSegmentUses x cv)
+  segment-above k n m = goes-on (splineSegmentUses x cv) e k (simp (n, m))
+
+  pub segment-knot : l ≡ Passed → le nought x ≡ true → le x one ≡ true → allInRange cv ≡ false → Failed BadKnot ≡ first (splineSegmentUses x cv)
+  segment-knot k n m a = goes-on (splineSegmentUses x cv) e k (simp (n, m, a))
+
+  pub segment-passes : l ≡ Passed → le nought x ≡ true → le x one ≡ true → allInRange cv ≡ true → Passed ≡ first (splineSegmentUses x cv)
+  segment-passes k n m a = goes-on (splineSegmentUses x cv) e k (simp (n, m, a))
+
+-- ---- what a passed verdict says
+pub record Sound (b : Basis) (x : Float) (ks : List Float) : Type 0 where
+  pub many : 4 ≤ length ks
+  pub few : length ks ≤ 4096
+  pub number : isNan x ≡ false
+  pub tame : allInRange ks ≡ true
+
+pub curve-sound : (b : Basis) (x : Float) (ks : List Float) → first (splineUses b x ks) ≡ Passed → Sound b x ks
+curve-sound b x ks e =
+    let p = passed rows (splineUses b x ks) e in
+    record { many = ltb-false (length ks) 4 (p .0); few = ltb-false 4096 (length ks) (p .1 .1 .0); number = p .1 .1 .1 .0; tame = not-false (allInRange ks) (p .1 .1 .1 .1 .1 .1 .1 .1 .0) }
+
+pub segment-sound : (x : Float) (cv : List Float) → first (splineSegmentUses x cv) ≡ Passed → 4 ≤ length cv
+segment-sound x cv e = ltb-false (length cv) 4 (passed rows (splineSegmentUses x cv) e .0)

@@ -1,0 +1,42 @@
+use Rattle.spline.specs.declared.Evaluated.the-variants.{Value}
+use mathlib.Core.Path.{sym, ap, _∙_}
+use Rattle.spline.specs.Evaluation.{splineSegmentOf}
+use Rattle.spline.proofs.Verdicts.{segment-sound}
+use borrow.Author.Needs.{needs}
+use Rattle.spline.proofs.spline_segment.Statement.{statement}
+use Rattle.spline.proofs.spline_segment.Tie as tie
+use Rattle.spline.proofs.spline_segment.Reads as reads
+use Rattle.spline.proofs.spline_segment.Lts as lts
+use Rattle.spline.proofs.rows.segment_verdict.Reads as segment-verdict-reads
+use Rattle.spline.proofs.segment.segment_value.Reads as segment-value-reads
+
+segment-verdict-requires : tie.Need-segment-verdict-requires
+segment-verdict-requires c κs = search needs
+
+enum-known-v : tie.Need-enum-known-v
+enum-known-v c = search needs
+
+enum-told : tie.Need-enum-told
+enum-told c = search needs
+
+segment-value-requires : tie.Need-segment-value-requires
+segment-value-requires c κs = segment-sound (c .before .before .before .before .args .x) (c .before .before .before .before .args .cv .now) (sym (c .before .before .segment-verdict .ensures) ∙ c .enum-told .given .1)
+
+returns : tie.Need-returns
+unfolding splineSegmentOf
+returns c = simp (sym (c .before .before .before .segment-verdict .ensures) ∙ c .before .v .given .1)
+
+returns-2 : tie.Need-returns-2
+unfolding splineSegmentOf
+returns-2 c = rw (sym (c .before .before .before .segment-verdict .ensures) ∙ c .before .enum-told .given .1) (ap Value (c .segment-value .ensures))
+
+pub spline-segment-spec : {M : Type 1} → statement M
+spline-segment-spec =
+    tie.close
+    (tie.spec
+    segment-verdict-requires
+    enum-known-v
+    enum-told
+    segment-value-requires
+    returns
+    returns-2)
