@@ -1,0 +1,105 @@
+-- The list of evaluations misses none: two segments that agree at every listed place come to the same outcome, with the same list.
+-- For any weighting. Assumes nothing.
+use mathlib.Core.Path.{_≡_, refl, sym, ap, _∙_}
+use mathlib.Core.List.{_∷_}
+use mathlib.Core.Bool.{Bool, true, false, cond}
+use Prim.Native.Nat.{ℕ, zero, suc}
+use lib.Ieee.{Float, binary64, sub, lt}
+use Rattle.doubles.specs.Numbers.{nought, one, magnitudeOf}
+use Rattle.doubles.specs.Lerp.{lerpOf}
+use Rattle.doubles.proofs.Order.{branch}
+use Rattle.invert.specs.declared.Bracket.{Bracket}
+use Rattle.invert.specs.declared.State.{State}
+use Rattle.invert.specs.Evaluations.{Evaluations}
+use Rattle.invert.specs.Agreed.{Agreed}
+use Rattle.invert.specs.Round.{Weighting, narrow, falsi, weighed, fraction, Turn, found, on, settled, probed, turn}
+use Rattle.invert.specs.Rounds.{Placed, rounds}
+use Rattle.invert.specs.Segment.{encloses, near, whole, start, entered, Outcome, off, placed, evaluationsOf, inSegmentBy}
+
+-- what a round has seen
+abbrev seenBy : Turn → Evaluations
+seenBy (found g x b ev) = ev
+seenBy (on st ev) = ev
+
+-- two choices by one test
+alike : {A : Type 0} (P : A → Type 0) (t : Bool) {x z x' z' : A} → (P x → x ≡ x') → (P z → z ≡ z') → P (cond t x z) → cond t x z ≡ cond t x' z'
+alike P true e e' p = e p
+alike P false e e' p = e' p
+
+settled-sees : (y ε : Float) (rising : Bool) (b : Bracket) (st : State) (x v : Float) (ev : Evaluations) → seenBy (settled y ε rising b st x v ev) ≡ ev
+unfolding settled
+settled-sees y ε rising b st x v ev = branch (λ (t : Turn). seenBy t ≡ ev) (lt (magnitudeOf (sub binary64 v y)) ε) (λ _. refl) (λ _. refl)
+
+module _ (g h : ℕ → Float → Float) (W : Weighting) (s : ℕ) (y ε : Float) where
+  -- ---- a round
+  abbrev Same : Turn → Type 0
+  Same t = Agreed g h (seenBy t)
+
+  -- the place of a round's evaluation
+  abbrev probe : Bool → State → Float
+  probe by st = let b = weighed W y by st in lerpOf (b .lower) (b .upper) (fraction y by b)
+
+  probed-agreed : (rising by : Bool) (st : State) (ev : Evaluations) → Same (probed W (g s) s y ε rising by st ev) → Agreed g h ((s, probe by st) ∷ ev)
+  unfolding probed
+  probed-agreed rising by st ev a = rw (settled-sees y ε rising (weighed W y by st) st (probe by st) (g s (probe by st)) ((s, probe by st) ∷ ev)) at a
+
+  probed-same : (rising by : Bool) (st : State) (ev : Evaluations) → Same (probed W (g s) s y ε rising by st ev) → probed W (g s) s y ε rising by st ev ≡ probed W (h s) s y ε rising by st ev
+  unfolding probed
+  probed-same rising by st ev a = ap (λ (v : Float). settled y ε rising (weighed W y by st) st (probe by st) v ((s, probe by st) ∷ ev)) (probed-agreed rising by st ev a .0)
+
+  turn-grows : (rising by : Bool) (st : State) (ev : Evaluations) → Same (turn W (g s) s y ε rising by st ev) → Agreed g h ev
+  unfolding turn
+  turn-grows rising by st ev = branch (λ (t : Turn). Same t → Agreed g h ev) (narrow ε (st .bracket)) (λ _ a. a) (λ _ a. probed-agreed rising by st ev a .1)
+
+  turn-same : (rising by : Bool) (st : State) (ev : Evaluations) → Same (turn W (g s) s y ε rising by st ev) → turn W (g s) s y ε rising by st ev ≡ turn W (h s) s y ε rising by st ev
+  unfolding turn
+  turn-same rising by st ev a = alike Same (narrow ε (st .bracket)) (λ _. refl) (probed-same rising by st ev) a
+
+  -- ---- the rounds
+  module _ (rising : Bool) (limit : ℕ) where
+    rounds-grows : (n i : ℕ) (t : Turn) → Agreed g h (rounds W (g s) s y ε rising limit n i t .made) → Same t
+    unfolding rounds
+    rounds-grows zero i (found k x b ev) a = a
+    rounds-grows zero i (on st ev) a = a
+    rounds-grows (suc n) i (found k x b ev) a = a
+    rounds-grows (suc n) i (on st ev) a = turn-grows rising (falsi limit i st) st ev (rounds-grows n (suc i) (turn W (g s) s y ε rising (falsi limit i st) st ev) a)
+
+    rounds-same : (n i : ℕ) (t : Turn) → Agreed g h (rounds W (g s) s y ε rising limit n i t .made) → rounds W (g s) s y ε rising limit n i t ≡ rounds W (h s) s y ε rising limit n i t
+    unfolding rounds
+    rounds-same zero i (found k x b ev) a = refl
+    rounds-same zero i (on st ev) a = refl
+    rounds-same (suc n) i (found k x b ev) a = refl
+    rounds-same (suc n) i (on st ev) a =
+        let t = turn W (g s) s y ε rising (falsi limit i st) st ev in
+        rounds-same n (suc i) t a ∙ ap (λ (z : Turn). rounds W (h s) s y ε rising limit n (suc i) z) (turn-same rising (falsi limit i st) st ev (rounds-grows n (suc i) t a))
+
+  -- ---- the segment
+  module _ (limit : ℕ) where
+    abbrev Alike : Placed → Type 0
+    Alike p = Agreed g h (p .made)
+
+    entered-grows : (v0 v1 : Float) (ev : Evaluations) → Alike (entered W (g s) s y ε limit v0 v1 ev) → Agreed g h ev
+    unfolding entered
+    entered-grows v0 v1 ev =
+        let P : Placed → Type 0 = λ p. Alike p → Agreed g h ev in
+        branch P (near y v0 ε) (λ _ a. a) (λ _. branch P (near y v1 ε) (λ _ a. a) (λ _ a. rounds-grows (lt v0 v1) limit limit 0 (on (start (whole v0 v1)) ev) a))
+
+    entered-same : (v0 v1 : Float) (ev : Evaluations) → Alike (entered W (g s) s y ε limit v0 v1 ev) → entered W (g s) s y ε limit v0 v1 ev ≡ entered W (h s) s y ε limit v0 v1 ev
+    unfolding entered
+    entered-same v0 v1 ev a = alike Alike (near y v0 ε) (λ _. refl) (alike Alike (near y v1 ε) (λ _. refl) (rounds-same (lt v0 v1) limit limit 0 (on (start (whole v0 v1)) ev))) a
+
+    abbrev After : Evaluations → Evaluations
+    After ev = (s, one) ∷ ((s, nought) ∷ ev)
+
+    ends-agreed : (ev : Evaluations) → Agreed g h (evaluationsOf (inSegmentBy W (g s) s y ε limit ev)) → Agreed g h (After ev)
+    unfolding inSegmentBy
+    ends-agreed ev = branch (λ (o : Outcome). Agreed g h (evaluationsOf o) → Agreed g h (After ev)) (encloses (g s nought) (g s one) y) (λ _ a. entered-grows (g s nought) (g s one) (After ev) a) (λ _ a. a)
+
+    pub segment-grows : (ev : Evaluations) → Agreed g h (evaluationsOf (inSegmentBy W (g s) s y ε limit ev)) → Agreed g h ev
+    segment-grows ev a = ends-agreed ev a .1 .1
+
+    pub segment-same : (ev : Evaluations) → Agreed g h (evaluationsOf (inSegmentBy W (g s) s y ε limit ev)) → inSegmentBy W (g s) s y ε limit ev ≡ inSegmentBy W (h s) s y ε limit ev
+    unfolding inSegmentBy
+    segment-same ev a =
+        let e = ends-agreed ev a in
+        rw (← (e .0), ← (e .1 .0)) (alike (λ (o : Outcome). Agreed g h (evaluationsOf o)) (encloses (g s nought) (g s one) y) (λ b. ap placed (entered-same (g s nought) (g s one) (After ev) b)) (λ _. refl) a)

@@ -1,0 +1,5 @@
+pub mod Turns
+pub mod Weighting
+pub mod Enclosing
+pub mod Places
+pub mod Complete

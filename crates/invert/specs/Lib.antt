@@ -1,0 +1,7 @@
+pub mod Evaluations
+pub mod Agreed
+pub mod Round
+pub mod Rounds
+pub mod Segment
+pub mod Answer
+pub mod Shown

@@ -1,0 +1,53 @@
+-- The inversion of one segment. Definitions only.
+use mathlib.Core.Bool.{Bool, cond, _&&_}
+use Prim.Native.Nat.{ℕ}
+use lib.Ieee.{Float, binary64, sub, mul, lt, le}
+use Rattle.doubles.specs.Numbers.{nought, one, two, magnitudeOf}
+use Rattle.invert.specs.declared.Ground.the-variants.{Edge}
+use Rattle.invert.specs.declared.Bracket.{Bracket}
+use Rattle.invert.specs.declared.State.{State}
+use Rattle.invert.specs.Evaluations.{Evaluations, see}
+use Rattle.invert.specs.Round.{Weighting, halving, on}
+use Rattle.invert.specs.Rounds.{Placed, stopped, rounds}
+
+-- the target is in the closed range of the two end values
+abbrev pub encloses : Float → Float → Float → Bool
+encloses v0 v1 y = cond (lt v0 v1) (le v0 y && le y v1) (le v1 y && le y v0)
+
+-- |y − v| < 2·precision
+abbrev pub near : Float → Float → Float → Bool
+near y v ε = lt (magnitudeOf (sub binary64 y v)) (mul binary64 two ε)
+
+-- the bracket at first
+abbrev pub whole : Float → Float → Bracket
+whole v0 v1 = record { lower = nought; upper = one; v0 = v0; v1 = v1 }
+
+-- no side has moved, and none was repeated
+abbrev pub start : Bracket → State
+start b = record { bracket = b; side = 0; stuck = 0 }
+
+-- a segment whose end values v0 and v1 enclose y: local 0, or else local 1, or else the rounds
+unfoldable pub entered : Weighting → (Float → Float) → ℕ → Float → Float → ℕ → Float → Float → Evaluations → Placed
+entered W f s y ε limit v0 v1 ev =
+    let r = rounds W f s y ε (lt v0 v1) limit limit 0 (on (start (whole v0 v1)) ev) in
+    cond (near y v0 ε) (stopped s Edge nought (whole v0 v1) ev) (cond (near y v1 ε) (stopped s Edge one (whole v0 v1) ev) r)
+
+-- what an inversion comes to: not on the segment or the curve, or a place
+pub data Outcome : Type 0 where
+  off : Evaluations → Outcome
+  placed : Placed → Outcome
+
+abbrev pub evaluationsOf : Outcome → Evaluations
+evaluationsOf (off ev) = ev
+evaluationsOf (placed p) = p .made
+
+unfoldable pub inSegmentBy : Weighting → (Float → Float) → ℕ → Float → Float → ℕ → Evaluations → Outcome
+inSegmentBy W f s y ε limit ev =
+    let a = see f s nought ev in
+    let b = see f s one (a .made) in
+    let r = placed (entered W f s y ε limit (a .value) (b .value) (b .made)) in
+    cond (encloses (a .value) (b .value) y) r (off (b .made))
+
+-- by the weighting that halves
+abbrev pub inSegment : (Float → Float) → ℕ → Float → Float → ℕ → Evaluations → Outcome
+inSegment = inSegmentBy halving

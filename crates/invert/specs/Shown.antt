@@ -1,0 +1,46 @@
+-- The definitions' results as the code has them: a count stands for each list of evaluations. Definitions only.
+use mathlib.Core.Path.{_≡_}
+use mathlib.Core.Bool.{Bool}
+use Prim.Native.Nat.{ℕ}
+use lib.ListN.{length}
+use lib.Ieee.{Float}
+use Rattle.spline.specs.declared.Weights.{Weights}
+use Rattle.spline.specs.Segment.{hornerOf}
+use Rattle.invert.specs.declared.Ground.{Ground}
+use Rattle.invert.specs.declared.Bracket.{Bracket}
+use Rattle.invert.specs.declared.State.{State}
+use Rattle.invert.specs.declared.Turned.{Turned}
+use Rattle.invert.specs.declared.Turned.the-variants.{Done, Next}
+use Rattle.invert.specs.declared.Inverted.{Inverted}
+use Rattle.invert.specs.declared.Inverted.the-variants.{At}
+use Rattle.invert.specs.Evaluations.{Evaluations}
+use Rattle.invert.specs.Round.{halving, Turn, found, on, turn}
+use Rattle.invert.specs.Rounds.{rounds}
+use Rattle.invert.specs.Segment.{start, placed, inSegment}
+use Rattle.invert.specs.Answer.{answered, alone}
+
+abbrev pub shown : Turn → Turned
+shown (found g x b ev) = Done g x b (length ev)
+shown (on st ev) = Next st (length ev)
+
+-- how often the side was repeated, and the count, after a round
+abbrev pub stuckAfter : Turned → ℕ
+stuckAfter (Done g x b n) = 0
+stuckAfter (Next st n) = st .stuck
+
+abbrev pub countAfter : Turned → ℕ
+countAfter (Done g x b n) = n
+countAfter (Next st n) = n
+
+abbrev pub toldAt : ℕ → Ground → Float → Bracket → ℕ → Inverted
+toldAt s g x b n = At (record { parameter = x; ground = g; segment = s; local = x; lower = b .lower; upper = b .upper; count = n })
+
+-- r is what the definition gives, whatever the n evaluations before it were
+abbrev pub TurnIs : Weights → Float → Float → Bool → Bool → State → ℕ → Turned → Type 0
+TurnIs w y ε rising by st n r = (s : ℕ) (ev : Evaluations) → length ev ≡ n → r ≡ shown (turn halving (hornerOf w) s y ε rising by st ev)
+
+abbrev pub RoundsIs : Weights → ℕ → Float → Float → Bool → Bracket → ℕ → ℕ → Inverted → Type 0
+RoundsIs w s y ε rising b limit n r = (ev : Evaluations) → length ev ≡ n → r ≡ answered alone (placed (rounds halving (hornerOf w) s y ε rising limit limit 0 (on (start b) ev)))
+
+abbrev pub InvertIs : Weights → ℕ → Float → Float → ℕ → ℕ → Inverted → Type 0
+InvertIs w s y ε limit n r = (ev : Evaluations) → length ev ≡ n → r ≡ answered alone (inSegment (hornerOf w) s y ε limit ev)

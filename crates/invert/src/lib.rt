@@ -1,0 +1,160 @@
+// Inversion of one segment. Rust: `invert` of src/lib.rs, `spline_inverse_segment` of src/spline_trait.rs.
+ghost use mathlib.Core.Path.{_≡_};
+ghost use Prim.Native.Nat.{_≤_, _<_, _+_};
+ghost use Rattle.invert.specs.Segment.{encloses, near};
+ghost use Rattle.invert.specs.Shown.{toldAt, RoundsIs, InvertIs};
+use error::Refusal;
+use spline::Weights;
+
+pub mod round;
+pub mod rows;
+
+// Why an inversion stopped.
+pub enum Ground {
+    End,
+    Edge,
+    Value,
+    Width,
+    Spent,
+}
+
+// Two local places and two weighed values.
+pub struct Bracket {
+    pub lower: f64,
+    pub upper: f64,
+    pub v0: f64,
+    pub v1: f64,
+}
+
+// What a round is given: the bracket, the side that moved last (0 none, 1 lower, 2 upper), and how often it was repeated.
+pub struct State {
+    pub bracket: Bracket,
+    pub side: u8,
+    pub stuck: u32,
+}
+
+// What a round leaves: an answer, or the next round's state; with the count of evaluations.
+pub enum Turned {
+    Done(Ground, f64, Bracket, u32),
+    Next(State, u32),
+}
+
+pub struct Place {
+    pub parameter: f64,
+    pub ground: Ground,
+    pub segment: usize,
+    pub local: f64,
+    pub lower: f64,
+    pub upper: f64,
+    pub count: u32,
+}
+
+pub enum Inverted {
+    Refused(Refusal),
+    OffCurve(u32),
+    At(Place),
+}
+
+// For one segment the parameter is the local place.
+fn told_at(s: usize, ground: Ground, x: f64, b: Bracket, n: u32) -> Inverted
+    ensures { λ r. ⌜ r ≡ toldAt s ground x b n ⌝ }
+{
+    Inverted::At(Place {
+        parameter: x,
+        ground: ground,
+        segment: s,
+        local: x,
+        lower: b.lower,
+        upper: b.upper,
+        count: n,
+    })
+}
+
+// The rounds, from the bracket that is given; n evaluations have been made before them.
+fn rounds(
+    w: Weights,
+    s: usize,
+    y: f64,
+    precision: f64,
+    rising: bool,
+    first: Bracket,
+    limit: u16,
+    n: u32,
+) -> Inverted
+    requires { ⌜ n ≤ 1000000 ⌝ }
+    ensures { λ r. ⌜ RoundsIs w s y precision rising first limit n r ⌝ }
+{
+    let most = limit as u32;
+    let early = 3 * most / 4;
+    let mut st = State {
+        bracket: first,
+        side: 0,
+        stuck: 0,
+    };
+    let mut i: u32 = 0;
+    let mut count = n;
+    while i < most {
+        let by = round::is_falsi(i, early, st.stuck);
+        let t = round::turn(w, y, precision, rising, by, st, count);
+        match t {
+            Turned::Next(next, k) => {
+                st = next;
+                count = k;
+            }
+            Turned::Done(ground, x, b, k) => {
+                return told_at(s, ground, x, b, k);
+            }
+        }
+        i += 1;
+    }
+    let b = st.bracket;
+    told_at(
+        s,
+        Ground::Spent,
+        doubles::lerp(b.lower, b.upper, 0.5),
+        b,
+        count,
+    )
+}
+
+pub fn encloses(v0: f64, v1: f64, y: f64) -> bool
+    ensures { λ r. ⌜ r ≡ encloses v0 v1 y ⌝ }
+{
+    if v0 < v1 {
+        v0 <= y && y <= v1
+    } else {
+        v1 <= y && y <= v0
+    }
+}
+
+fn is_near(y: f64, v: f64, precision: f64) -> bool
+    ensures { λ r. ⌜ r ≡ near y v precision ⌝ }
+{
+    doubles::magnitude(y - v) < 2.0 * precision
+}
+
+// The inversion of segment s past the refusals; `count` evaluations have been made before it.
+pub fn invert(w: Weights, s: usize, y: f64, precision: f64, limit: u16, count: u32) -> Inverted
+    requires { ⌜ count < 900000 ⌝ }
+    ensures { λ r. ⌜ InvertIs w s y precision limit count r ⌝ }
+{
+    let v0 = spline::segment::horner(w, 0.0);
+    let v1 = spline::segment::horner(w, 1.0);
+    let n = count + 2;
+    if encloses(v0, v1, y) {
+        let whole = Bracket {
+            lower: 0.0,
+            upper: 1.0,
+            v0: v0,
+            v1: v1,
+        };
+        if is_near(y, v0, precision) {
+            return told_at(s, Ground::Edge, 0.0, whole, n);
+        }
+        if is_near(y, v1, precision) {
+            return told_at(s, Ground::Edge, 1.0, whole, n);
+        }
+        return rounds(w, s, y, precision, v0 < v1, whole, limit, n);
+    }
+    Inverted::OffCurve(n)
+}

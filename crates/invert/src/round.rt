@@ -1,0 +1,149 @@
+// One round of the inversion of a segment, over the segment's row sums.
+ghost use mathlib.Core.Path.{_≡_};
+ghost use Prim.Native.Nat.{_≤_, _<_, _+_};
+ghost use lib.Dec.{ltb};
+ghost use lib.Ieee.{Float};
+ghost use mathlib.Core.Bool.{_&&_};
+ghost use Rattle.invert.specs.Round.{narrow, halving, weighed, fraction, moved};
+ghost use Rattle.invert.specs.Shown.{TurnIs, stuckAfter, countAfter};
+use crate::Bracket;
+use crate::Ground;
+use crate::State;
+use crate::Turned;
+use spline::Weights;
+
+pub fn is_narrow(precision: f64, b: Bracket) -> bool
+    ensures { λ r. ⌜ r ≡ narrow precision b ⌝ }
+{
+    let width = doubles::magnitude(b.upper - b.lower);
+    let least = width * 1e-12;
+    if least < precision {
+        width < precision
+    } else {
+        width < least
+    }
+}
+
+// The weighed value of the end that moved last is halved; the target y plays no part in it.
+pub fn halved(y: f64, lower: bool, b: Bracket) -> Bracket
+    ensures { λ r. ⌜ r ≡ halving y lower b ⌝ }
+{
+    if lower {
+        Bracket {
+            lower: b.lower,
+            upper: b.upper,
+            v0: b.v0 * 0.5,
+            v1: b.v1,
+        }
+    } else {
+        Bracket {
+            lower: b.lower,
+            upper: b.upper,
+            v0: b.v0,
+            v1: b.v1 * 0.5,
+        }
+    }
+}
+
+pub fn weighed(y: f64, by: bool, st: State) -> Bracket
+    ensures { λ r. ⌜ r ≡ weighed halving y by st ⌝ }
+{
+    let b = st.bracket;
+    if by {
+        if 0 < st.stuck {
+            return halved(y, st.side == 1, b);
+        }
+        return b;
+    }
+    b
+}
+
+// Each test has a return of its own, so that the division is made only where it is wanted.
+pub fn fraction(y: f64, by: bool, b: Bracket) -> f64
+    ensures { λ r. ⌜ r ≡ fraction y by b ⌝ }
+{
+    if by {
+        let t = (y - b.v0) / (b.v1 - b.v0);
+        if 0.01 < t {
+            if t < 0.99 {
+                return t;
+            }
+            return 0.5;
+        }
+        return 0.5;
+    }
+    0.5
+}
+
+pub fn moved(lower: bool, b: Bracket, st: State, x: f64, v: f64) -> State
+    requires { ⌜ st .stuck < 65536 ⌝ }
+    ensures { λ r. ⌜ (r ≡ moved lower b st x v) × (r .stuck ≤ st .stuck + 1) ⌝ }
+{
+    if lower {
+        let n = Bracket {
+            lower: x,
+            upper: b.upper,
+            v0: v,
+            v1: b.v1,
+        };
+        if st.side == 1 {
+            State {
+                bracket: n,
+                side: 1,
+                stuck: st.stuck + 1,
+            }
+        } else {
+            State {
+                bracket: n,
+                side: 1,
+                stuck: 0,
+            }
+        }
+    } else {
+        let n = Bracket {
+            lower: b.lower,
+            upper: x,
+            v0: b.v0,
+            v1: v,
+        };
+        if st.side == 2 {
+            State {
+                bracket: n,
+                side: 2,
+                stuck: st.stuck + 1,
+            }
+        } else {
+            State {
+                bracket: n,
+                side: 2,
+                stuck: 0,
+            }
+        }
+    }
+}
+
+pub fn is_falsi(i: u32, early: u32, stuck: u32) -> bool
+    ensures { λ r. ⌜ r ≡ (ltb i early && ltb stuck 3) ⌝ }
+{
+    i < early && stuck < 3
+}
+
+// n evaluations have been made before the round.
+pub fn turn(w: Weights, y: f64, precision: f64, rising: bool, by: bool, st: State, n: u32) -> Turned
+    requires { ⌜ (st .stuck < 65536) × (n < 2000000) ⌝ }
+    ensures { λ r. ⌜ (TurnIs w y precision rising by st n r) × (stuckAfter r ≤ st .stuck + 1) × (countAfter r ≤ n + 1) ⌝ }
+{
+    let b = st.bracket;
+    if is_narrow(precision, b) {
+        return Turned::Done(Ground::Width, doubles::lerp(b.lower, b.upper, 0.5), b, n);
+    }
+    let a = weighed(y, by, st);
+    let x = doubles::lerp(a.lower, a.upper, fraction(y, by, a));
+    let v = spline::segment::horner(w, x);
+    let next = moved((v < y) == rising, a, st, x, v);
+    if doubles::magnitude(v - y) < precision {
+        let e = next.bracket;
+        return Turned::Done(Ground::Value, x, e, n + 1);
+    }
+    Turned::Next(next, n + 1)
+}
