@@ -3,3 +3,4 @@ pub mod Weighting
 pub mod Enclosing
 pub mod Places
 pub mod Complete
+pub mod Verdicts

@@ -4,7 +4,7 @@ use mathlib.Core.List.{List, [], _∷_, _++_}
 use Prim.Native.Nat.{ℕ}
 use lib.Dec.{eqb}
 use lib.ListN.{length}
-use lib.Ieee.{Float, inf, lt, isNan}
+use lib.Ieee.{Float, inf, binary64, ofBits, lt, isNan}
 use Rattle.error.specs.declared.Refusal.the-variants.{NotANumber, BadPrecision, NoRounds, BadKnot, OffCurve as OffCurveRow}
 use Rattle.error.specs.declared.Verdict.{Verdict}
 use Rattle.error.specs.declared.Verdict.the-variants.{Passed, Failed}
@@ -57,5 +57,12 @@ abbrev pub inverseSegmentUses : Float → List Float → ℕ → Float → Uses
 inverseSegmentUses y cv limit ε = segmentLength (length cv) ++ asked y limit ε ++ ((BadKnot, not (allInRange cv)) ∷ [])
 
 -- ---- the call
+-- the defaults: 32 rounds, and the double nearest to 1e-10
+abbrev pub defaultLimit : ℕ
+defaultLimit = 32
+
+abbrev pub defaultPrecision : Float
+defaultPrecision = ofBits binary64 0x3ddb_7cdf_d9d7_bdbb
+
 unfoldable pub inverseSegmentOf : Basis → Float → List Float → ℕ → Float → Inverted
 inverseSegmentOf b y cv limit ε = inverted (first (inverseSegmentUses y cv limit ε)) (answered alone (inSegment (segmentOf b cv 0) 0 y ε limit []))

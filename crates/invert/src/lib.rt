@@ -3,7 +3,10 @@ ghost use mathlib.Core.Path.{_≡_};
 ghost use Prim.Native.Nat.{_≤_, _<_, _+_};
 ghost use Rattle.invert.specs.Segment.{encloses, near};
 ghost use Rattle.invert.specs.Shown.{toldAt, RoundsIs, InvertIs};
+ghost use Rattle.invert.specs.Answer.{inverseSegmentOf, defaultLimit, defaultPrecision};
+use basis::Basis;
 use error::Refusal;
+use error::Verdict;
 use spline::Weights;
 
 pub mod round;
@@ -157,4 +160,22 @@ pub fn invert(w: Weights, s: usize, y: f64, precision: f64, limit: u16, count: u
         return rounds(w, s, y, precision, v0 < v1, whole, limit, n);
     }
     Inverted::OffCurve(n)
+}
+
+// The place of y on the segment whose four knots are cv.
+pub fn spline_inverse_segment_with(b: Basis, y: f64, cv: &[f64], limit: u16, precision: f64) -> Inverted
+    ensures { λ r. ⌜ r ≡ inverseSegmentOf b y (now (cv .entry)) limit precision ⌝ }
+{
+    let v = rows::segment_verdict(y, cv, limit, precision);
+    match v {
+        Verdict::Failed(r) => Inverted::Refused(r),
+        Verdict::Passed => invert(spline::segment::weights(b, cv), 0, y, precision, limit, 0),
+    }
+}
+
+// The same with limit 32 and precision 1e-10.
+pub fn spline_inverse_segment(b: Basis, y: f64, cv: &[f64]) -> Inverted
+    ensures { λ r. ⌜ r ≡ inverseSegmentOf b y (now (cv .entry)) defaultLimit defaultPrecision ⌝ }
+{
+    spline_inverse_segment_with(b, y, cv, 32, 1e-10)
 }

@@ -1,0 +1,18 @@
+use borrow.Author.Needs.{needs}
+use lib.Ieee.{ofBits, div}
+use Rattle.invert.specs.Answer.{precise}
+use Rattle.invert.proofs.rows.is_precise.Statement.{statement}
+use Rattle.invert.proofs.rows.is_precise.Tie as tie
+use Rattle.invert.proofs.rows.is_precise.Reads as reads
+use Rattle.invert.proofs.rows.is_precise.Lts as lts
+
+returns : tie.Need-returns
+unfolding precise ofBits div
+returns c = simp (c .if1 .taken)
+
+returns-2 : tie.Need-returns-2
+unfolding precise ofBits div
+returns-2 c = simp (c .if1 .left)
+
+pub is-precise-spec : {M : Type 1} → statement M
+is-precise-spec = tie.close (tie.spec returns returns-2)
