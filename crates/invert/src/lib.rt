@@ -163,7 +163,13 @@ pub fn invert(w: Weights, s: usize, y: f64, precision: f64, limit: u16, count: u
 }
 
 // The place of y on the segment whose four knots are cv.
-pub fn spline_inverse_segment_with(b: Basis, y: f64, cv: &[f64], limit: u16, precision: f64) -> Inverted
+pub fn spline_inverse_segment_with(
+    b: Basis,
+    y: f64,
+    cv: &[f64],
+    limit: u16,
+    precision: f64,
+) -> Inverted
     ensures { λ r. ⌜ r ≡ inverseSegmentOf b y (now (cv .entry)) limit precision ⌝ }
 {
     let v = rows::segment_verdict(y, cv, limit, precision);

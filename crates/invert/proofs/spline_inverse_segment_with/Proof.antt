@@ -1,12 +1,7 @@
-use Rattle.invert.proofs.Verdicts.{long-enough-for, refused-is, answer-is}
 use borrow.Author.Needs.{needs}
+use Rattle.invert.proofs.Verdicts.{four-for, refused-is, answer-is}
 use Rattle.invert.proofs.spline_inverse_segment_with.Statement.{statement}
 use Rattle.invert.proofs.spline_inverse_segment_with.Tie as tie
-use Rattle.invert.proofs.spline_inverse_segment_with.Reads as reads
-use Rattle.invert.proofs.spline_inverse_segment_with.Lts as lts
-use Rattle.invert.proofs.invert.Reads as invert-reads
-use Rattle.invert.proofs.rows.segment_verdict.Reads as segment-verdict-reads
-use Rattle.spline.proofs.segment.weights.Reads as weights-reads
 
 segment-verdict-requires : tie.Need-segment-verdict-requires
 segment-verdict-requires c κs = search needs
@@ -18,7 +13,7 @@ enum-told : tie.Need-enum-told
 enum-told c = search needs
 
 weights-requires : tie.Need-weights-requires
-weights-requires c κs = long-enough-for (c .before .before .before .before .args .b) (c .before .before .before .before .args .y) (c .before .before .before .before .args .cv .now) (c .before .before .before .before .args .limit) (c .before .before .before .before .args .precision) (c .before .before .segment-verdict .ensures) (c .enum-told .given .1)
+weights-requires c κs = four-for (c .before .before .before .before .args .b) (c .before .before .before .before .args .y) (c .before .before .before .before .args .cv .now) (c .before .before .before .before .args .limit) (c .before .before .before .before .args .precision) (c .before .before .segment-verdict .ensures) (c .enum-told .given .1)
 
 invert-requires : tie.Need-invert-requires
 invert-requires c κs = search needs

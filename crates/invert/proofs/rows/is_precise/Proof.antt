@@ -1,10 +1,7 @@
-use borrow.Author.Needs.{needs}
 use lib.Ieee.{ofBits, div}
 use Rattle.invert.specs.Answer.{precise}
 use Rattle.invert.proofs.rows.is_precise.Statement.{statement}
 use Rattle.invert.proofs.rows.is_precise.Tie as tie
-use Rattle.invert.proofs.rows.is_precise.Reads as reads
-use Rattle.invert.proofs.rows.is_precise.Lts as lts
 
 returns : tie.Need-returns
 unfolding precise ofBits div

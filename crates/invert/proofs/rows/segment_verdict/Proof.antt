@@ -1,12 +1,8 @@
+use mathlib.Core.Path.{sym, _∙_}
 use Rattle.invert.proofs.Verdicts.{by-length, by-asked, by-none, by-knots}
 use borrow.Author.Needs.{needs}
 use Rattle.invert.proofs.rows.segment_verdict.Statement.{statement}
 use Rattle.invert.proofs.rows.segment_verdict.Tie as tie
-use Rattle.invert.proofs.rows.segment_verdict.Reads as reads
-use Rattle.invert.proofs.rows.segment_verdict.Lts as lts
-use Rattle.invert.proofs.rows.asked.Reads as asked-reads
-use Rattle.spline.proofs.rows.all_in_range.Reads as all-in-range-reads
-use Rattle.spline.proofs.rows.segment_length.Reads as segment-length-reads
 
 segment-length-requires : tie.Need-segment-length-requires
 segment-length-requires c κs = search needs
@@ -36,10 +32,10 @@ all-in-range-requires : tie.Need-all-in-range-requires
 all-in-range-requires c κs = search needs
 
 returns-3 : tie.Need-returns-3
-returns-3 c = by-none (c .before .before .before .before .before .before .before .before .before .args .y) (c .before .before .before .before .before .before .before .before .before .args .cv .now) (c .before .before .before .before .before .before .before .before .before .args .limit) (c .before .before .before .before .before .before .before .before .before .args .precision) (c .before .before .before .before .before .before .before .segment-length .ensures) (c .before .before .before .before .before .enum-told .given .1) (c .before .before .before .before .asked .ensures) (c .before .before .enum-told3 .given .1) (c .before .all-in-range .ensures) (c .if1 .taken)
+returns-3 c = by-none (c .before .before .before .before .before .before .before .before .before .args .y) (c .before .before .before .before .before .before .before .before .before .args .cv .now) (c .before .before .before .before .before .before .before .before .before .args .limit) (c .before .before .before .before .before .before .before .before .before .args .precision) (c .before .before .before .before .before .before .before .segment-length .ensures) (c .before .before .before .before .before .enum-told .given .1) (c .before .before .before .before .asked .ensures) (c .before .before .enum-told3 .given .1) (sym (c .before .all-in-range .ensures) ∙ c .if1 .taken)
 
 returns-4 : tie.Need-returns-4
-returns-4 c = by-knots (c .before .before .before .before .before .before .before .before .before .args .y) (c .before .before .before .before .before .before .before .before .before .args .cv .now) (c .before .before .before .before .before .before .before .before .before .args .limit) (c .before .before .before .before .before .before .before .before .before .args .precision) (c .before .before .before .before .before .before .before .segment-length .ensures) (c .before .before .before .before .before .enum-told .given .1) (c .before .before .before .before .asked .ensures) (c .before .before .enum-told3 .given .1) (c .before .all-in-range .ensures) (c .if1 .left)
+returns-4 c = by-knots (c .before .before .before .before .before .before .before .before .before .args .y) (c .before .before .before .before .before .before .before .before .before .args .cv .now) (c .before .before .before .before .before .before .before .before .before .args .limit) (c .before .before .before .before .before .before .before .before .before .args .precision) (c .before .before .before .before .before .before .before .segment-length .ensures) (c .before .before .before .before .before .enum-told .given .1) (c .before .before .before .before .asked .ensures) (c .before .before .enum-told3 .given .1) (sym (c .before .all-in-range .ensures) ∙ c .if1 .left)
 
 pub segment-verdict-spec : {M : Type 1} → statement M
 segment-verdict-spec =
