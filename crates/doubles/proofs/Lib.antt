@@ -6,3 +6,4 @@ pub mod Interpolation
 pub mod Reciprocal
 pub mod Share
 pub mod WholePart
+pub mod LocalPart

@@ -3,8 +3,9 @@ use mathlib.Core.Path.{_≡_, refl, sym, ap, _∙_, subst, subst₂}
 use mathlib.Core.Logic.{inl, inr}
 use mathlib.Core.Bool.{Bool, true, false, not, cond, _&&_, _||_}
 use Prim.Native.Nat.{ℕ, _+_, _*_, _≤_, _<_}
-use native.Mathlib.Nat.{le-trans, le-of-eq, le-of-lt, eq-or-lt-of-le, mul-le-mul-right, le-of-mul-le-mul-right, mul-right-comm, zero-mul}
+use native.Mathlib.Nat.{le-trans, le-of-eq, le-of-lt, eq-or-lt-of-le, mul-le-mul-right, le-of-mul-le-mul-right, mul-right-comm, mul-one, zero-mul}
 use native.Mathlib.Omega.{arith}
+use lib.IntN.{ℤ, pos}
 use lib.Dec.{T, ltb, eqb, ltb→lt, nltb→le, lt→ltb, eqb→eq}
 use lib.Ieee.{Float, nan, inf, fin, up, down, below, level, lt, le, eq, ne, isNan}
 use lib.Ieee.Compare.{differs-from-itself, nan-differs}
@@ -179,3 +180,25 @@ unfolding isNan
 ne-itself nan = nan-differs
 ne-itself (inf s) = untrue (ne (inf s) (inf s)) (λ h. let e : inf s ≡ nan = differs-from-itself (inf s) h in number (inf s) e tt)
 ne-itself (fin s m d) = untrue (ne (fin s m d) (fin s m d)) (λ h. let e : fin s m d ≡ nan = differs-from-itself (fin s m d) h in number (fin s m d) e tt)
+
+-- zeros of either sign are level, and below every other number that is not negative
+pub zeros-le : (s t : Bool) (m n : ℕ) (e d : ℤ) → m * up e ≡ 0 → n * up d ≡ 0 → T (le (fin s m e) (fin t n d))
+unfolding le lt eq
+zeros-le s t m n e d p q = of-Le s (m * up e * down d) t (n * up d * down e) (go s t)
+  where
+    a : m * up e * down d ≡ 0
+    a = ap (λ (z : ℕ). z * down d) p ∙ zero-mul (down d)
+
+    b : n * up d * down e ≡ 0
+    b = ap (λ (z : ℕ). z * down e) q ∙ zero-mul (down e)
+
+    go : (s t : Bool) → Le s (m * up e * down d) t (n * up d * down e)
+    go false false = omega (arith, a)
+    go false true = (a, b)
+    go true false = tt
+    go true true = omega (arith, b)
+
+-- a negative sign and at least 0: the number is 0
+pub zero-of : (m : ℕ) (e : ℤ) → T (le (fin false 0 (pos 0)) (fin true m e)) → m * up e ≡ 0
+unfolding le lt eq
+zero-of m e h = let z : m * up e * 1 ≡ 0 = Le-of false (0 * 1 * down e) true (m * up e * 1) h .1 in sym (mul-one (m * up e)) ∙ z

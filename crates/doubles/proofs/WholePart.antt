@@ -12,11 +12,11 @@ use Rattle.doubles.specs.Whole.{double, wholeUpTo}
 use Rattle.doubles.proofs.Rounding.{le-or-lt}
 use Rattle.doubles.proofs.Order.{branch, le-trans-float, lt-le-absurd}
 
-clash : (b : Bool) → T b → T (not b) → ⊥
+pub clash : (b : Bool) → T b → T (not b) → ⊥
 clash true h k = k
 clash false h k = h
 
-refuted : (b : Bool) → (T b → ⊥) → T (not b)
+pub refuted : (b : Bool) → (T b → ⊥) → T (not b)
 refuted true h = h tt
 refuted false h = tt
 

@@ -1,6 +1,6 @@
 -- The verdicts of evaluation, by the tests as the code makes them. Assumes nothing.
 use mathlib.Core.Path.{_≡_, sym, _∙_}
-use mathlib.Core.Bool.{true, false}
+use mathlib.Core.Bool.{true, false, _&&_}
 use mathlib.Core.List.{List}
 use Prim.Native.Nat.{_≤_}
 use borrow.Author.Tests.{ltb-false, not-false}
@@ -61,5 +61,12 @@ curve-sound b x ks e =
     let p = passed rows (splineUses b x ks) e in
     record { many = ltb-false (length ks) 4 (p .0); few = ltb-false 4096 (length ks) (p .1 .1 .0); number = p .1 .1 .1 .0; tame = not-false (allInRange ks) (p .1 .1 .1 .1 .1 .1 .1 .1 .0) }
 
-pub segment-sound : (x : Float) (cv : List Float) → first (splineSegmentUses x cv) ≡ Passed → 4 ≤ length cv
-segment-sound x cv e = ltb-false (length cv) 4 (passed rows (splineSegmentUses x cv) e .0)
+pub record SoundSegment (x : Float) (cv : List Float) : Type 0 where
+  pub many : 4 ≤ length cv
+  pub inside : (le nought x && le x one) ≡ true
+  pub tame : allInRange cv ≡ true
+
+pub segment-sound : (x : Float) (cv : List Float) → first (splineSegmentUses x cv) ≡ Passed → SoundSegment x cv
+segment-sound x cv e =
+    let p = passed rows (splineSegmentUses x cv) e in
+    record { many = ltb-false (length cv) 4 (p .0); inside = not-false (le nought x && le x one) (p .1 .1 .1 .0); tame = not-false (allInRange cv) (p .1 .1 .1 .1 .1 .1 .1 .1 .0) }
