@@ -43,10 +43,10 @@ pub fn segment_verdict(to: Basis, cv: &[f64], room: usize) -> Verdict
     ensures { λ r. ⌜ r ≡ first (segmentUses to (now (cv .entry)) room) ⌝ }
 {
     let l = spline::rows::segment_length(cv.len());
-    let Verdict::Passed = l else {
-        return l;
-    };
-    output_verdict(to, cv, 4, room)
+    match l {
+        Verdict::Failed(r) => Verdict::Failed(r),
+        Verdict::Passed => output_verdict(to, cv, 4, room),
+    }
 }
 
 // The places that n knots fill once they are converted.
@@ -62,8 +62,8 @@ pub fn spline_verdict(from: Basis, to: Basis, knots: &[f64], room: usize) -> Ver
 {
     let n = knots.len();
     let l = spline::rows::curve_length(from, n);
-    let Verdict::Passed = l else {
-        return l;
-    };
-    output_verdict(to, knots, output_length(from, to, n), room)
+    match l {
+        Verdict::Failed(r) => Verdict::Failed(r),
+        Verdict::Passed => output_verdict(to, knots, output_length(from, to, n), room),
+    }
 }

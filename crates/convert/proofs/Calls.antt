@@ -1,0 +1,74 @@
+-- The two calls, from their parts. Assumes nothing.
+use mathlib.Core.Path.{_≡_, refl, sym, ap, _∙_}
+use mathlib.Core.List.{List, _++_}
+use Prim.Native.Nat.{ℕ, _+_, _-_, _*_, _/_, _≤_}
+use native.Mathlib.Omega.{arith}
+use lib.ListN.{length, drop}
+use lib.Ieee.{Float}
+use Rattle.error.specs.declared.Refusal.{Refusal}
+use Rattle.error.specs.declared.Verdict.{Verdict}
+use Rattle.error.specs.declared.Verdict.the-variants.{Passed, Failed}
+use Rattle.error.specs.Refusals.{first}
+use Rattle.basis.specs.declared.Basis.{Basis}
+use Rattle.basis.specs.Basis.{stepOf}
+use Rattle.spline.specs.declared.Weights.{Weights}
+use Rattle.spline.specs.Segment.{weightsOf}
+use Rattle.matrix.specs.Matrix.{Rows}
+use Rattle.matrix.specs.Elimination.{conversionOf}
+use Rattle.convert.specs.declared.Converted.{Converted}
+use Rattle.convert.specs.declared.Converted.the-variants.{Written, Refused}
+use Rattle.convert.specs.Output.{windows, segmentOutput, splineOutput}
+use Rattle.convert.specs.Conversion.{Conversion, gives, refuses, unless, segmentUses, splineUses, convertedSegmentOf, convertedOf}
+use Rattle.convert.specs.Buffer.{answerOf, bufferOf, placed, listOf}
+use Rattle.convert.proofs.Writing.{windows-length}
+
+-- an answer and a buffer tell a conversion
+pub record Told (t : Conversion) (r : Converted) (out out′ : List Float) : Type 0 where
+  pub answer : r ≡ answerOf t
+  pub buffer : out′ ≡ bufferOf t out
+
+told-refusal : {t : Conversion} (r : Refusal) (out : List Float) → t ≡ refuses r → Told t (Refused r) out out
+told-refusal r out e = record { answer = sym (ap answerOf e); buffer = sym (ap (λ (x : Conversion). bufferOf x out) e) }
+
+told-gift : {t : Conversion} (l : List Float) (n : ℕ) (out out′ : List Float) → t ≡ gives l → n ≡ length l → out′ ≡ bufferOf (gives l) out → Told t (Written n) out out′
+told-gift l n out out′ e p q = record { answer = ap Written p ∙ sym (ap answerOf e); buffer = q ∙ sym (ap (λ (x : Conversion). bufferOf x out) e) }
+
+-- ---- one segment
+module _ (from to : Basis) (cv out : List Float) where
+  pub segment-refused : (r : Refusal) → first (segmentUses to cv (length out)) ≡ Failed r → Told (convertedSegmentOf from to cv (length out)) (Refused r) out out
+  unfolding convertedSegmentOf
+  segment-refused r e = told-refusal r out (ap (λ (v : Verdict). unless v (segmentOutput from to cv)) e)
+
+  pub segment-written : (m : Rows) (w : Weights) (out′ : List Float) → first (segmentUses to cv (length out)) ≡ Passed
+      → m ≡ conversionOf from to → w ≡ weightsOf m cv → out′ ≡ placed 0 (drop (4 - 4) (listOf w)) out
+      → Told (convertedSegmentOf from to cv (length out)) (Written 4) out out′
+  unfolding convertedSegmentOf segmentOutput
+  segment-written m w out′ e p q r =
+      told-gift (segmentOutput from to cv) 4 out out′ (ap (λ (v : Verdict). unless v (segmentOutput from to cv)) e) refl
+      (r ∙ ap (λ (x : Weights). listOf x ++ drop 4 out) (q ∙ ap (λ (x : Rows). weightsOf x cv) p))
+
+-- ---- a curve
+less-one : (k : ℕ) → k ≡ k + 1 - 1
+less-one k = omega arith
+
+module _ (from to : Basis) (ks out : List Float) where
+  pub spline-refused : (r : Refusal) → first (splineUses from to ks (length out)) ≡ Failed r → Told (convertedOf from to ks (length out)) (Refused r) out out
+  unfolding convertedOf
+  spline-refused r e = told-refusal r out (ap (λ (v : Verdict). unless v (splineOutput from to ks)) e)
+
+  pub spline-written : (m : Rows) (step gap n : ℕ) (out′ : List Float) → first (splineUses from to ks (length out)) ≡ Passed
+      → m ≡ conversionOf from to → step ≡ stepOf from → gap ≡ stepOf to → gap ≤ 4
+      → n ≡ 4 + (length ks - 4) / step * gap
+      → out′ ≡ bufferOf (gives (windows m step gap ks ((length ks - 4) / step))) out
+      → Told (convertedOf from to ks (length out)) (Written n) out out′
+  unfolding convertedOf splineOutput
+  spline-written m step gap n out′ e p a b g l q =
+      let k = (length ks - 4) / step in
+      let same : windows m step gap ks k ≡ splineOutput from to ks =
+      ap (λ (x : Rows). windows x step gap ks k) p
+      ∙ ap (λ (x : ℕ). windows (conversionOf from to) x gap ks ((length ks - 4) / x)) a
+      ∙ ap (λ (x : ℕ). windows (conversionOf from to) (stepOf from) x ks ((length ks - 4) / stepOf from)) b
+      ∙ ap (windows (conversionOf from to) (stepOf from) (stepOf to) ks) (less-one ((length ks - 4) / stepOf from)) in
+      told-gift (splineOutput from to ks) n out out′ (ap (λ (v : Verdict). unless v (splineOutput from to ks)) e)
+      (l ∙ sym (windows-length m step gap ks k g) ∙ ap length same)
+      (q ∙ ap (λ (x : List Float). bufferOf (gives x) out) same)

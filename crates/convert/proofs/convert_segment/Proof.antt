@@ -1,0 +1,50 @@
+use mathlib.Core.Path.{sym, _∙_}
+use native.Mathlib.Omega.{arith}
+use lib.Dec.{lit<, lit≤}
+use lib.ListN.{length}
+use Rattle.convert.proofs.Verdicts.{segment-passed}
+use Rattle.convert.proofs.Calls.{segment-refused, segment-written}
+use borrow.Author.Needs.{needs}
+use Rattle.convert.proofs.convert_segment.Statement.{statement}
+use Rattle.convert.proofs.convert_segment.Tie as tie
+
+segment-verdict-requires : tie.Need-segment-verdict-requires
+segment-verdict-requires c κs = search needs
+
+enum-known-v : tie.Need-enum-known-v
+enum-known-v c = search needs
+
+enum-told : tie.Need-enum-told
+enum-told c = search needs
+
+conversion-matrix-requires : tie.Need-conversion-matrix-requires
+conversion-matrix-requires c κs = search needs
+
+sums-requires : tie.Need-sums-requires
+sums-requires c κs = let h = segment-passed (c .before .before .before .before .before .before .before .args .to) (c .before .before .before .before .before .before .before .args .cv .now) (length (c .before .before .before .before .before .before .before .args .out .now)) (sym (c .before .before .before .before .segment-verdict .ensures) ∙ c .before .before .enum-told .given .1) .0 in omega arith
+
+put-last-requires : tie.Need-put-last-requires
+put-last-requires c κs = let h = segment-passed (c .before .before .before .before .before .before .before .before .args .to) (c .before .before .before .before .before .before .before .before .args .cv .now) (length (c .before .before .before .before .before .before .before .before .args .out .now)) (sym (c .before .before .before .before .before .segment-verdict .ensures) ∙ c .before .before .before .enum-told .given .1) .1 in (lit< tt, lit≤ tt, h .enough)
+
+returns : tie.Need-returns
+returns c = let t = segment-refused (c .before .before .before .before .before .before .args .from) (c .before .before .before .before .before .before .args .to) (c .before .before .before .before .before .before .args .cv .now) (c .before .before .before .before .before .before .args .out .now) _ (sym (c .before .before .before .segment-verdict .ensures) ∙ c .before .v .given .1) in (t .answer, t .buffer)
+
+same-length : tie.Need-same-length
+same-length c = search needs
+
+returns-2 : tie.Need-returns-2
+returns-2 c = let t = segment-written (c .before .before .before .before .before .before .before .before .before .before .before .args .from) (c .before .before .before .before .before .before .before .before .before .before .before .args .to) (c .before .before .before .before .before .before .before .before .before .before .before .args .cv .now) (c .before .before .before .before .before .before .before .before .before .before .before .args .out .now) _ _ _ (sym (c .before .before .before .before .before .before .before .before .segment-verdict .ensures) ∙ c .before .before .before .before .before .before .enum-told .given .1) (c .before .before .before .before .before .conversion-matrix .ensures) (c .before .before .before .sums .ensures) (c .before .before .put-last .ensures) in (t .answer, t .buffer)
+
+pub convert-segment-spec : {M : Type 1} → statement M
+convert-segment-spec =
+    tie.close
+    (tie.spec
+    segment-verdict-requires
+    enum-known-v
+    enum-told
+    conversion-matrix-requires
+    sums-requires
+    put-last-requires
+    returns
+    same-length
+    returns-2)
