@@ -2,7 +2,6 @@
 use mathlib.Core.Path.{_≡_, refl, sym, ap, _∙_}
 use mathlib.Core.List.{List, _++_}
 use Prim.Native.Nat.{ℕ, _+_, _-_, _*_, _/_, _≤_}
-use native.Mathlib.Omega.{arith}
 use lib.ListN.{length, drop}
 use lib.Ieee.{Float}
 use Rattle.error.specs.declared.Refusal.{Refusal}
@@ -20,6 +19,7 @@ use Rattle.convert.specs.declared.Converted.the-variants.{Written, Refus
 use Rattle.convert.specs.Output.{windows, segmentOutput, splineOutput}
 use Rattle.convert.specs.Conversion.{Conversion, gives, refuses, unless, segmentUses, splineUses, convertedSegmentOf, convertedOf}
 use Rattle.convert.specs.Buffer.{answerOf, bufferOf, placed, listOf}
+use Rattle.convert.proofs.Verdicts.{less-one}
 use Rattle.convert.proofs.Writing.{windows-length}
 
 -- an answer and a buffer tell a conversion
@@ -48,9 +48,6 @@ module _ (from to : Basis) (cv out : List Float) where
       (r ∙ ap (λ (x : Weights). listOf x ++ drop 4 out) (q ∙ ap (λ (x : Rows). weightsOf x cv) p))
 
 -- ---- a curve
-less-one : (k : ℕ) → k ≡ k + 1 - 1
-less-one k = omega arith
-
 module _ (from to : Basis) (ks out : List Float) where
   pub spline-refused : (r : Refusal) → first (splineUses from to ks (length out)) ≡ Failed r → Told (convertedOf from to ks (length out)) (Refused r) out out
   unfolding convertedOf

@@ -1,3 +1,4 @@
 pub mod Verdicts
 pub mod Writing
+pub mod Finite
 mod Calls

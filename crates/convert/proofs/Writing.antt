@@ -2,15 +2,16 @@
 use mathlib.Core.Path.{_≡_, refl, sym, ap, _∙_}
 use mathlib.Core.List.{List, [], _∷_, _++_}
 use Prim.Native.Nat.{ℕ, zero, suc, _+_, _-_, _*_, _/_, _≤_, _<_}
-use native.Mathlib.Nat.{le-trans, le-of-eq, zero-mul, suc-mul, mul-le-mul, mul-le-mul-right, div-le-self, div-mul-le-self}
+use native.Mathlib.Nat.{le-trans, le-of-eq, zero-mul, suc-mul, mul-le-mul, mul-le-mul-right}
 use native.Mathlib.Numerals.{add-one}
 use native.Mathlib.Omega.{arith}
 use lib.Dec.{lit≤}
 use lib.ListN.{length, take, drop, set, length-append, length-drop}
-use lib.Seq.{sets-eq, take-at, drop-append-add, drop-drop, take-all}
+use lib.Seq.{sets-eq, take-at, drop-append-add, drop-drop}
 use lib.Ieee.{Float}
 use Rattle.spline.specs.declared.Weights.{Weights}
 use Rattle.spline.specs.Segment.{weightsOf}
+use Rattle.spline.proofs.Parts.{rest, inside, few}
 use Rattle.matrix.specs.Matrix.{Rows, applied}
 use Rattle.convert.specs.Output.{windowOf, windows}
 use Rattle.convert.specs.Buffer.{placed, listOf}
@@ -89,8 +90,7 @@ module _ (m : Rows) (step gap : ℕ) (ks : List Float) where
       let at = 4 + s * gap in
       let k = (s + 1) * step in
       let l = drop (4 - gap) (windowOf m step ks (s + 1)) in
-      let whole : take (length ks - k) (drop k ks) ≡ drop k ks = take-all (length ks - k) (drop k ks) (le-of-eq (length-drop k ks)) in
-      let e : drop (4 - gap) (listOf w) ≡ l = ap (λ (x : Weights). drop (4 - gap) (listOf x)) (p ∙ ap (weightsOf m) whole) in
+      let e : drop (4 - gap) (listOf w) ≡ l = ap (λ (x : Weights). drop (4 - gap) (listOf x)) (p ∙ ap (weightsOf m) (rest k ks)) in
       let n : length l ≡ 4 - (4 - gap) = length-drop (4 - gap) (windowOf m step ks (s + 1)) in
       let f : at + length l ≡ 4 + (s + 1) * gap = omega (arith, n, suc-mul s gap, ap (λ (x : ℕ). x * gap) (add-one s)) in
       let one : windows m step gap ks (suc s) ≡ windows m step gap ks (s + 1) = ap (windows m step gap ks) (sym (add-one s)) in
@@ -121,14 +121,14 @@ pub record Turn (n step gap room s : ℕ) : Type 0 where
   pub start : (s + 1) * step + 4 ≤ n
   pub place : 4 + s * gap + gap ≤ room
   pub small : s * gap ≤ 16384
-  pub few : s ≤ 4096
+  pub turns : s ≤ 4096
 
 pub turn : (n step gap room s : ℕ) → 4 ≤ n → n ≤ 4096 → gap ≤ 4 → 4 + (n - 4) / step * gap ≤ room → s < (n - 4) / step → Turn n step gap room s
 turn n step gap room s least most g r h =
     let k = (n - 4) / step in
-    let a : (s + 1) * step ≤ n - 4 = le-trans (mul-le-mul-right step (le-trans (le-of-eq (add-one s)) h)) (div-mul-le-self (n - 4) step) in
+    let a : (s + 1) * step ≤ n - 4 = inside (s + 1) step (n - 4) (le-trans (le-of-eq (add-one s)) h) in
     let b : (s + 1) * gap ≤ k * gap = mul-le-mul-right gap (le-trans (le-of-eq (add-one s)) h) in
-    let d : k ≤ n - 4 = div-le-self (n - 4) step in
+    let d : k ≤ 4092 = few n step most in
     let i : s ≤ 4096 = omega arith in
     let e : s * gap ≤ 4096 * 4 = mul-le-mul i g in
-    record { start = omega arith; place = omega (arith, suc-mul s gap, ap (λ (x : ℕ). x * gap) (add-one s)); small = omega arith; few = i }
+    record { start = omega arith; place = omega (arith, suc-mul s gap, ap (λ (x : ℕ). x * gap) (add-one s)); small = omega arith; turns = i }

@@ -1,13 +1,14 @@
--- Which bases have an inverse, and what the inverses and the thirty conversions hold: computed. Assumes nothing.
+-- Which bases have an inverse, and what the inverses and the conversions hold: computed, over all bases and all pairs. Assumes nothing.
 use mathlib.Core.Path.{_≡_, refl}
 use mathlib.Core.List.{List, [], _∷_}
 use mathlib.Core.Bool.{Bool, true, false, not, _&&_}
-use Prim.Native.Nat.{_*_, _^_}
-use lib.Dec.{T, leb, eqb}
-use lib.Ieee.{Float, nan, inf, fin, up, down}
+use lib.Dec.{T, eqb}
+use lib.Ieee.{Float, nan, inf, fin}
+use lib.Ieee.Fits.{and-l, and-r}
 use Rattle.basis.specs.declared.Basis.{Basis}
 use Rattle.basis.specs.declared.Basis.the-variants.{Bspline, Bezier, CatmullRom, Hermite, Linear, Power}
 use Rattle.basis.specs.Basis.{matrixOf}
+use Rattle.spline.proofs.Finite.{smallMatrix, small-matrix, Small}
 use Rattle.matrix.specs.Matrix.{Rows}
 use Rattle.matrix.specs.Elimination.{exists, isLinear, inverse, inverseOf, conversionOf}
 
@@ -21,36 +22,61 @@ only-linear-has-none Hermite = refl
 only-linear-has-none Linear = refl
 only-linear-has-none Power = refl
 
--- finite, at most 2^3 in magnitude, and not −0
-abbrev tame : Float → Bool
-tame nan = false
-tame (inf s) = false
-tame (fin s m e) = leb (m * up e) (2 ^ 3 * down e) && not (s && eqb m 0)
+-- ---- a test over all six bases, and what it says of each
+abbrev onAll : (Basis → Bool) → Bool
+onAll f = f Bspline && (f Bezier && (f CatmullRom && (f Hermite && (f Linear && f Power))))
 
-abbrev all : {A : Type 0} → (A → Bool) → List A → Bool
-all f [] = true
-all f (x ∷ xs) = f x && all f xs
+each : (f : Basis → Bool) → T (onAll f) → (b : Basis) → T (f b)
+each f h b =
+    let t5 = f Linear && f Power in
+    let t4 = f Hermite && t5 in
+    let t3 = f CatmullRom && t4 in
+    let t2 = f Bezier && t3 in
+    let h2 = and-r (f Bspline) t2 h in
+    let h3 = and-r (f Bezier) t3 h2 in
+    let h4 = and-r (f CatmullRom) t4 h3 in
+    let h5 = and-r (f Hermite) t5 h4 in
+    go (and-l (f Bspline) t2 h) (and-l (f Bezier) t3 h2) (and-l (f CatmullRom) t4 h3) (and-l (f Hermite) t5 h4) (and-l (f Linear) (f Power) h5) (and-r (f Linear) (f Power) h5) b
+  where
+    go : T (f Bspline) → T (f Bezier) → T (f CatmullRom) → T (f Hermite) → T (f Linear) → T (f Power) → (b : Basis) → T (f b)
+    go p q r s t u Bspline = p
+    go p q r s t u Bezier = q
+    go p q r s t u CatmullRom = r
+    go p q r s t u Hermite = s
+    go p q r s t u Linear = t
+    go p q r s t u Power = u
 
-abbrev tameRows : Rows → Bool
-tameRows m = all (all tame) m
+-- ---- no entry is −0
+abbrev minusZero : Float → Bool
+minusZero nan = false
+minusZero (inf s) = false
+minusZero (fin s m e) = s && eqb m 0
 
-pub inverse-tame : (b : Basis) → T (tameRows (inverseOf b))
+abbrev cleanRow : List Float → Bool
+cleanRow [] = true
+cleanRow (x ∷ xs) = not (minusZero x) && cleanRow xs
+
+abbrev pub clean : Rows → Bool
+clean [] = true
+clean (r ∷ rs) = cleanRow r && clean rs
+
+pub inverse-clean : (b : Basis) → T (clean (inverseOf b))
 unfolding inverseOf
-inverse-tame Bspline = tt
-inverse-tame Bezier = tt
-inverse-tame CatmullRom = tt
-inverse-tame Hermite = tt
-inverse-tame Linear = tt
-inverse-tame Power = tt
+inverse-clean b = each (λ (b : Basis). clean (inverseOf b)) tt b
 
-bases : List Basis
-bases = Bspline ∷ Bezier ∷ CatmullRom ∷ Hermite ∷ Linear ∷ Power ∷ []
+-- ---- a conversion's matrix: no −0, and nothing above 2^3 in magnitude
+abbrev tame : Rows → Bool
+tame m = clean m && smallMatrix 3 m
 
-conversions-tame : (from : Basis) → T (all (λ (to : Basis). tameRows (conversionOf from to)) bases)
-unfolding conversionOf bases
-conversions-tame Bspline = tt
-conversions-tame Bezier = tt
-conversions-tame CatmullRom = tt
-conversions-tame Hermite = tt
-conversions-tame Linear = tt
-conversions-tame Power = tt
+tested : T (onAll (λ (from : Basis). onAll (λ (to : Basis). tame (conversionOf from to))))
+unfolding conversionOf
+tested = tt
+
+conversion-tame : (from to : Basis) → T (tame (conversionOf from to))
+conversion-tame from to = each (λ (t : Basis). tame (conversionOf from t)) (each (λ (f : Basis). onAll (λ (t : Basis). tame (conversionOf f t))) tested from) to
+
+pub conversion-clean : (from to : Basis) → T (clean (conversionOf from to))
+conversion-clean from to = and-l (clean (conversionOf from to)) (smallMatrix 3 (conversionOf from to)) (conversion-tame from to)
+
+pub conversion-small : (from to : Basis) → Small 3 (conversionOf from to)
+conversion-small from to = small-matrix 3 (conversionOf from to) (and-r (clean (conversionOf from to)) (smallMatrix 3 (conversionOf from to)) (conversion-tame from to))

@@ -23,7 +23,9 @@ add-result : tie.Need-add-result
 add-result c = omega (arith, few-steps (c .before .before .args .n) (c .before .step .result) (c .step2 .result) (c .before .before .pre .1) (c .step2 .ensures .2))
 
 returns : tie.Need-returns
-returns c = output-steps (c .before .before .args .from) (c .before .before .args .to) _ _ _ (c .before .step .ensures .0) (c .step2 .ensures .0)
+returns c =
+    let a = c .before .before .args in
+    output-steps (a .from) (a .to) _ _ _ (c .before .step .ensures .0) (c .step2 .ensures .0)
 
 pub output-length-spec : {M : Type 1} → statement M
 output-length-spec =

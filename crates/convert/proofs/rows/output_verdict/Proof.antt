@@ -11,16 +11,22 @@ returns : tie.Need-returns
 returns c = simp (sym (c .before .is-linear .ensures) ∙ c .if1 .taken)
 
 returns-2 : tie.Need-returns-2
-returns-2 c = simp (sym (c .before .before .is-linear .ensures) ∙ c .before .if1 .left, lt-ltb (c .before .before .before .before .args .room) (c .before .before .before .before .args .need) (c .if2 .taken))
+returns-2 c =
+    let a = c .before .before .before .before .args in
+    simp (sym (c .before .before .is-linear .ensures) ∙ c .before .if1 .left, lt-ltb (a .room) (a .need) (c .if2 .taken))
 
 all-in-range-requires : tie.Need-all-in-range-requires
 all-in-range-requires c κs = search needs
 
 returns-3 : tie.Need-returns-3
-returns-3 c = simp (sym (c .before .before .before .before .is-linear .ensures) ∙ c .before .before .before .if1 .left, le-ltb (c .before .before .before .before .before .before .args .room) (c .before .before .before .before .before .before .args .need) (c .before .before .if2 .left), sym (c .before .all-in-range .ensures) ∙ c .if3 .taken)
+returns-3 c =
+    let a = c .before .before .before .before .before .before .args in
+    simp (sym (c .before .before .before .before .is-linear .ensures) ∙ c .before .before .before .if1 .left, le-ltb (a .room) (a .need) (c .before .before .if2 .left), sym (c .before .all-in-range .ensures) ∙ c .if3 .taken)
 
 returns-4 : tie.Need-returns-4
-returns-4 c = simp (sym (c .before .before .before .before .is-linear .ensures) ∙ c .before .before .before .if1 .left, le-ltb (c .before .before .before .before .before .before .args .room) (c .before .before .before .before .before .before .args .need) (c .before .before .if2 .left), sym (c .before .all-in-range .ensures) ∙ c .if3 .left)
+returns-4 c =
+    let a = c .before .before .before .before .before .before .args in
+    simp (sym (c .before .before .before .before .is-linear .ensures) ∙ c .before .before .before .if1 .left, le-ltb (a .room) (a .need) (c .before .before .if2 .left), sym (c .before .all-in-range .ensures) ∙ c .if3 .left)
 
 pub output-verdict-spec : {M : Type 1} → statement M
 output-verdict-spec =
