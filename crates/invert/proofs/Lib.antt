@@ -4,3 +4,4 @@ pub mod Enclosing
 pub mod Places
 pub mod Complete
 pub mod Verdicts
+pub mod Call

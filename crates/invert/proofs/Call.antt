@@ -1,0 +1,116 @@
+-- What one segment's call owes on every input, from what the inversion of a segment owes. Assumes nothing.
+use mathlib.Core.Path.{_≡_, refl, sym, ap, _∙_, subst}
+use mathlib.Core.Bool.{Bool, true, false, not, cond}
+use mathlib.Core.List.{List, []}
+use Prim.Native.Nat.{ℕ, _+_, _*_, _≤_}
+use native.Mathlib.Nat.{zero-mul}
+use native.Mathlib.Omega.{arith}
+use lib.Dec.{T, T-not, ltb, eqb}
+use lib.ListN.{length}
+use lib.Ieee.{Float, lt, isNan}
+use Rattle.error.specs.declared.Verdict.{Verdict}
+use Rattle.error.specs.declared.Verdict.the-variants.{Passed, Failed}
+use Rattle.error.specs.Refusals.{first}
+use Rattle.basis.specs.declared.Basis.{Basis}
+use Rattle.basis.specs.Basis.{stepOf}
+use Rattle.doubles.specs.Numbers.{nought, one}
+use Rattle.doubles.proofs.Order.{branch}
+use Rattle.doubles.proofs.Bounds.{within-number}
+use Rattle.doubles.proofs.Units.{InUnit, nought-le}
+use Rattle.spline.specs.Segment.{segmentOf}
+use Rattle.spline.specs.Rows.{allInRange}
+use Rattle.spline.proofs.Finite.{knots-within, segment-finite}
+use Rattle.invert.specs.declared.Inverted.{Inverted}
+use Rattle.invert.specs.declared.Inverted.the-variants.{Refused, OffCurve, At}
+use Rattle.invert.specs.Evaluations.{Evaluations}
+use Rattle.invert.specs.Agreed.{Agreed}
+use Rattle.invert.specs.Round.{halving}
+use Rattle.invert.specs.Segment.{encloses, Outcome, off, placed, evaluationsOf, inSegment}
+use Rattle.invert.specs.Answer.{numberTold, countTold, answered, alone, inverted, precise, inverseSegmentUses, inverseSegmentOf}
+use Rattle.invert.proofs.Weighting.{halving-keeps}
+use Rattle.invert.proofs.Enclosing.{Numbers, Sound}
+use Rattle.invert.proofs.Places.{SegmentSays, segment-says}
+use Rattle.invert.proofs.Complete.{segment-same}
+use Rattle.invert.proofs.Verdicts.{Passes, passes}
+
+-- each segment of knots in range is a number on 0 to 1
+pub segment-numbers : (b : Basis) (ks : List Float) (s : ℕ) (y : Float) → T (allInRange ks) → s * stepOf b + 4 ≤ length ks → T (not (isNan y)) → Numbers (segmentOf b ks s) y
+segment-numbers b ks s y good long n =
+    record { target = n; values = λ x u. within-number (segment-finite b _ x (knots-within ks (s * stepOf b) good long) (nought-le x (u .sign)) (u .top) .0) }
+
+true-T : (b : Bool) → b ≡ true → T b
+true-T b e = subst (λ (z : Bool). T z) (sym e) tt
+
+false-T : (b : Bool) → b ≡ false → T (not b)
+false-T b e = subst (λ (z : Bool). T (not z)) (sym e) tt
+
+-- ---- what the answer owes where no row applies
+module _ (f : Float → Float) (y ε : Float) (limit : ℕ) where
+  abbrev pub Owed : Inverted → Type 0
+  Owed (Refused r) = ⊥
+  Owed (OffCurve n) = T (not (encloses (f nought) (f one) y)) × (n ≡ 2)
+  Owed (At p) =
+      T (encloses (f nought) (f one) y) × Sound f y ε (lt (f nought) (f one)) limit 2 (p .ground) (p .local) (p .lower) (p .upper) (p .count) × (p .segment ≡ 0) × (p .parameter ≡ p .local)
+
+  owed : (o : Outcome) → SegmentSays f 0 y ε limit [] o → Owed (answered alone o)
+  owed (off ev) h = (h .0, h .1)
+  owed (placed p) h = (h .0, h .1, h .2, refl)
+
+  owed-count : (a : Inverted) → Owed a → countTold a ≤ limit + 2
+  owed-count (Refused r) h = absurd h
+  owed-count (OffCurve n) h = omega arith
+  owed-count (At p) h = omega (arith, h .1 .count)
+
+  owed-number : (a : Inverted) → Owed a → numberTold a ≡ cond (encloses (f nought) (f one) y) 0 11
+  owed-number (Refused r) h = absurd h
+  owed-number (OffCurve n) h = branch (λ (k : ℕ). 11 ≡ k) (encloses (f nought) (f one) y) (λ t. absurd (T-not (encloses (f nought) (f one) y) (h .0) t)) (λ _. refl)
+  owed-number (At p) h = branch (λ (k : ℕ). 0 ≡ k) (encloses (f nought) (f one) y) (λ _. refl) (λ t. absurd (T-not (encloses (f nought) (f one) y) t (h .0)))
+
+count-any : (limit : ℕ) (v : Verdict) (a : Inverted) → (v ≡ Passed → countTold a ≤ limit + 2) → countTold (inverted v a) ≤ limit + 2
+count-any limit Passed a h = h refl
+count-any limit (Failed r) a h = omega arith
+
+module _ (b : Basis) (y : Float) (cv : List Float) (limit : ℕ) (ε : Float) where
+  abbrev Passed-all : Type 0
+  Passed-all = first (inverseSegmentUses y cv limit ε) ≡ Passed
+
+  said : Passed-all → SegmentSays (segmentOf b cv 0) 0 y ε limit [] (inSegment (segmentOf b cv 0) 0 y ε limit [])
+  said e =
+      let p = passes y cv limit ε e in
+      let long : 0 * stepOf b + 4 ≤ length cv = omega (arith, zero-mul (stepOf b), p .four) in
+      segment-says halving halving-keeps (segmentOf b cv 0) 0 y ε limit [] (segment-numbers b cv 0 y (true-T (allInRange cv) (p .in-range)) long (false-T (isNan y) (p .number)))
+
+  answers : Passed-all → inverseSegmentOf b y cv limit ε ≡ answered alone (inSegment (segmentOf b cv 0) 0 y ε limit [])
+  unfolding inverseSegmentOf
+  answers e = ap (λ (v : Verdict). inverted v (answered alone (inSegment (segmentOf b cv 0) 0 y ε limit []))) e
+
+  pub inverse-segment-owed : Passed-all → Owed (segmentOf b cv 0) y ε limit (inverseSegmentOf b y cv limit ε)
+  inverse-segment-owed e = subst (λ (a : Inverted). Owed (segmentOf b cv 0) y ε limit a) (sym (answers e)) (owed (segmentOf b cv 0) y ε limit (inSegment (segmentOf b cv 0) 0 y ε limit []) (said e))
+
+  -- at most limit + 2 evaluations, whatever is asked
+  pub inverse-segment-count : countTold (inverseSegmentOf b y cv limit ε) ≤ limit + 2
+  unfolding inverseSegmentOf
+  inverse-segment-count =
+      let o = inSegment (segmentOf b cv 0) 0 y ε limit [] in
+      count-any limit (first (inverseSegmentUses y cv limit ε)) (answered alone o) (λ e. owed-count (segmentOf b cv 0) y ε limit (answered alone o) (owed (segmentOf b cv 0) y ε limit o (said e)))
+
+  -- 11 where no row applies and the end values do not enclose the target; and nowhere else
+  pub inverse-segment-number : Passed-all → numberTold (inverseSegmentOf b y cv limit ε) ≡ cond (encloses (segmentOf b cv 0 nought) (segmentOf b cv 0 one) y) 0 11
+  inverse-segment-number e = owed-number (segmentOf b cv 0) y ε limit (inverseSegmentOf b y cv limit ε) (inverse-segment-owed e)
+
+  pub inverse-segment-eleven : numberTold (inverseSegmentOf b y cv limit ε) ≡ 11 → Passed-all
+  unfolding inverseSegmentOf
+  inverse-segment-eleven =
+      let P : Verdict → Type 0 = λ v. numberTold (inverted v (answered alone (inSegment (segmentOf b cv 0) 0 y ε limit []))) ≡ 11 → v ≡ Passed in
+      branch P (ltb (length cv) 4) (λ _ e. absurd (omega arith))
+      (λ _. branch P (ltb 4 (length cv)) (λ _ e. absurd (omega arith))
+      (λ _. branch P (isNan y) (λ _ e. absurd (omega arith))
+      (λ _. branch P (not (precise ε)) (λ _ e. absurd (omega arith))
+      (λ _. branch P (eqb limit 0) (λ _ e. absurd (omega arith))
+      (λ _. branch P (not (allInRange cv)) (λ _ e. absurd (omega arith)) (λ _ e. refl))))))
+
+-- two segments that agree at every listed place get the same answer
+pub inverse-segment-complete : (b c : Basis) (y : Float) (cv dv : List Float) (limit : ℕ) (ε : Float) → first (inverseSegmentUses y cv limit ε) ≡ Passed → first (inverseSegmentUses y dv limit ε) ≡ Passed
+    → Agreed (segmentOf b cv) (segmentOf c dv) (evaluationsOf (inSegment (segmentOf b cv 0) 0 y ε limit [])) → inverseSegmentOf b y cv limit ε ≡ inverseSegmentOf c y dv limit ε
+inverse-segment-complete b c y cv dv limit ε p q a =
+    answers b y cv limit ε p ∙ ap (answered alone) (segment-same (segmentOf b cv) (segmentOf c dv) halving 0 y ε limit [] a) ∙ sym (answers c y dv limit ε q)
