@@ -16,13 +16,12 @@ use Rattle.basis.specs.Basis.{stepOf}
 use Rattle.doubles.specs.Numbers.{nought, one}
 use Rattle.doubles.proofs.Order.{branch}
 use Rattle.doubles.proofs.Bounds.{within-number}
-use Rattle.doubles.proofs.Units.{InUnit, nought-le}
+use Rattle.doubles.proofs.Units.{nought-le}
 use Rattle.spline.specs.Segment.{segmentOf}
 use Rattle.spline.specs.Rows.{allInRange}
 use Rattle.spline.proofs.Finite.{knots-within, segment-finite}
 use Rattle.invert.specs.declared.Inverted.{Inverted}
 use Rattle.invert.specs.declared.Inverted.the-variants.{Refused, OffCurve, At}
-use Rattle.invert.specs.Evaluations.{Evaluations}
 use Rattle.invert.specs.Agreed.{Agreed}
 use Rattle.invert.specs.Round.{halving}
 use Rattle.invert.specs.Segment.{encloses, Outcome, off, placed, evaluationsOf, inSegment}
@@ -31,7 +30,7 @@ use Rattle.invert.proofs.Weighting.{halving-keeps}
 use Rattle.invert.proofs.Enclosing.{Numbers, Sound}
 use Rattle.invert.proofs.Places.{SegmentSays, segment-says}
 use Rattle.invert.proofs.Complete.{segment-same}
-use Rattle.invert.proofs.Verdicts.{Passes, passes}
+use Rattle.invert.proofs.Verdicts.{passes}
 
 -- each segment of knots in range is a number on 0 to 1
 pub segment-numbers : (b : Basis) (ks : List Float) (s : ℕ) (y : Float) → T (allInRange ks) → s * stepOf b + 4 ≤ length ks → T (not (isNan y)) → Numbers (segmentOf b ks s) y

@@ -1,6 +1,6 @@
 -- The list of evaluations misses none: two segments that agree at every listed place come to the same outcome, with the same list.
 -- For any weighting. Assumes nothing.
-use mathlib.Core.Path.{_≡_, refl, sym, ap, _∙_}
+use mathlib.Core.Path.{_≡_, refl, ap, _∙_}
 use mathlib.Core.List.{_∷_}
 use mathlib.Core.Bool.{Bool, true, false, cond}
 use Prim.Native.Nat.{ℕ, zero, suc}
@@ -14,7 +14,7 @@ use Rattle.invert.specs.Evaluations.{Evaluations}
 use Rattle.invert.specs.Agreed.{Agreed}
 use Rattle.invert.specs.Round.{Weighting, narrow, falsi, weighed, fraction, Turn, found, on, settled, probed, turn}
 use Rattle.invert.specs.Rounds.{Placed, rounds}
-use Rattle.invert.specs.Segment.{encloses, near, whole, start, entered, Outcome, off, placed, evaluationsOf, inSegmentBy}
+use Rattle.invert.specs.Segment.{encloses, near, whole, start, entered, Outcome, placed, evaluationsOf, inSegmentBy}
 
 -- what a round has seen
 abbrev seenBy : Turn → Evaluations

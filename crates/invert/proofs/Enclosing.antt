@@ -1,13 +1,13 @@
 -- One round: the bracket stays in 0 to 1 and keeps the target between its values. For any weighting that keeps the places,
 -- and any function of the local place that is a number on 0 to 1. Assumes nothing.
-use mathlib.Core.Path.{_≡_, refl, sym, subst₂}
-use mathlib.Core.Logic.{_⊎_, inl, inr}
+use mathlib.Core.Path.{_≡_, sym, subst₂}
+use mathlib.Core.Logic.{_⊎_}
 use mathlib.Core.Bool.{Bool, true, false, not, cond, _&&_, Bool·beq}
 use Prim.Native.Nat.{ℕ, suc, _+_, _≤_}
 use native.Mathlib.Omega.{arith}
 use lib.Dec.{T, ltb, eqb}
 use lib.ListN.{length}
-use lib.Ieee.{Float, nan, inf, fin, binary64, sub, mul, lt, le, fits, isNan}
+use lib.Ieee.{Float, nan, inf, fin, binary64, sub, mul, lt, le, isNan}
 use lib.Ieee.Fits.{and-l, and-r, sub-fits}
 use Rattle.doubles.specs.Numbers.{nought, one, half, hundredth, ninetyNineHundredths, trillionth, magnitudeOf}
 use Rattle.doubles.specs.Lerp.{lerpOf}

@@ -12,7 +12,7 @@ use lib.Ieee.{Float, lt, le, fits, isNan}
 use lib.Ieee.Fits.{and-l, and-r, and-i}
 use Rattle.doubles.specs.Numbers.{nought, one}
 use Rattle.doubles.proofs.Order.{branch, lt→le, not-lt→le, le-trans-float}
-use Rattle.doubles.proofs.Units.{nought-in, one-in, nought-le}
+use Rattle.doubles.proofs.Units.{nought-in, one-in}
 use Rattle.doubles.proofs.Interpolation.{Inside}
 use Rattle.invert.specs.Evaluations.{Evaluations}
 use Rattle.invert.specs.Round.{Weighting, falsi, Turn, found, on, turn}

@@ -2,7 +2,6 @@
 ghost use mathlib.Core.Path.{_≡_};
 ghost use Prim.Native.Nat.{_≤_, _<_, _+_};
 ghost use lib.Dec.{ltb};
-ghost use lib.Ieee.{Float};
 ghost use mathlib.Core.Bool.{_&&_};
 ghost use Rattle.invert.specs.Round.{narrow, halving, weighed, fraction, moved};
 ghost use Rattle.invert.specs.Shown.{TurnIs, stuckAfter, countAfter};
