@@ -1,15 +1,12 @@
 -- Every double that a conversion writes is finite, for all pairs of bases. Assumes nothing.
-use mathlib.Core.Path.{_≡_, sym, ap, _∙_, subst}
-use mathlib.Core.List.{List, [], _∷_, _++_}
+use mathlib.Core.Path.{_≡_, sym, subst}
+use mathlib.Core.List.{List, _++_}
 use Prim.Native.Nat.{ℕ, zero, suc, _+_, _-_, _*_, _/_, _≤_, _<_}
-use native.Mathlib.Nat.{zero-mul, le-refl}
 use native.Mathlib.Omega.{arith}
 use lib.Dec.{T, lit≤}
 use lib.ListN.{length, getD, drop}
 use lib.Ieee.{Float, nan}
 use lib.Ieee.Scale.{finite}
-use Rattle.error.specs.declared.Verdict.{Verdict}
-use Rattle.error.specs.declared.Verdict.the-variants.{Passed, Failed}
 use Rattle.error.specs.Refusals.{first}
 use Rattle.basis.specs.declared.Basis.{Basis}
 use Rattle.basis.specs.Basis.{stepOf}
@@ -21,8 +18,9 @@ use Rattle.matrix.specs.Matrix.{Rows, row, applied}
 use Rattle.matrix.specs.Elimination.{conversionOf}
 use Rattle.matrix.proofs.Inverses.{conversion-small}
 use Rattle.convert.specs.Output.{windows, segmentOutput, splineOutput}
-use Rattle.convert.specs.Conversion.{Conversion, gives, refuses, unless, segmentUses, splineUses, convertedSegmentOf, convertedOf}
-use Rattle.convert.proofs.Verdicts.{Length, Room, less-one, segment-passed, spline-passed}
+use Rattle.convert.specs.Conversion.{gives, segmentUses, splineUses, convertedSegmentOf, convertedOf}
+use Rattle.convert.proofs.Kept.{given}
+use Rattle.convert.proofs.Verdicts.{segment-passed, spline-passed}
 
 -- ---- lists of finite doubles
 joined : {xs ys : List Float} → Finite xs → Finite ys → Finite (xs ++ ys)
@@ -55,11 +53,6 @@ windows-finite m step gap ks (suc n) s t h =
     (dropped (4 - gap) (applied-finite m (drop (suc n * step) ks) s (knots-within ks (suc n * step) t (h (suc n) (omega arith)))))
 
 -- ---- the two calls
--- where a conversion gives doubles, nothing is refused
-given : (v : Verdict) {l r : List Float} → unless v l ≡ gives r → (v ≡ Passed) × (l ≡ r)
-given Passed e = (cc, cc)
-given (Failed q) e = let z : _≡_ {A = ℕ} 0 1 = cc in absurd (omega arith)
-
 pub segment-finite : (from to : Basis) (cv : List Float) (room : ℕ) (l : List Float) → convertedSegmentOf from to cv room ≡ gives l → Finite l
 unfolding convertedSegmentOf segmentOutput
 segment-finite from to cv room l e =

@@ -1,4 +1,5 @@
 pub mod Verdicts
 pub mod Writing
+pub mod Kept
 pub mod Finite
 mod Calls
