@@ -118,5 +118,5 @@ grow16 n i d h k = rw (add-one i, pow-suc 16 i) (omega arith)
 
 pub room16 : (n i : ℕ) → n < 16 ^ i → i < 16 → n * 16 + 15 < 2 ^ 64
 room16 n i h k =
-    let p : 16 ^ i * 16 ≤ 16 ^ 16 = rw pow-suc at (pow-le-pow-right {n = 16} (omega arith) {i = suc i} {j = 16} k) in
+    let p : 16 ^ i * 16 ≤ 16 ^ 16 = rw (pow-suc 16 i) at (pow-le-pow-right {n = 16} (omega arith) {i = suc i} {j = 16} k) in
     omega arith

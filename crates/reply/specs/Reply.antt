@@ -1,0 +1,52 @@
+-- The replies, and the text of each. Definitions only.
+use mathlib.Core.List.{List, [], _∷_, _++_}
+use Prim.Native.Nat.{ℕ}
+use lib.Ieee.{Float}
+use Rattle.basis.specs.declared.Basis.{Basis}
+use Rattle.error.specs.declared.Refusal.{Refusal}
+use Rattle.error.specs.Refusals.{numberOf}
+use Rattle.invert.specs.declared.Ground.{Ground}
+use Rattle.invert.specs.declared.Ground.the-variants.{End, Edge, Value, Width, Spent}
+use Rattle.record.specs.Record.{nameOf}
+use Rattle.text.specs.Text.{bytes, LF, TAB, decText, doubleText}
+
+pub data Reply : Type 0 where
+  silence : Reply
+  refused : Refusal → Reply
+  value : Float → Reply
+  place : Float → Ground → ℕ → Reply
+  curve : Basis → List Float → Reply
+
+-- `refused` and its number alone
+abbrev pub refusedText : Refusal → List ℕ
+refusedText r = bytes "refused\t" ++ decText 2 (numberOf r) ++ (LF ∷ [])
+
+-- a word and a double
+abbrev pub lineText : List ℕ → Float → List ℕ
+lineText w x = w ++ doubleText x ++ (LF ∷ [])
+
+abbrev pub groundName : Ground → List ℕ
+groundName End = bytes "end"
+groundName Edge = bytes "edge"
+groundName Value = bytes "value"
+groundName Width = bytes "width"
+groundName Spent = bytes "spent"
+
+-- `place` tells parameter, ground, decimal count
+abbrev pub placeText : Float → Ground → ℕ → List ℕ
+placeText x g n = bytes "place\t" ++ doubleText x ++ (TAB ∷ []) ++ groundName g ++ (TAB ∷ []) ++ decText 9 n ++ (LF ∷ [])
+
+-- a converted curve is told in the records that would enter it
+unfoldable pub knotsText : List Float → List ℕ
+knotsText [] = []
+knotsText (x ∷ l) = lineText (bytes "knot\t") x ++ knotsText l
+
+abbrev pub curveText : Basis → List Float → List ℕ
+curveText b l = bytes "curve\t" ++ nameOf b ++ (LF ∷ []) ++ knotsText l
+
+unfoldable pub textOf : Reply → List ℕ
+textOf silence = []
+textOf (refused r) = refusedText r
+textOf (value x) = lineText (bytes "value\t") x
+textOf (place x g n) = placeText x g n
+textOf (curve b l) = curveText b l

@@ -1,0 +1,119 @@
+// The replies, and the text of each.
+ghost use mathlib.Core.Path.{_≡_};
+ghost use Prim.Native.Nat.{_+_, _*_, _≤_};
+ghost use lib.ListN.{length};
+ghost use Rattle.text.specs.Wrote.{Wrote};
+ghost use Rattle.record.specs.Record.{nameOf};
+ghost use Rattle.reply.specs.Reply.{groundName, refusedText, lineText, placeText, knotsText, curveText, textOf};
+ghost use Rattle.reply.specs.Told.{longest, lentOf, replyOf};
+use basis::Basis;
+use error::Refusal;
+use invert::Ground;
+
+// The bytes of the longest reply: a curve of 4,096 knots over CatmullRom.
+pub const LONGEST: usize = 90129;
+
+// A reply to one line. The knots of a curve are the first ones, as many as it says, of a lent slice.
+pub enum Told {
+    Nothing,
+    Refused(Refusal),
+    Value(f64),
+    Place(f64, Ground, u32),
+    Curve(Basis, usize),
+}
+
+fn put_refused(out: &mut [u8], at: usize, r: Refusal) -> usize
+    requires { ⌜ at + 12 ≤ length (now out) ⌝ }
+    ensures { λ n. ⌜ Wrote (now (out .entry)) at (refusedText r) (now (out .exit)) n × (n ≤ at + 12) ⌝ }
+{
+    let a = text::put_word(&mut *out, at, b"refused\t");
+    let b = text::put_decimal(&mut *out, a, error::number(r) as u32, 2);
+    text::put_byte(out, b, b'\n')
+}
+
+// A word and a double.
+fn put_line(out: &mut [u8], at: usize, w: &[u8], x: f64) -> usize
+    requires { ⌜ at + length (now w) + 17 ≤ length (now out) ⌝ }
+    ensures { λ r. ⌜ Wrote (now (out .entry)) at (lineText (now (w .entry)) x) (now (out .exit)) r × (r ≡ at + length (now (w .entry)) + 17) ⌝ }
+{
+    let a = text::put_word(&mut *out, at, w);
+    let b = text::put_double(&mut *out, a, x);
+    text::put_byte(out, b, b'\n')
+}
+
+fn put_ground(out: &mut [u8], at: usize, g: Ground) -> usize
+    requires { ⌜ at + 5 ≤ length (now out) ⌝ }
+    ensures { λ r. ⌜ Wrote (now (out .entry)) at (groundName g) (now (out .exit)) r × (r ≤ at + 5) ⌝ }
+{
+    match g {
+        Ground::End => text::put_word(out, at, b"end"),
+        Ground::Edge => text::put_word(out, at, b"edge"),
+        Ground::Value => text::put_word(out, at, b"value"),
+        Ground::Width => text::put_word(out, at, b"width"),
+        Ground::Spent => text::put_word(out, at, b"spent"),
+    }
+}
+
+fn put_place(out: &mut [u8], at: usize, x: f64, g: Ground, n: u32) -> usize
+    requires { ⌜ at + 40 ≤ length (now out) ⌝ }
+    ensures { λ r. ⌜ Wrote (now (out .entry)) at (placeText x g n) (now (out .exit)) r × (r ≤ at + 40) ⌝ }
+{
+    let a = text::put_word(&mut *out, at, b"place\t");
+    let b = text::put_double(&mut *out, a, x);
+    let c = text::put_byte(&mut *out, b, b'\t');
+    let d = put_ground(&mut *out, c, g);
+    let e = text::put_byte(&mut *out, d, b'\t');
+    let f = text::put_decimal(&mut *out, e, n, 9);
+    text::put_byte(out, f, b'\n')
+}
+
+fn put_basis(out: &mut [u8], at: usize, b: Basis) -> usize
+    requires { ⌜ at + 10 ≤ length (now out) ⌝ }
+    ensures { λ r. ⌜ Wrote (now (out .entry)) at (nameOf b) (now (out .exit)) r × (r ≤ at + 10) ⌝ }
+{
+    match b {
+        Basis::Bspline => text::put_word(out, at, b"Bspline"),
+        Basis::Bezier => text::put_word(out, at, b"Bezier"),
+        Basis::CatmullRom => text::put_word(out, at, b"CatmullRom"),
+        Basis::Hermite => text::put_word(out, at, b"Hermite"),
+        Basis::Linear => text::put_word(out, at, b"Linear"),
+        Basis::Power => text::put_word(out, at, b"Power"),
+    }
+}
+
+fn put_knots(out: &mut [u8], at: usize, knots: &[f64]) -> usize
+    requires { ⌜ at + 22 * length (now knots) ≤ length (now out) ⌝ }
+    ensures { λ r. ⌜ Wrote (now (out .entry)) at (knotsText (now (knots .entry))) (now (out .exit)) r × (r ≡ at + 22 * length (now (knots .entry))) ⌝ }
+{
+    let mut i = 0;
+    let mut p = at;
+    while i < knots.len() {
+        p = put_line(&mut *out, p, b"knot\t", knots[i]);
+        i += 1;
+    }
+    p
+}
+
+fn put_curve(out: &mut [u8], at: usize, b: Basis, knots: &[f64]) -> usize
+    requires { ⌜ (length (now knots) ≤ 4096) × (at + longest ≤ length (now out)) ⌝ }
+    ensures { λ r. ⌜ Wrote (now (out .entry)) at (curveText b (now (knots .entry))) (now (out .exit)) r × (r ≤ at + longest) ⌝ }
+{
+    let a = text::put_word(&mut *out, at, b"curve\t");
+    let c = put_basis(&mut *out, a, b);
+    let d = text::put_byte(&mut *out, c, b'\n');
+    put_knots(out, d, knots)
+}
+
+// The text of a reply, from place `at` on.
+pub fn put_reply(t: Told, turned: &[f64], out: &mut [u8], at: usize) -> usize
+    requires { ⌜ (lentOf t ≤ length (now turned)) × (length (now turned) ≡ 4096) × (at + longest ≤ length (now out)) ⌝ }
+    ensures { λ r. ⌜ Wrote (now (out .entry)) at (textOf (replyOf t (now (turned .entry)))) (now (out .exit)) r × (r ≤ at + longest) ⌝ }
+{
+    match t {
+        Told::Nothing => at,
+        Told::Refused(r) => put_refused(out, at, r),
+        Told::Value(x) => put_line(out, at, b"value\t", x),
+        Told::Place(x, g, n) => put_place(out, at, x, g, n),
+        Told::Curve(b, n) => put_curve(out, at, b, &turned[0..n]),
+    }
+}
