@@ -57,7 +57,7 @@ pub fn weighed(y: f64, by: bool, st: State) -> Bracket
     b
 }
 
-// Each test has a return of its own, so that the division is made only where it is wanted.
+// One return for every half, so that the tests stay branches: the division is then made only where it is wanted.
 pub fn fraction(y: f64, by: bool, b: Bracket) -> f64
     ensures { λ r. ⌜ r ≡ fraction y by b ⌝ }
 {
@@ -67,9 +67,7 @@ pub fn fraction(y: f64, by: bool, b: Bracket) -> f64
             if t < 0.99 {
                 return t;
             }
-            return 0.5;
         }
-        return 0.5;
     }
     0.5
 }
