@@ -1,0 +1,96 @@
+-- What an inversion past the refusals tells, for any curve g of k segments and any end rule e. Assumes nothing.
+use mathlib.Core.Path.{_≡_, refl, sym, subst}
+use mathlib.Core.Bool.{Bool, true, false, not, cond}
+use Prim.Native.Nat.{ℕ, _+_, _-_, _*_, _^_, _≤_, _<_}
+use native.Mathlib.Nat.{le-trans, lt-of-le-of-lt}
+use native.Mathlib.Omega.{arith}
+use lib.Dec.{T, leb, T-not, lit<}
+use lib.ListN.{length}
+use lib.Ieee.{Float, lt, le}
+use Rattle.doubles.specs.Numbers.{nought, one}
+use Rattle.doubles.proofs.Order.{branch, le-trans-float}
+use Rattle.doubles.proofs.Units.{InUnit, nought-in, one-in}
+use Rattle.doubles.proofs.Share.{share-in}
+use Rattle.invert.specs.declared.Place.{Place}
+use Rattle.invert.specs.declared.Inverted.{Inverted}
+use Rattle.invert.specs.declared.Inverted.the-variants.{OffCurve, At}
+use Rattle.invert.specs.Evaluations.{Evaluations}
+use Rattle.invert.specs.Segment.{Outcome, off, placed}
+use Rattle.invert.specs.Answer.{answered}
+use Rattle.invert.proofs.Enclosing.{Numbers, Sound}
+use Rattle.search.specs.Bound.{bitsOf, boundOf}
+use Rattle.search.specs.Search.{find}
+use Rattle.search.proofs.Found.{Holds, Nothing, Straight, Entered, Result, missed, got, probes, find-says}
+use Rattle.search.proofs.Sound.{SoundIn, enters-sound}
+use Rattle.inverse.specs.declared.Ends.{Ends}
+use Rattle.inverse.specs.EndRule.{atLow, atHigh}
+use Rattle.inverse.specs.Curve.{parameterOf, ended, located}
+
+module _ (e : Ends) (ev : Evaluations) (g : ℕ → Float → Float) (k : ℕ) (y ε : Float) (limit : ℕ) where
+  -- the end rule says nothing
+  abbrev pub Silent : Type 0
+  Silent = T (not (atLow e y)) × T (not (atHigh e y))
+
+  -- no segment's ends enclose y
+  abbrev pub NoneHolds : Type 0
+  NoneHolds = (s : ℕ) → s < k → T (not (Holds g y k s))
+
+  -- what a search by halving needs: asked above 12 segments only
+  abbrev pub Supposed : Type 0
+  Supposed = T (not (leb k 12)) → Straight g y k (e .rising)
+
+  -- at most so many evaluations
+  abbrev pub most : ℕ
+  most = length ev + boundOf k limit
+
+  -- a segment was entered: its ends enclose y, and `base` evaluations were made before its rounds
+  pub record In (p : Place) : Type 0 where
+    pub base : ℕ
+    pub few : base + limit ≤ most
+    pub below : p .segment < k
+    pub holds : T (Holds g y k (p .segment))
+    pub sound : Sound (g (p .segment)) y ε (lt (g (p .segment) nought) (g (p .segment) one)) limit base (p .ground) (p .local) (p .lower) (p .upper) (p .count)
+    pub scaled : p .parameter ≡ parameterOf k (p .segment) (p .local)
+
+  pub data Told : Inverted → Type 0 where
+    at-low : T (atLow e y) → Told (ended ev 0 nought)
+    at-high : T (not (atLow e y)) → T (atHigh e y) → Told (ended ev (k - 1) one)
+    entered : {p : Place} → Silent → In p → Told (At p)
+    nowhere : {n : ℕ} → Silent → n ≤ most → (Supposed → NoneHolds) → Told (OffCurve n)
+
+module _ (e : Ends) (ev : Evaluations) (g : ℕ → Float → Float) (k : ℕ) (y ε : Float) (limit : ℕ) (some : 0 < k) (fits : k ≤ 4093) (numbers : (s : ℕ) → s < k → Numbers (g s) y) where
+  abbrev Found : Outcome → Type 0
+  Found = Result g y k (SoundIn g y ε limit) (length ev + probes (leb k 12) k) (Supposed e ev g k y ε limit → Nothing g y k 0 k)
+
+  searched : Found (find g y ε limit (e .rising) k ev)
+  searched =
+      find-says g y ε limit k (SoundIn g y ε limit) (enters-sound g y ε limit k numbers) (numbers 0 some .target) (λ s l. (numbers s l .values nought nought-in, numbers s l .values one one-in))
+      (e .rising) ev (lt-of-le-of-lt fits (lit< tt))
+
+  -- the search's evaluations, two more for the entered segment's repeated ends, and its rounds
+  room : (n : ℕ) → n ≤ length ev + probes (leb k 12) k + 2 → n + limit ≤ most e ev g k y ε limit
+  room n = go (leb k 12)
+    where
+      go : (b : Bool) → n ≤ length ev + probes b k + 2 → n + limit ≤ length ev + cond b (limit + 26) (limit + 2 * bitsOf k + 6)
+      go true h = omega arith
+      go false h = omega arith
+
+  found-told : Silent e ev g k y ε limit → (o : Outcome) → Found o → Told e ev g k y ε limit (answered (parameterOf k) o)
+  found-told q (off t) (missed n c) = let h : length t ≤ most e ev g k y ε limit = omega (arith, room (length t) (omega arith)) in nowhere q h (λ S s l. n S s (omega arith) (omega arith))
+  found-told q (placed p) (got r) =
+      let s = r .good .1 in
+      entered q (record {
+        base = r .base;
+        few = room (r .base) (r .few);
+        below = subst (λ (i : ℕ). i < k) (sym s) (r .below);
+        holds = subst (λ (i : ℕ). T (Holds g y k i)) (sym s) (r .holds);
+        sound = subst (λ (i : ℕ). Sound (g i) y ε (lt (g i nought) (g i one)) limit (r .base) (p .ground) (p .local) (p .lower) (p .upper) (length (p .made))) (sym s) (r .good .0);
+        scaled = refl;
+      })
+
+  pub located-told : Told e ev g k y ε limit (located e ev g k y ε limit)
+  unfolding located
+  located-told =
+      branch (Told e ev g k y ε limit) (atLow e y) (λ h. at-low h)
+      (λ p. branch (Told e ev g k y ε limit) (atHigh e y) (λ h. at-high p h)
+      (λ q. found-told (p, q) (find g y ε limit (e .rising) k ev) searched))

@@ -1,0 +1,34 @@
+-- The inversion of a curve, past the refusals: g s is its segment s, of k; e is what the end rule goes by, and ev the evaluations made for that. Definitions only.
+use mathlib.Core.Bool.{cond}
+use Prim.Native.Nat.{ℕ, _-_}
+use lib.Ieee.{Float, binary64, add, mul, div}
+use Rattle.doubles.specs.Numbers.{nought, one}
+use Rattle.doubles.specs.Whole.{double}
+use Rattle.invert.specs.declared.Ground.the-variants.{End}
+use Rattle.invert.specs.declared.Inverted.{Inverted}
+use Rattle.invert.specs.Evaluations.{Evaluations}
+use Rattle.invert.specs.Segment.{placed, evaluationsOf}
+use Rattle.invert.specs.Answer.{answered, alone}
+use Rattle.search.specs.Search.{find}
+use Rattle.inverse.specs.declared.Ends.{Ends}
+use Rattle.inverse.specs.EndRule.{atLow, atHigh}
+
+-- (s + local) × (1/k), as rounded
+unfoldable pub parameterOf : ℕ → ℕ → Float → Float
+parameterOf k s x = mul binary64 (add binary64 (double s) x) (div binary64 one (double k))
+
+-- by the end rule: both bracket ends equal the local place, which is the parameter too
+abbrev pub ended : Evaluations → ℕ → Float → Inverted
+ended ev s x = answered alone (placed (record { ground = End; segment = s; local = x; lower = x; upper = x; made = ev }))
+
+-- low first, then high, then the search
+unfoldable pub located : Ends → Evaluations → (ℕ → Float → Float) → ℕ → Float → Float → ℕ → Inverted
+located e ev g k y ε limit =
+    let searched = answered (parameterOf k) (find g y ε limit (e .rising) k ev) in
+    cond (atLow e y) (ended ev 0 nought) (cond (atHigh e y) (ended ev (k - 1) one) searched)
+
+-- every evaluation that it makes, the latest first
+unfoldable pub evaluations : Ends → Evaluations → (ℕ → Float → Float) → ℕ → Float → Float → ℕ → Evaluations
+evaluations e ev g k y ε limit =
+    let searched = evaluationsOf (find g y ε limit (e .rising) k ev) in
+    cond (atLow e y) ev (cond (atHigh e y) ev searched)

@@ -1,0 +1,5 @@
+pub mod Order
+pub mod EndRule
+pub mod Curve
+pub mod Inverse
+pub mod Scan

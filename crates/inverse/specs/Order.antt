@@ -1,0 +1,24 @@
+-- The direction of the knots, and the order check. Definitions only.
+use mathlib.Core.List.{List, [], _∷_}
+use mathlib.Core.Bool.{Bool, true, not, _&&_}
+use Prim.Native.Nat.{ℕ, _-_}
+use lib.ListN.{length, getD, drop}
+use lib.Ieee.{Float, nan, lt}
+use Rattle.search.specs.Search.{before}
+
+abbrev pub knot : List Float → ℕ → Float
+knot ks i = getD ks i nan
+
+-- knot 1 < knot n − 2
+abbrev pub rises : List Float → Bool
+rises ks = lt (knot ks 1) (knot ks (length ks - 2))
+
+-- no neighbouring pair goes against the direction; equal is fine
+unfoldable pub ordered : Bool → List Float → Bool
+ordered rising [] = true
+ordered rising (x ∷ []) = true
+ordered rising (x ∷ (z ∷ r)) = not (before rising z x) && ordered rising (z ∷ r)
+
+-- from knot 1 on: knot 0 is not looked at
+abbrev pub turnsBack : List Float → Bool
+turnsBack ks = not (ordered (rises ks) (drop 1 ks))

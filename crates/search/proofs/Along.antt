@@ -1,0 +1,53 @@
+-- A direction: `Along rising a b` says that a is not past b. What it gives of a segment whose ends enclose the target. Assumes nothing.
+use mathlib.Core.Path.{_≡_, refl, subst}
+use mathlib.Core.Bool.{Bool, true, false, not, cond}
+use Prim.Native.Nat.{ℕ, zero, suc, _+_, _-_, _<_}
+use native.Mathlib.Omega.{arith}
+use lib.Dec.{T}
+use lib.Ieee.{Float, lt, le, isNan}
+use lib.Ieee.Fits.{and-l, and-r, and-i}
+use Rattle.doubles.proofs.Order.{branch, not-lt→le, le-trans-float, lt-le-absurd}
+use Rattle.invert.specs.Segment.{encloses}
+use Rattle.search.specs.Search.{before}
+
+abbrev pub Along : Bool → Float → Float → Type 0
+Along rising a b = T (cond rising (le a b) (le b a))
+
+pub along-trans : (rising : Bool) (a b c : Float) → Along rising a b → Along rising b c → Along rising a c
+along-trans true a b c h k = le-trans-float a b c h k
+along-trans false a b c h k = le-trans-float c b a k h
+
+pub enclosed : (rising : Bool) (a b y : Float) → Along rising a b → T (encloses a b y) → Along rising a y × Along rising y b
+enclosed true a b y o =
+    branch (λ (z : Bool). T z → T (le a y) × T (le y b)) (lt a b)
+    (λ _ h. (and-l (le a y) (le y b) h, and-r (le a y) (le y b) h))
+    (λ _ h. (le-trans-float a b y o (and-l (le b y) (le y a) h), le-trans-float y a b (and-r (le b y) (le y a) h) o))
+enclosed false a b y o =
+    branch (λ (z : Bool). T z → T (le y a) × T (le b y)) (lt a b)
+    (λ l h. absurd (lt-le-absurd a b l o))
+    (λ _ h. (and-r (le b y) (le y a) h, and-l (le b y) (le y a) h))
+
+pub encloses-of : (rising : Bool) (a b y : Float) → T (not (isNan a)) → T (not (isNan b)) → Along rising a y → Along rising y b → T (encloses a b y)
+encloses-of true a b y p q h k =
+    branch T (lt a b) (λ _. and-i (le a y) (le y b) h k)
+    (λ n. let r = not-lt→le a b p q n in and-i (le b y) (le y a) (le-trans-float b a y r h) (le-trans-float y b a k r))
+encloses-of false a b y p q h k = branch T (lt a b) (λ l. absurd (lt-le-absurd a b l (le-trans-float b y a k h))) (λ _. and-i (le b y) (le y a) k h)
+
+pub before-not : (rising : Bool) (y v : Float) → T (before rising y v) → Along rising v y → ⊥
+before-not true y v h k = lt-le-absurd y v h k
+before-not false y v h k = lt-le-absurd v y h k
+
+pub not-before : (rising : Bool) (y v : Float) → T (not (isNan y)) → T (not (isNan v)) → T (not (before rising y v)) → Along rising v y
+not-before true y v p q h = not-lt→le y v p q h
+not-before false y v p q h = not-lt→le v y q p h
+
+-- from neighbours to any two in order
+far : (rising : Bool) (v : ℕ → Float) (k : ℕ) → ((i : ℕ) → suc i < k → Along rising (v i) (v (suc i))) → (i d j : ℕ) → j ≡ i + suc d → j < k → Along rising (v i) (v j)
+far rising v k h i zero j e l = let q : suc i ≡ j = omega arith in subst (λ (x : ℕ). Along rising (v i) (v x)) q (h i (omega arith))
+far rising v k h i (suc d) j e l =
+    let m = i + suc d in
+    let q : suc m ≡ j = omega arith in
+    subst (λ (x : ℕ). Along rising (v i) (v x)) q (along-trans rising (v i) (v m) (v (suc m)) (far rising v k h i d m refl (omega arith)) (h m (omega arith)))
+
+pub ahead : (rising : Bool) (v : ℕ → Float) (k : ℕ) → ((i : ℕ) → suc i < k → Along rising (v i) (v (suc i))) → (i j : ℕ) → i < j → j < k → Along rising (v i) (v j)
+ahead rising v k h i j l m = far rising v k h i (j - suc i) j (omega arith) m

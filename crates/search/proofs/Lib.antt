@@ -1,0 +1,7 @@
+pub mod Along
+pub mod Digits
+pub mod Found
+pub mod Listed
+pub mod First
+pub mod Calls
+pub mod Sound

@@ -1,0 +1,31 @@
+use lib.Ieee.{ofBits}
+use Rattle.search.proofs.Calls.{tested}
+use borrow.Author.Needs.{needs}
+use Rattle.search.proofs.probe.Statement.{statement}
+use Rattle.search.proofs.probe.Tie as tie
+use Rattle.search.proofs.probe.Reads as reads
+use Rattle.search.proofs.probe.Lts as lts
+use Rattle.invert.proofs.encloses.Reads as encloses-reads
+use Rattle.search.proofs.weights_at.Reads as weights-at-reads
+use Rattle.spline.proofs.segment.horner.Reads as horner-reads
+
+weights-at-requires : tie.Need-weights-at-requires
+weights-at-requires c κs = search needs
+
+horner-requires : tie.Need-horner-requires
+horner-requires c κs = search needs
+
+horner-requires-2 : tie.Need-horner-requires-2
+horner-requires-2 c κs = search needs
+
+encloses-requires : tie.Need-encloses-requires
+encloses-requires c κs = search needs
+
+returns : tie.Need-returns
+unfolding ofBits
+returns c = tested (c .before .before .before .before .before .args .b) (c .before .before .before .before .before .args .knots .now) (c .before .before .before .before .before .args .s) (c .before .before .before .before .before .args .y) (c .before .before .before .weights-at .ensures) (c .before .before .horner .ensures) (c .before .horner2 .ensures) (c .encloses .ensures)
+
+pub probe-spec : {M : Type 1} → statement M
+probe-spec =
+    tie.close
+    (tie.spec weights-at-requires horner-requires horner-requires-2 encloses-requires returns)

@@ -1,0 +1,63 @@
+use borrow.Author.Needs.{needs}
+use Prim.Native.Nat.{_+_, _-_, _*_, _≤_}
+use native.Mathlib.Omega.{arith}
+use Rattle.search.proofs.Calls.{fits-at, Carried, tries-start, tries-hit, tries-miss, tries-end}
+use Rattle.search.proofs.tries.Statement.{statement}
+use Rattle.search.proofs.tries.Tie as tie
+use Rattle.search.proofs.tries.Reads as reads
+use Rattle.search.proofs.tries.Lts as lts
+use Rattle.invert.proofs.invert.Reads as invert-reads
+use Rattle.search.proofs.probe.Reads as probe-reads
+
+abbrev Inv-loop : tie.InvT-loop
+Inv-loop b knots y precision limit first end count s₀ made₀ s made = (s ≤ end) × (made ≤ count + 2 * s) × Carried b knots y precision limit first end count s made
+
+abbrev μ-loop : tie.MeasureT-loop
+μ-loop b knots y precision limit first end count s₀ made₀ s made = end - s
+
+loop-holds : tie.Need-loop-holds Inv-loop μ-loop
+loop-holds c = (omega arith, omega arith, tries-start (c .before .args .b) (c .before .args .knots .now) (c .before .args .y) (c .before .args .precision) (c .before .args .limit) _ _ _)
+
+probe-requires : tie.Need-probe-requires Inv-loop μ-loop
+probe-requires c κs = (fits-at (c .before .loop .s) (c .before .before .before .args .end) _ _ (omega arith) (c .before .before .before .pre .0), c .before .before .before .pre .1)
+
+add-invert : tie.Need-add-invert Inv-loop μ-loop
+add-invert c = omega arith
+
+invert-requires : tie.Need-invert-requires Inv-loop μ-loop
+invert-requires c κs = omega arith
+
+returns : tie.Need-returns Inv-loop μ-loop
+returns c = tries-hit (c .before .before .before .before .before .before .before .args .b) (c .before .before .before .before .before .before .before .args .knots .now) (c .before .before .before .before .before .before .before .args .y) (c .before .before .before .before .before .before .before .args .precision) (c .before .before .before .before .before .before .before .args .limit) _ (c .before .before .before .probe .result) (c .before .before .before .probe .ensures) (omega arith) (c .before .before .before .before .before .loop .inv .2) (c .before .before .if1 .taken) (c .invert .ensures)
+
+add-made : tie.Need-add-made Inv-loop μ-loop
+add-made c = omega arith
+
+add-s : tie.Need-add-s Inv-loop μ-loop
+add-s c = omega arith
+
+loop-less : tie.Need-loop-less Inv-loop μ-loop
+loop-less c = omega arith
+
+loop-again : tie.Need-loop-again Inv-loop μ-loop
+loop-again c = (omega arith, omega arith, tries-miss (c .before .before .before .before .before .args .b) (c .before .before .before .before .before .args .knots .now) (c .before .before .before .before .before .args .y) (c .before .before .before .before .before .args .precision) (c .before .before .before .before .before .args .limit) _ (c .before .probe .result) (c .before .probe .ensures) (omega arith) (c .before .before .before .loop .inv .2) (c .if1 .left))
+
+returns-2 : tie.Need-returns-2 Inv-loop μ-loop
+returns-2 c = tries-end (c .before .before .before .args .b) (c .before .before .before .args .knots .now) (c .before .before .before .args .y) (c .before .before .before .args .precision) (c .before .before .before .args .limit) (omega arith) (c .before .loop .inv .2)
+
+pub tries-spec : {M : Type 1} → statement M
+tries-spec =
+    tie.close
+    (tie.spec
+    Inv-loop
+    μ-loop
+    loop-holds
+    probe-requires
+    add-invert
+    invert-requires
+    returns
+    add-made
+    add-s
+    loop-less
+    loop-again
+    returns-2)

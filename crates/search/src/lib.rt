@@ -1,0 +1,192 @@
+// The search for the segment of a curve to enter. Rust: the two searches of `spline_inverse` in src/spline_trait.rs.
+ghost use mathlib.Core.Path.{_≡_};
+ghost use Prim.Native.Nat.{_+_, _-_, _*_, _≤_, _<_};
+ghost use lib.ListN.{length, drop};
+ghost use Rattle.basis.specs.Basis.{stepOf, matrixOf};
+ghost use Rattle.spline.specs.Segment.{weightsOf};
+ghost use Rattle.search.specs.Bound.{bitsOf, boundOf};
+ghost use Rattle.search.specs.Search.{before};
+ghost use Rattle.search.specs.Shown.{TestedIs, TriesIs, LastIs, HalveIs, FindIs};
+use basis::Basis;
+use invert::Inverted;
+use spline::Weights;
+
+// The binary digits of k up to the highest one.
+pub fn bits(k: usize) -> u32
+    ensures { λ r. ⌜ (r ≡ bitsOf k) × (r ≤ 64) ⌝ }
+{
+    64 - usize::leading_zeros(k)
+}
+
+// The most evaluations that an inversion of k segments makes.
+pub fn most_evaluations(k: usize, limit: u16) -> u32
+    ensures { λ r. ⌜ r ≡ boundOf k limit ⌝ }
+{
+    if k <= 12 {
+        limit as u32 + 26
+    } else {
+        limit as u32 + 2 * bits(k) + 6
+    }
+}
+
+// What both ends of a segment tell: its start, and whether they enclose the target; with its row sums.
+pub struct Tested {
+    pub weights: Weights,
+    pub start: f64,
+    pub holds: bool,
+}
+
+// The row sums of segment s: the part of the knots that starts at its place is lent, and nothing copied.
+pub fn weights_at(b: Basis, knots: &[f64], s: usize) -> Weights
+    requires { ⌜ (s * stepOf b + 4 ≤ length (now knots)) × (length (now knots) ≤ 4096) ⌝ }
+    ensures { λ r. ⌜ r ≡ weightsOf (matrixOf b) (drop (s * stepOf b) (now (knots .entry))) ⌝ }
+{
+    let start = s * basis::step(b);
+    spline::segment::weights(b, &knots[start..])
+}
+
+// Both ends of segment s are evaluated.
+pub fn probe(b: Basis, knots: &[f64], s: usize, y: f64) -> Tested
+    requires { ⌜ (s * stepOf b + 4 ≤ length (now knots)) × (length (now knots) ≤ 4096) ⌝ }
+    ensures { λ r. ⌜ TestedIs b (now (knots .entry)) s y r ⌝ }
+{
+    let w = weights_at(b, knots, s);
+    let v0 = spline::segment::horner(w, 0.0);
+    let v1 = spline::segment::horner(w, 1.0);
+    Tested { weights: w, start: v0, holds: invert::encloses(v0, v1, y) }
+}
+
+// The segments from `first` up to below `end` are tried in order.
+pub fn tries(
+    b: Basis,
+    knots: &[f64],
+    y: f64,
+    precision: f64,
+    limit: u16,
+    first: usize,
+    end: usize,
+    count: u32,
+) -> Inverted
+    requires { ⌜ (end * stepOf b + 4 ≤ length (now knots) + stepOf b) × (length (now knots) ≤ 4096) × (end ≤ 4096) × (first ≤ end) × (count ≤ 100000) ⌝ }
+    ensures { λ r. ⌜ TriesIs b (now (knots .entry)) y precision limit (end - first) first count r ⌝ }
+{
+    let mut s = first;
+    let mut made = count;
+    while s < end {
+        let p = probe(b, knots, s, y);
+        if p.holds {
+            let w = p.weights;
+            return invert::invert(w, s, y, precision, limit, made + 2);
+        }
+        made += 2;
+        s += 1;
+    }
+    Inverted::OffCurve(made)
+}
+
+fn one_less(n: usize) -> usize
+    ensures { λ r. ⌜ r ≡ n - 1 ⌝ }
+{
+    if 0 < n { n - 1 } else { 0 }
+}
+
+// Nothing is open any more, at `left` of k segments: those beside it are tried once more.
+pub fn last_tries(
+    b: Basis,
+    knots: &[f64],
+    y: f64,
+    precision: f64,
+    limit: u16,
+    k: usize,
+    left: usize,
+    count: u32,
+) -> Inverted
+    requires { ⌜ (k * stepOf b + 4 ≤ length (now knots) + stepOf b) × (length (now knots) ≤ 4096) × (0 < k) × (k ≤ 4096) × (left ≤ k) × (count ≤ 100000) ⌝ }
+    ensures { λ r. ⌜ LastIs b (now (knots .entry)) y precision limit k left count r ⌝ }
+{
+    let first = one_less(left);
+    let end = doubles::whole::lesser(first + 2, k);
+    tries(b, knots, y, precision, limit, first, end, count)
+}
+
+pub fn lies_before(rising: bool, y: f64, v: f64) -> bool
+    ensures { λ r. ⌜ r ≡ before rising y v ⌝ }
+{
+    if rising { y < v } else { v < y }
+}
+
+// The `wide` segments from `left` on are open: the middle one is tried, then the part before it or the part after it.
+pub fn halve(
+    b: Basis,
+    knots: &[f64],
+    y: f64,
+    precision: f64,
+    limit: u16,
+    rising: bool,
+    k: usize,
+    left: usize,
+    wide: usize,
+    count: u32,
+) -> Inverted
+    requires { ⌜ (k * stepOf b + 4 ≤ length (now knots) + stepOf b) × (length (now knots) ≤ 4096) × (0 < k) × (k ≤ 4096) × (left + wide ≤ k) × (count + 2 * wide ≤ 100000) ⌝ }
+    ensures { λ r. ⌜ HalveIs b (now (knots .entry)) y precision limit rising k left wide count r ⌝ }
+{
+    if wide == 0 {
+        return last_tries(b, knots, y, precision, limit, k, left, count);
+    }
+    let half = (wide - 1) / 2;
+    let mid = left + half;
+    let p = probe(b, knots, mid, y);
+    if p.holds {
+        let w = p.weights;
+        return invert::invert(w, mid, y, precision, limit, count + 2);
+    }
+    if lies_before(rising, y, p.start) {
+        halve(
+            b,
+            knots,
+            y,
+            precision,
+            limit,
+            rising,
+            k,
+            left,
+            half,
+            count + 2,
+        )
+    } else {
+        halve(
+            b,
+            knots,
+            y,
+            precision,
+            limit,
+            rising,
+            k,
+            mid + 1,
+            wide - 1 - half,
+            count + 2,
+        )
+    }
+}
+
+// Up to 12 segments in order, above by halving; `count` evaluations have been made before.
+pub fn find(
+    b: Basis,
+    knots: &[f64],
+    y: f64,
+    precision: f64,
+    limit: u16,
+    rising: bool,
+    k: usize,
+    count: u32,
+) -> Inverted
+    requires { ⌜ (k * stepOf b + 4 ≤ length (now knots) + stepOf b) × (length (now knots) ≤ 4096) × (0 < k) × (k ≤ 4096) × (count ≤ 1000) ⌝ }
+    ensures { λ r. ⌜ FindIs b (now (knots .entry)) y precision limit rising k count r ⌝ }
+{
+    if k <= 12 {
+        tries(b, knots, y, precision, limit, 0, k, count)
+    } else {
+        halve(b, knots, y, precision, limit, rising, k, 0, k, count)
+    }
+}
