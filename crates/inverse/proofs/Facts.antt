@@ -1,15 +1,15 @@
 -- Demand by demand, what an inversion past the refusals promises, for any curve g of k segments and any end rule e. Assumes nothing.
-use mathlib.Core.Path.{_≡_, refl, sym, ap, _∙_, subst}
+use mathlib.Core.Path.{_≡_, refl, ap}
 use mathlib.Core.Logic.{_⊎_, inl, inr}
 use mathlib.Core.Bool.{Bool, true, false, not, cond}
-use Prim.Native.Nat.{ℕ, _+_, _-_, _*_, _≤_, _<_}
+use Prim.Native.Nat.{ℕ, _+_, _-_, _≤_, _<_}
 use native.Mathlib.Nat.{le-trans}
 use native.Mathlib.Omega.{arith}
-use lib.Dec.{T, leb, T-not}
+use lib.Dec.{T, T-not}
 use lib.ListN.{length}
 use lib.Ieee.{Float, binary64, sub, lt, le}
 use Rattle.doubles.specs.Numbers.{nought, one, magnitudeOf}
-use Rattle.doubles.proofs.Order.{branch, le-trans-float}
+use Rattle.doubles.proofs.Order.{le-trans-float}
 use Rattle.doubles.proofs.Units.{InUnit, nought-in, one-in, nought-le}
 use Rattle.doubles.proofs.Share.{share-in}
 use Rattle.invert.specs.declared.Ground.{Ground}
@@ -24,7 +24,7 @@ use Rattle.invert.specs.Answer.{answered, countTold}
 use Rattle.invert.proofs.Enclosing.{Numbers, Says}
 use Rattle.invert.proofs.Places.{bracket-encloses}
 use Rattle.search.specs.Search.{find}
-use Rattle.search.proofs.Found.{Holds, Nothing, Straight}
+use Rattle.search.proofs.Found.{Holds}
 use Rattle.search.proofs.Listed.{find-same}
 use Rattle.inverse.specs.declared.Ends.{Ends}
 use Rattle.inverse.specs.EndRule.{atLow, atHigh}

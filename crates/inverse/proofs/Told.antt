@@ -1,16 +1,15 @@
 -- What an inversion past the refusals tells, for any curve g of k segments and any end rule e. Assumes nothing.
 use mathlib.Core.Path.{_≡_, refl, sym, subst}
 use mathlib.Core.Bool.{Bool, true, false, not, cond}
-use Prim.Native.Nat.{ℕ, _+_, _-_, _*_, _^_, _≤_, _<_}
-use native.Mathlib.Nat.{le-trans, lt-of-le-of-lt}
+use Prim.Native.Nat.{ℕ, _+_, _-_, _*_, _≤_, _<_}
+use native.Mathlib.Nat.{lt-of-le-of-lt}
 use native.Mathlib.Omega.{arith}
-use lib.Dec.{T, leb, T-not, lit<}
+use lib.Dec.{T, leb, lit<}
 use lib.ListN.{length}
-use lib.Ieee.{Float, lt, le}
+use lib.Ieee.{Float, lt}
 use Rattle.doubles.specs.Numbers.{nought, one}
-use Rattle.doubles.proofs.Order.{branch, le-trans-float}
-use Rattle.doubles.proofs.Units.{InUnit, nought-in, one-in}
-use Rattle.doubles.proofs.Share.{share-in}
+use Rattle.doubles.proofs.Order.{branch}
+use Rattle.doubles.proofs.Units.{nought-in, one-in}
 use Rattle.invert.specs.declared.Place.{Place}
 use Rattle.invert.specs.declared.Inverted.{Inverted}
 use Rattle.invert.specs.declared.Inverted.the-variants.{OffCurve, At}
@@ -20,7 +19,7 @@ use Rattle.invert.specs.Answer.{answered}
 use Rattle.invert.proofs.Enclosing.{Numbers, Sound}
 use Rattle.search.specs.Bound.{bitsOf, boundOf}
 use Rattle.search.specs.Search.{find}
-use Rattle.search.proofs.Found.{Holds, Nothing, Straight, Entered, Result, missed, got, probes, find-says}
+use Rattle.search.proofs.Found.{Holds, Nothing, Straight, Result, missed, got, probes, find-says}
 use Rattle.search.proofs.Sound.{SoundIn, enters-sound}
 use Rattle.inverse.specs.declared.Ends.{Ends}
 use Rattle.inverse.specs.EndRule.{atLow, atHigh}

@@ -35,9 +35,17 @@ fn knot_ends(b: Basis, knots: &[f64]) -> Ends
     let n = knots.len();
     let rising = order::rising(knots);
     if basis::step(b) == 1 {
-        return Ends { rising: rising, low: knots[1], high: knots[n - 2] };
+        return Ends {
+            rising: rising,
+            low: knots[1],
+            high: knots[n - 2],
+        };
     }
-    Ends { rising: rising, low: knots[0], high: knots[n - 1] }
+    Ends {
+        rising: rising,
+        low: knots[0],
+        high: knots[n - 1],
+    }
 }
 
 fn is_at_low(e: Ends, y: f64) -> bool
@@ -56,7 +64,15 @@ fn is_at_high(e: Ends, y: f64) -> bool
 fn end_place(s: usize, x: f64) -> Inverted
     ensures { λ r. ⌜ r ≡ ended [] s x ⌝ }
 {
-    Inverted::At(Place { parameter: x, ground: Ground::End, segment: s, local: x, lower: x, upper: x, count: 0 })
+    Inverted::At(Place {
+        parameter: x,
+        ground: Ground::End,
+        segment: s,
+        local: x,
+        lower: x,
+        upper: x,
+        count: 0,
+    })
 }
 
 fn parameter(k: usize, s: usize, x: f64) -> f64
@@ -83,7 +99,15 @@ pub fn segments(b: Basis, n: usize) -> usize
 }
 
 // The search's answer, with the parameter of its place on the whole curve.
-fn searched(b: Basis, y: f64, knots: &[f64], limit: u16, precision: f64, rising: bool, k: usize) -> Inverted
+fn searched(
+    b: Basis,
+    y: f64,
+    knots: &[f64],
+    limit: u16,
+    precision: f64,
+    rising: bool,
+    k: usize,
+) -> Inverted
     requires { ⌜ (k ≡ segmentsOf b (length (now knots))) × (4 ≤ length (now knots)) × (length (now knots) ≤ 4096) × (isNan y ≡ false) × (allInRange (now knots) ≡ true) ⌝ }
     ensures { λ r. ⌜ r ≡ answered (parameterOf k) (find (segmentOf b (now (knots .entry))) y precision limit rising k []) ⌝ }
 {
@@ -93,7 +117,15 @@ fn searched(b: Basis, y: f64, knots: &[f64], limit: u16, precision: f64, rising:
     };
     let ground = p.ground;
     let x = parameter(k, p.segment, p.local);
-    Inverted::At(Place { parameter: x, ground: ground, segment: p.segment, local: p.local, lower: p.lower, upper: p.upper, count: p.count })
+    Inverted::At(Place {
+        parameter: x,
+        ground: ground,
+        segment: p.segment,
+        local: p.local,
+        lower: p.lower,
+        upper: p.upper,
+        count: p.count,
+    })
 }
 
 // Past the refusals.
@@ -112,7 +144,14 @@ fn locate(b: Basis, y: f64, knots: &[f64], limit: u16, precision: f64) -> Invert
     searched(b, y, knots, limit, precision, e.rising, k)
 }
 
-pub fn spline_inverse_with(b: Basis, y: f64, knots: &[f64], check: bool, limit: u16, precision: f64) -> Inverted
+pub fn spline_inverse_with(
+    b: Basis,
+    y: f64,
+    knots: &[f64],
+    check: bool,
+    limit: u16,
+    precision: f64,
+) -> Inverted
     ensures { λ r. ⌜ r ≡ inverseOf b y (now (knots .entry)) check limit precision ⌝ }
 {
     let v = order::verdict(b, y, knots, check, limit, precision);

@@ -68,7 +68,11 @@ pub fn knots_verdict(knots: &[f64], check: bool) -> Verdict
         }
         return Verdict::Failed(Refusal::BadKnot);
     }
-    if spline::rows::all_in_range(knots) { Verdict::Passed } else { Verdict::Failed(Refusal::BadKnot) }
+    if spline::rows::all_in_range(knots) {
+        Verdict::Passed
+    } else {
+        Verdict::Failed(Refusal::BadKnot)
+    }
 }
 
 pub fn verdict(b: Basis, y: f64, knots: &[f64], check: bool, limit: u16, precision: f64) -> Verdict

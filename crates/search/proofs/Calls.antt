@@ -5,8 +5,7 @@ use mathlib.Core.Bool.{Bool, true, false}
 use Prim.Native.Nat.{ℕ, zero, suc, _+_, _-_, _*_, _/_, _^_, _<_, _≤_, min}
 use native.Mathlib.Nat.{mul-le-mul-right, suc-mul, two-pow-succ}
 use native.Mathlib.Omega.{arith}
-use lib.ListN.{length, take, drop, length-drop}
-use lib.Seq.{take-all}
+use lib.ListN.{length, drop}
 use lib.Ieee.{Float}
 use borrow.Author.Tests.{le-leb, lt-leb}
 use Rattle.basis.specs.declared.Basis.{Basis}
@@ -33,10 +32,6 @@ fits-le t k step n h l = let q : t * step ≤ k * step = mul-le-mul-right step h
 
 pub fits-at : (s k step n : ℕ) → s < k → k * step + 4 ≤ n + step → s * step + 4 ≤ n
 fits-at s k step n h l = let q : suc s * step ≤ k * step = mul-le-mul-right step h in omega (arith, suc-mul s step)
-
--- the part from i on
-pub rest : (i : ℕ) (ks : List Float) → take (length ks - i) (drop i ks) ≡ drop i ks
-rest i ks = take-all (length ks - i) (drop i ks) (omega (arith, length-drop i ks))
 
 -- the ends of segment s, from its row sums
 pub tested : (b : Basis) (ks : List Float) (s : ℕ) (y : Float) {w : Weights} {v0 v1 : Float} {h : Bool} → w ≡ weightsOf (matrixOf b) (drop (s * stepOf b) ks) → v0 ≡ hornerOf w nought → v1 ≡ hornerOf w one → h ≡ encloses v0 v1 y
@@ -78,12 +73,15 @@ module _ (b : Basis) (ks : List Float) (y ε : Float) (limit : ℕ) where
 
       pub tries-miss : p .holds ≡ false → Carried b ks y ε limit first end count (s + 1) (made + 2)
       tries-miss h =
-          record { so-far = λ ev k.
-            let c = carried .so-far ev k in
-            let q : end - s ≡ suc (end - suc s) = omega arith in
-            let n : suc s ≡ s + 1 = omega arith in
-            (both s (c .0), omega (arith, c .1),
-            c .2 ∙ ap (λ (n : ℕ). tries (segmentOf b ks) y ε limit n s (c .0)) q ∙ passed (end - suc s) (c .0) h ∙ ap (λ (i : ℕ). tries (segmentOf b ks) y ε limit (end - i) i (both s (c .0))) n)
+          record {
+            so-far = λ ev k.
+                let c = carried .so-far ev k in
+                let q : end - s ≡ suc (end - suc s) = omega arith in
+                let n : suc s ≡ s + 1 = omega arith in (
+                  both s (c .0),
+                  omega (arith, c .1),
+                  c .2 ∙ ap (λ (n : ℕ). tries (segmentOf b ks) y ε limit n s (c .0)) q ∙ passed (end - suc s) (c .0) h ∙ ap (λ (i : ℕ). tries (segmentOf b ks) y ε limit (end - i) i (both s (c .0))) n,
+                );
           }
 
   pub tries-end : {first end count s made : ℕ} → end ≤ s → Carried b ks y ε limit first end count s made → TriesIs b ks y ε limit (end - first) first count (OffCurve made)

@@ -1,17 +1,16 @@
 -- Segments that are tried in order: the first whose ends enclose y is the one entered, two evaluations having been made for it and for each before it. Assumes nothing.
 use mathlib.Core.Path.{_≡_, sym, subst}
-use mathlib.Core.Bool.{Bool, true, false, not, cond}
+use mathlib.Core.Bool.{Bool}
 use Prim.Native.Nat.{ℕ, zero, suc, _+_, _*_, _≤_, _<_}
 use native.Mathlib.Omega.{arith}
-use lib.Dec.{T, leb}
+use lib.Dec.{T}
 use lib.ListN.{length}
 use lib.Ieee.{Float}
 use lib.Ieee.Bits.{is-true, is-false}
 use borrow.Author.Tests.{le-leb}
-use Rattle.doubles.specs.Numbers.{nought, one}
 use Rattle.invert.specs.Evaluations.{Evaluations}
 use Rattle.invert.specs.Segment.{Outcome, inSegment}
-use Rattle.search.specs.Search.{tries, halve, find}
+use Rattle.search.specs.Search.{tries, find}
 use Rattle.search.proofs.Found.{both, Holds, Nothing}
 
 module _ (g : ℕ → Float → Float) (y ε : Float) (limit k : ℕ) where

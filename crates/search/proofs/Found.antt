@@ -1,10 +1,10 @@
 -- What a search comes to, for any curve: how many evaluations it makes, which segment it enters, and when it enters none. Assumes nothing.
-use mathlib.Core.Path.{_≡_, refl, sym, ap, _∙_, subst}
+use mathlib.Core.Path.{_≡_, sym, subst}
 use mathlib.Core.Logic.{inl, inr}
 use mathlib.Core.List.{_∷_}
 use mathlib.Core.Bool.{Bool, true, false, not, cond}
 use Prim.Native.Nat.{ℕ, zero, suc, _+_, _-_, _*_, _/_, _^_, _≤_, _<_, min}
-use native.Mathlib.Nat.{le-trans, le-of-eq, eq-or-lt-of-le, two-pow-succ}
+use native.Mathlib.Nat.{le-trans, eq-or-lt-of-le, two-pow-succ}
 use native.Mathlib.Omega.{arith}
 use lib.Dec.{T, leb, leb→le, not-T, T-not}
 use lib.ListN.{length}

@@ -53,7 +53,11 @@ pub fn probe(b: Basis, knots: &[f64], s: usize, y: f64) -> Tested
     let w = weights_at(b, knots, s);
     let v0 = spline::segment::horner(w, 0.0);
     let v1 = spline::segment::horner(w, 1.0);
-    Tested { weights: w, start: v0, holds: invert::encloses(v0, v1, y) }
+    Tested {
+        weights: w,
+        start: v0,
+        holds: invert::encloses(v0, v1, y),
+    }
 }
 
 // The segments from `first` up to below `end` are tried in order.

@@ -4,10 +4,6 @@ use Rattle.search.proofs.Calls.{found-few, found-many}
 use borrow.Author.Needs.{needs}
 use Rattle.search.proofs.find.Statement.{statement}
 use Rattle.search.proofs.find.Tie as tie
-use Rattle.search.proofs.find.Reads as reads
-use Rattle.search.proofs.find.Lts as lts
-use Rattle.search.proofs.halve.Reads as halve-reads
-use Rattle.search.proofs.tries.Reads as tries-reads
 
 tries-requires : tie.Need-tries-requires
 tries-requires c κs = search needs

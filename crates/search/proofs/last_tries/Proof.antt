@@ -3,11 +3,6 @@ use Rattle.search.proofs.Calls.{fits-le, last-tried}
 use borrow.Author.Needs.{needs}
 use Rattle.search.proofs.last_tries.Statement.{statement}
 use Rattle.search.proofs.last_tries.Tie as tie
-use Rattle.search.proofs.last_tries.Reads as reads
-use Rattle.search.proofs.last_tries.Lts as lts
-use Rattle.doubles.proofs.whole.lesser.Reads as lesser-reads
-use Rattle.search.proofs.one_less.Reads as one-less-reads
-use Rattle.search.proofs.tries.Reads as tries-reads
 
 one-less-requires : tie.Need-one-less-requires
 one-less-requires c κs = search needs

@@ -2,9 +2,6 @@ use borrow.Author.Tests.{le-leb, lt-leb}
 use borrow.Author.Needs.{needs}
 use Rattle.search.proofs.most_evaluations.Statement.{statement}
 use Rattle.search.proofs.most_evaluations.Tie as tie
-use Rattle.search.proofs.most_evaluations.Reads as reads
-use Rattle.search.proofs.most_evaluations.Lts as lts
-use Rattle.search.proofs.bits.Reads as bits-reads
 
 add-result : tie.Need-add-result
 add-result c = search needs

@@ -3,11 +3,6 @@ use Rattle.search.proofs.Calls.{tested}
 use borrow.Author.Needs.{needs}
 use Rattle.search.proofs.probe.Statement.{statement}
 use Rattle.search.proofs.probe.Tie as tie
-use Rattle.search.proofs.probe.Reads as reads
-use Rattle.search.proofs.probe.Lts as lts
-use Rattle.invert.proofs.encloses.Reads as encloses-reads
-use Rattle.search.proofs.weights_at.Reads as weights-at-reads
-use Rattle.spline.proofs.segment.horner.Reads as horner-reads
 
 weights-at-requires : tie.Need-weights-at-requires
 weights-at-requires c κs = search needs

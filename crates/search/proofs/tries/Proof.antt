@@ -1,13 +1,8 @@
-use borrow.Author.Needs.{needs}
 use Prim.Native.Nat.{_+_, _-_, _*_, _≤_}
 use native.Mathlib.Omega.{arith}
 use Rattle.search.proofs.Calls.{fits-at, Carried, tries-start, tries-hit, tries-miss, tries-end}
 use Rattle.search.proofs.tries.Statement.{statement}
 use Rattle.search.proofs.tries.Tie as tie
-use Rattle.search.proofs.tries.Reads as reads
-use Rattle.search.proofs.tries.Lts as lts
-use Rattle.invert.proofs.invert.Reads as invert-reads
-use Rattle.search.proofs.probe.Reads as probe-reads
 
 abbrev Inv-loop : tie.InvT-loop
 Inv-loop b knots y precision limit first end count s₀ made₀ s made = (s ≤ end) × (made ≤ count + 2 * s) × Carried b knots y precision limit first end count s made

@@ -1,17 +1,12 @@
 use mathlib.Core.Path.{ap, _∙_}
 use Prim.Native.Nat.{ℕ, _*_}
-use native.Mathlib.Omega.{arith}
 use lib.ListN.{drop}
 use Rattle.basis.specs.Basis.{matrixOf}
 use Rattle.spline.specs.Segment.{weightsOf}
-use Rattle.search.proofs.Calls.{rest}
+use Rattle.spline.proofs.Parts.{rest}
 use borrow.Author.Needs.{needs}
 use Rattle.search.proofs.weights_at.Statement.{statement}
 use Rattle.search.proofs.weights_at.Tie as tie
-use Rattle.search.proofs.weights_at.Reads as reads
-use Rattle.search.proofs.weights_at.Lts as lts
-use Rattle.basis.proofs.step.Reads as step-reads
-use Rattle.spline.proofs.segment.weights.Reads as weights-reads
 
 step-requires : tie.Need-step-requires
 step-requires c κs = search needs

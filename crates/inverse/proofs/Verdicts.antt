@@ -1,0 +1,130 @@
+-- The verdict of a curve's inversion, by the tests as the code makes them, and what a passed one says. Assumes nothing.
+use mathlib.Core.Path.{_≡_, refl, sym, ap, _∙_, subst}
+use mathlib.Core.Bool.{Bool, true, false, not, _&&_}
+use mathlib.Core.List.{List, [], _∷_}
+use Prim.Native.Nat.{ℕ, zero, suc, _-_, _≤_, _<_}
+use native.Mathlib.Omega.{arith}
+use borrow.Author.Tests.{ltb-false, not-false}
+use lib.Dec.{T}
+use lib.ListN.{length, getD, drop}
+use lib.Ieee.{Float, nan, isNan}
+use Rattle.error.specs.declared.Refusal.{Refusal}
+use Rattle.error.specs.declared.Refusal.the-variants.{BadKnot, TurnsBack}
+use Rattle.error.specs.declared.Verdict.{Verdict}
+use Rattle.error.specs.declared.Verdict.the-variants.{Passed, Failed}
+use Rattle.error.specs.Refusals.{Uses, rows, first}
+use Rattle.error.proofs.First.{stops, goes-on, passed}
+use Rattle.basis.specs.declared.Basis.{Basis}
+use Rattle.basis.specs.Basis.{segmentsOf}
+use Rattle.spline.specs.Segment.{segmentOf}
+use Rattle.spline.specs.Rows.{inRange, allInRange, curveLength}
+use Rattle.invert.specs.declared.Inverted.{Inverted}
+use Rattle.invert.specs.declared.Inverted.the-variants.{Refused}
+use Rattle.invert.specs.Answer.{asked}
+use Rattle.invert.proofs.Verdicts.{askedRows, lastRows, stops-in, goes-past}
+use Rattle.inverse.specs.Order.{rises, turnsBack}
+use Rattle.inverse.specs.EndRule.{knotEnds}
+use Rattle.inverse.specs.Curve.{located}
+use Rattle.inverse.specs.Inverse.{inverseUses, inverseOf}
+use Rattle.inverse.specs.Scan.{kept}
+use Rattle.inverse.proofs.Scan.{all-sound}
+
+-- ---- all in range and in order, by one scan
+true-so : {a : Bool} → a ≡ true → T a
+true-so e = rw e tt
+
+pub sound-in : (ks : List Float) → 4 ≤ length ks → inRange (getD ks 0 nan) ≡ true → inRange (getD ks 1 nan) ≡ true → inRange (getD ks (length ks - 1) nan) ≡ true → kept (rises ks) (drop 1 ks) ≡ (allInRange ks && not (turnsBack ks))
+sound-in [] h a b c = absurd (omega arith)
+sound-in (x ∷ []) h a b c = absurd (omega arith)
+sound-in (x ∷ (z ∷ r)) h a b c =
+    let q : length (x ∷ (z ∷ r)) - 1 ≡ suc (length r) = omega arith in
+    all-sound (rises (x ∷ (z ∷ r))) x z r (true-so a) (true-so b) (true-so (sym (ap (λ (i : ℕ). inRange (getD (x ∷ (z ∷ r)) i nan)) q) ∙ c))
+
+one-out : (ks : List Float) (i : ℕ) → i < length ks → inRange (getD ks i nan) ≡ false → allInRange ks ≡ false
+unfolding allInRange
+one-out [] i h e = absurd (omega arith)
+one-out (x ∷ xs) zero h e = rw e
+one-out (x ∷ xs) (suc i) h e = let q = one-out xs i (omega arith) e in rw q (both-false (inRange x))
+  where
+    both-false : (a : Bool) → (a && false) ≡ false
+    both-false true = refl
+    both-false false = refl
+
+pub sound-out : (ks : List Float) (i : ℕ) → i < length ks → inRange (getD ks i nan) ≡ false → false ≡ (allInRange ks && not (turnsBack ks))
+sound-out ks i h e = rw (one-out ks i h e)
+
+-- ---- the knots' two rows: a is that all are in range, t that they turn back
+abbrev knotRows : Bool → Bool → Bool → Uses
+knotRows a t check = (BadKnot, not a) ∷ (TurnsBack, check && t) ∷ []
+
+module _ (a t check : Bool) where
+  pub knots-sound : (a && not t) ≡ true → Passed ≡ first (knotRows a t check)
+  knots-sound = go a t check
+    where
+      go : (a t check : Bool) → (a && not t) ≡ true → Passed ≡ first (knotRows a t check)
+      go true false true e = refl
+      go true false false e = refl
+      go true true check e = absurd (subst T (sym e) tt)
+      go false t check e = absurd (subst T (sym e) tt)
+
+  pub knots-turn : check ≡ true → (a && not t) ≡ false → a ≡ true → Failed TurnsBack ≡ first (knotRows a t check)
+  knots-turn c = go a t check c
+    where
+      go : (a t check : Bool) → check ≡ true → (a && not t) ≡ false → a ≡ true → Failed TurnsBack ≡ first (knotRows a t check)
+      go true true true c e h = refl
+      go true true false c e h = absurd (subst T (sym c) tt)
+      go true false check c e h = absurd (subst T e tt)
+      go false t check c e h = absurd (subst T (sym h) tt)
+
+  pub knots-bad : a ≡ false → Failed BadKnot ≡ first (knotRows a t check)
+  knots-bad h = rw h
+
+  pub knots-unchecked : check ≡ false → a ≡ true → Passed ≡ first (knotRows a t check)
+  knots-unchecked c h = rw (c, h)
+
+-- ---- the call's rows, in the order of its tests
+module _ (b : Basis) (y : Float) (ks : List Float) (check : Bool) (limit : ℕ) (ε : Float) {l : Verdict} (e : l ≡ first (curveLength b (length ks))) where
+  abbrev uses : Uses
+  uses = inverseUses b y ks check limit ε
+
+  pub by-length : {r : Refusal} → l ≡ Failed r → l ≡ first uses
+  by-length k = stops uses e k
+
+  module _ (k : l ≡ Passed) {a : Verdict} (e-a : a ≡ first (asked y limit ε)) where
+    pub by-asked : {r : Refusal} → a ≡ Failed r → a ≡ first uses
+    by-asked d = goes-on uses e k (stops-in askedRows lastRows uses e-a d)
+
+    pub by-knots : {w : Verdict} → a ≡ Passed → w ≡ first (knotRows (allInRange ks) (turnsBack ks) check) → w ≡ first uses
+    by-knots p d = goes-on uses e k (goes-past askedRows lastRows uses e-a p d)
+
+pub long-enough : (b : Basis) (n : ℕ) {l : Verdict} → l ≡ first (curveLength b n) → l ≡ Passed → 4 ≤ n
+long-enough b n e p = ltb-false n 4 (passed rows (curveLength b n) (sym e ∙ p) .0)
+
+-- ---- what a passed verdict says
+pub record Admitted (b : Basis) (y : Float) (ks : List Float) (check : Bool) : Type 0 where
+  pub long : 4 ≤ length ks
+  pub short : length ks ≤ 4096
+  pub number : isNan y ≡ false
+  pub in-range : allInRange ks ≡ true
+  pub in-order : (check && turnsBack ks) ≡ false
+
+pub admitted : (b : Basis) (y : Float) (ks : List Float) (check : Bool) (limit : ℕ) (ε : Float) → first (inverseUses b y ks check limit ε) ≡ Passed → Admitted b y ks check
+admitted b y ks check limit ε e =
+    let p = passed rows (inverseUses b y ks check limit ε) e in
+    record {
+      long = ltb-false (length ks) 4 (p .0);
+      short = ltb-false 4096 (length ks) (p .1 .1 .0);
+      number = p .1 .1 .1 .0;
+      in-range = not-false (allInRange ks) (p .1 .1 .1 .1 .1 .1 .1 .1 .0);
+      in-order = p .1 .1 .1 .1 .1 .1 .1 .1 .1 .0;
+    }
+
+-- ---- the answer
+module _ (b : Basis) (y : Float) (ks : List Float) (check : Bool) (limit : ℕ) (ε : Float) {v : Verdict} (e : v ≡ first (inverseUses b y ks check limit ε)) where
+  pub refused-is : {r : Refusal} → v ≡ Failed r → Refused r ≡ inverseOf b y ks check limit ε
+  unfolding inverseOf
+  refused-is k = rw (sym e ∙ k)
+
+  pub answer-is : {a : Inverted} → v ≡ Passed → a ≡ located (knotEnds b ks) [] (segmentOf b ks) (segmentsOf b (length ks)) y ε limit → a ≡ inverseOf b y ks check limit ε
+  unfolding inverseOf
+  answer-is k h = h ∙ rw (sym e ∙ k)
