@@ -17,14 +17,14 @@ use Rattle.error.specs.Refusals.{first}
 use Rattle.basis.specs.declared.Basis.{Basis}
 use Rattle.basis.specs.Basis.{stepOf, segmentsOf, matrixOf}
 use Rattle.doubles.specs.Numbers.{nought, one}
-use Rattle.doubles.proofs.Bounds.{Within, within-finite}
+use Rattle.doubles.proofs.Bounds.{Within, times, within-finite, clamp-within, unit-within, whole-within}
 use Rattle.doubles.proofs.LocalPart.{InOne, clamp-in, local-in}
 use Rattle.doubles.proofs.WholePart.{whole-le}
 use Rattle.spline.specs.declared.Evaluated.{Evaluated}
 use Rattle.spline.specs.declared.Evaluated.the-variants.{Value, Refused}
 use Rattle.spline.specs.Segment.{segmentValue, segmentSteps}
 use Rattle.spline.specs.Rows.{allInRange}
-use Rattle.spline.specs.Curve.{segmentAt, localAt, curveAt, curveValue}
+use Rattle.spline.specs.Curve.{scaled, segmentAt, localAt, curveAt, curveValue}
 use Rattle.spline.specs.Evaluation.{splineUses, splineSegmentUses, evaluated, splineOf, splineSegmentOf}
 use Rattle.spline.proofs.Parts.{inside, few}
 use Rattle.spline.proofs.Verdicts.{Sound, curve-sound, SoundSegment, segment-sound}
@@ -33,6 +33,12 @@ use Rattle.spline.proofs.Finite.{Finite, knots-within, segment-finite}
 -- the local t of a curve of up to 4,096 segments lies in 0 to 1
 pub local-in-one : (k : ℕ) (x : Float) → 0 < k → k ≤ 4096 → T (not (isNan x)) → InOne (localAt k x)
 local-in-one k x K M n = local-in k _ K M (clamp-in x n)
+
+-- so the steps before the segment's are finite
+pub scaled-finite : (k : ℕ) (x : Float) → 0 < k → k ≤ 4096 → T (not (isNan x)) → T (finite (scaled k x)) × T (finite (localAt k x))
+scaled-finite k x K M n =
+    let l = local-in-one k x K M n in
+    (within-finite (times {a = 0} {b = 12} (lit≤ tt) (clamp-within x n) (whole-within k M)), within-finite (unit-within (localAt k x) (l .low) (l .high)))
 
 -- every rounded step of a curve's value is finite
 module _ (b : Basis) (x : Float) (ks : List Float) (s : Sound b x ks) where
