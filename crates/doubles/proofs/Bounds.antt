@@ -8,7 +8,7 @@ use native.Mathlib.Omega.{arith}
 use lib.IntN.{pos}
 use lib.Dec.{T, ltb, eqb, ltb→lt, nltb→le, eqb→eq, lit<, lit≤}
 use lib.Pow.{pow-add, pow-pos, pow-mono, pow-lt}
-use lib.Ieee.{Float, nan, inf, fin, Format, binary64, prec, emax, low, up, down, unlike, round, neg, sum, add, sub, mul, le, ofInt, isNan}
+use lib.Ieee.{Float, nan, inf, fin, Format, binary64, prec, emax, low, up, down, unlike, round, sum, add, mul, le, ofInt, isNan}
 use lib.Ieee.Fits.{and-l, round-is, two, down-pos}
 use lib.Ieee.Exact.{HasValue, units-val}
 use lib.Ieee.Order.{drop, kept}
@@ -113,16 +113,6 @@ times {a} {b} {x} {y} A v w = record { held = mul-size binary64 a b x y A (v .he
 
 pub plus : (c : ℕ) {a b : ℕ} {x y : Float} → a ≤ c → b ≤ c → c < 1023 → Within a x → Within b y → Within (suc c) (add binary64 x y)
 plus c {a} {b} {x} {y} p q A v w = record { held = add-size binary64 c x y A (widen c p v .held) (widen c q w .held) }
-
-neg-size : (a : ℕ) (x : Float) → Size a x → Size a (neg x)
-unfolding neg
-neg-size a nan w = w
-neg-size a (inf s) w = w
-neg-size a (fin s m e) w = w
-
-pub minus : (c : ℕ) {a b : ℕ} {x y : Float} → a ≤ c → b ≤ c → c < 1023 → Within a x → Within b y → Within (suc c) (sub binary64 x y)
-unfolding sub
-minus c {a} {b} {x} {y} p q A v w = plus c p q A v (record { held = neg-size b y (w .held) })
 
 -- ---- a bound from comparisons
 pub at-most : (a b : ℕ) (t : Bool) → T (ltb a b || (eqb a b && t)) → a ≤ b

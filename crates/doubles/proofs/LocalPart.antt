@@ -1,15 +1,14 @@
 -- A double from 0 to 1, multiplied by k and split into a whole part below k and the rest: the rest lies in 0 to 1. Assumes nothing.
 use mathlib.Core.Path.{_≡_, refl, sym, ap, _∙_, subst}
-use mathlib.Core.Logic.{_⊎_, inl, inr}
 use mathlib.Core.Bool.{Bool, true, false, not, true≢false}
 use Prim.Native.Nat.{ℕ, zero, suc, _+_, _-_, _*_, _^_, _≤_, _<_}
-use native.Mathlib.Nat.{le-trans, le-of-eq, mul-one, one-mul, zero-mul, mul-le-mul, mul-le-mul-right, mul-comm, mul-assoc, mul-right-comm, mul-pos, add-mul, le-of-mul-le-mul-right}
+use native.Mathlib.Nat.{le-trans, le-of-eq, mul-one, one-mul, zero-mul, mul-le-mul, mul-comm, mul-assoc, mul-right-comm, mul-pos, add-mul, le-of-mul-le-mul-right}
 use native.Mathlib.Numerals.{add-one}
 use native.Mathlib.Omega.{arith}
 use lib.IntN.{ℤ, pos}
-use lib.Dec.{T, ltb, eqb, lit<, lit≤}
+use lib.Dec.{T, lit<, lit≤}
 use lib.Pow.{pow-pos}
-use lib.Ieee.{Float, nan, inf, fin, binary64, low, up, down, unlike, round, neg, sum, add, sub, mul, le, lt, eq, ofInt, isNan, fits}
+use lib.Ieee.{Float, nan, inf, fin, binary64, low, up, down, round, neg, sum, add, sub, mul, le, lt, eq, ofInt, isNan, fits}
 use lib.Ieee.Fits.{down-pos, mul-fits}
 use lib.Ieee.Exact.{HasValue, round-exact}
 use lib.Ieee.Back.{round-whole}
@@ -18,8 +17,8 @@ use lib.Ieee.Scale.{finite}
 use Rattle.doubles.specs.Numbers.{nought, one, clamp}
 use Rattle.doubles.specs.Whole.{double, wholeUpTo}
 use Rattle.doubles.proofs.Order.{branch, le-trans-float, lt→le, not-lt→le, zeros-le, zero-of}
-use Rattle.doubles.proofs.Bounds.{Within, times, within-finite, at-most, unit-within, whole-within}
-use Rattle.doubles.proofs.Units.{clear, units-of, sub-at, in-order}
+use Rattle.doubles.proofs.Bounds.{times, within-finite, at-most, unit-within, whole-within}
+use Rattle.doubles.proofs.Units.{units-of, sub-at, in-order}
 use Rattle.doubles.proofs.WholePart.{clash, refuted, double-mono, whole-le, skipped}
 
 gone : (a c : ℕ) → 0 < c → a * c ≡ 0 → a ≡ 0

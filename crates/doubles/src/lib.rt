@@ -8,7 +8,7 @@ pub mod whole;
 pub fn magnitude(x: f64) -> f64
     ensures { λ r. ⌜ r ≡ magnitudeOf x ⌝ }
 {
-    if x < 0.0 { -x } else { x }
+    if 0.0 > x { -x } else { x }
 }
 
 pub fn clamped(x: f64) -> f64

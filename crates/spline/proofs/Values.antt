@@ -2,7 +2,7 @@
 use mathlib.Core.Path.{_≡_, refl, sym, subst}
 use mathlib.Core.Bool.{Bool, not, _&&_}
 use mathlib.Core.List.{List}
-use Prim.Native.Nat.{ℕ, _+_, _-_, _*_, _/_, _≤_, _<_}
+use Prim.Native.Nat.{ℕ, _+_, _-_, _*_, _≤_, _<_}
 use native.Mathlib.Nat.{le-trans}
 use native.Mathlib.Omega.{arith}
 use lib.Dec.{T, lit≤}
@@ -20,14 +20,12 @@ use Rattle.doubles.specs.Numbers.{nought, one}
 use Rattle.doubles.proofs.Bounds.{Within, times, within-finite, clamp-within, unit-within, whole-within}
 use Rattle.doubles.proofs.LocalPart.{InOne, clamp-in, local-in}
 use Rattle.doubles.proofs.WholePart.{whole-le}
-use Rattle.spline.specs.declared.Evaluated.{Evaluated}
 use Rattle.spline.specs.declared.Evaluated.the-variants.{Value, Refused}
-use Rattle.spline.specs.Segment.{segmentValue, segmentSteps}
-use Rattle.spline.specs.Rows.{allInRange}
+use Rattle.spline.specs.Segment.{segmentSteps}
 use Rattle.spline.specs.Curve.{scaled, segmentAt, localAt, curveAt, curveValue}
 use Rattle.spline.specs.Evaluation.{splineUses, splineSegmentUses, evaluated, splineOf, splineSegmentOf}
 use Rattle.spline.proofs.Parts.{inside, few}
-use Rattle.spline.proofs.Verdicts.{Sound, curve-sound, SoundSegment, segment-sound}
+use Rattle.spline.proofs.Verdicts.{Sound, curve-sound, segment-sound}
 use Rattle.spline.proofs.Finite.{Finite, knots-within, segment-finite}
 
 -- the local t of a curve of up to 4,096 segments lies in 0 to 1

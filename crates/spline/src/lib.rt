@@ -1,6 +1,5 @@
 // Evaluation of a curve and of one segment. Rust: `spline` and `spline_segment` of src/spline_trait.rs.
 ghost use mathlib.Core.Path.{_≡_};
-ghost use lib.ListN.{length};
 ghost use Rattle.spline.specs.Evaluation.{splineOf, splineSegmentOf};
 use basis::Basis;
 use error::Refusal;

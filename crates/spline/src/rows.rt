@@ -1,7 +1,6 @@
 // The refusals of evaluation, apart from the computing; lengths and ranges serve the other calls too.
 ghost use mathlib.Core.Path.{_≡_};
 ghost use Prim.Native.Nat.{_≤_};
-ghost use lib.ListN.{length};
 ghost use Rattle.error.specs.Refusals.{first};
 ghost use Rattle.basis.specs.Basis.{regular};
 ghost use Rattle.spline.specs.Rows.{inRange, allInRange, curveLength, segmentLength};

@@ -1,16 +1,8 @@
 use borrow.Author.Needs.{needs}
 use Prim.Native.Nat.{_-_}
-use native.Mathlib.Omega.{arith}
 use borrow.Author.Needs.{needs}
 use Rattle.bad_input.proofs.curve_lengths.Statement.{statement}
 use Rattle.bad_input.proofs.curve_lengths.Tie as tie
-use Rattle.bad_input.proofs.curve_lengths.Reads as reads
-use Rattle.bad_input.proofs.curve_lengths.Lts as lts
-use Rattle.bad_input.proofs.put.Reads as put-reads
-use Rattle.bad_input.proofs.put_name.Reads as put-name-reads
-use Rattle.bad_input.proofs.put_reply.Reads as put-reply-reads
-use Rattle.io.proofs.print_decimal.Reads as print-decimal-reads
-use Rattle.spline.proofs.spline.Reads as spline-reads
 
 abbrev Inv-loop : tie.InvT-loop
 Inv-loop b from end knots n₀ t6 n = Unit

@@ -3,9 +3,6 @@ use Prim.Native.Nat.{_≤_, _-_}
 use borrow.Author.Needs.{needs}
 use Rattle.bad_input.proofs.knots.Statement.{statement}
 use Rattle.bad_input.proofs.knots.Tie as tie
-use Rattle.bad_input.proofs.knots.Reads as reads
-use Rattle.bad_input.proofs.knots.Lts as lts
-use Rattle.bad_input.proofs.knot_at.Reads as knot-at-reads
 
 abbrev Inv-loop : tie.InvT-loop
 Inv-loop b v i₀ i = i ≤ 16

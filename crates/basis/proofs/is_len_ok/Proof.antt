@@ -2,9 +2,6 @@ use borrow.Author.Tests.{lt-leb, le-leb}
 use borrow.Author.Needs.{needs}
 use Rattle.basis.proofs.is_len_ok.Statement.{statement}
 use Rattle.basis.proofs.is_len_ok.Tie as tie
-use Rattle.basis.proofs.is_len_ok.Reads as reads
-use Rattle.basis.proofs.is_len_ok.Lts as lts
-use Rattle.basis.proofs.step.Reads as step-reads
 
 returns : tie.Need-returns
 returns c = simp (lt-leb 4 (c .before .args .n) (c .if1 .taken))

@@ -4,10 +4,6 @@ use Rattle.spline.proofs.Verdicts.{curve-sound}
 use borrow.Author.Needs.{needs}
 use Rattle.spline.proofs.spline.Statement.{statement}
 use Rattle.spline.proofs.spline.Tie as tie
-use Rattle.spline.proofs.spline.Reads as reads
-use Rattle.spline.proofs.spline.Lts as lts
-use Rattle.spline.proofs.curve.curve_value.Reads as curve-value-reads
-use Rattle.spline.proofs.rows.curve_verdict.Reads as curve-verdict-reads
 
 curve-verdict-requires : tie.Need-curve-verdict-requires
 curve-verdict-requires c κs = search needs

@@ -5,10 +5,6 @@ use Rattle.spline.proofs.Verdicts.{segment-sound}
 use borrow.Author.Needs.{needs}
 use Rattle.spline.proofs.spline_segment.Statement.{statement}
 use Rattle.spline.proofs.spline_segment.Tie as tie
-use Rattle.spline.proofs.spline_segment.Reads as reads
-use Rattle.spline.proofs.spline_segment.Lts as lts
-use Rattle.spline.proofs.rows.segment_verdict.Reads as segment-verdict-reads
-use Rattle.spline.proofs.segment.segment_value.Reads as segment-value-reads
 
 segment-verdict-requires : tie.Need-segment-verdict-requires
 segment-verdict-requires c κs = search needs

@@ -1,14 +1,6 @@
 use borrow.Author.Needs.{needs}
 use Rattle.basis.proofs.basis_macros.matrix.Statement.{statement}
 use Rattle.basis.proofs.basis_macros.matrix.Tie as tie
-use Rattle.basis.proofs.basis_macros.matrix.Reads as reads
-use Rattle.basis.proofs.basis_macros.matrix.Lts as lts
-use Rattle.basis.proofs.basis_macros.bezier.Reads as bezier-reads
-use Rattle.basis.proofs.basis_macros.bspline.Reads as bspline-reads
-use Rattle.basis.proofs.basis_macros.catmull_rom.Reads as catmull-rom-reads
-use Rattle.basis.proofs.basis_macros.hermite.Reads as hermite-reads
-use Rattle.basis.proofs.basis_macros.linear.Reads as linear-reads
-use Rattle.basis.proofs.basis_macros.power.Reads as power-reads
 
 enum-told : tie.Need-enum-told
 enum-told c = search needs

@@ -6,9 +6,6 @@ use lib.Ieee.{Float, le}
 use Rattle.doubles.proofs.WholePart.{Halving, begun, raised, lowered, met}
 use Rattle.doubles.proofs.whole.by_halving.Statement.{statement}
 use Rattle.doubles.proofs.whole.by_halving.Tie as tie
-use Rattle.doubles.proofs.whole.by_halving.Reads as reads
-use Rattle.doubles.proofs.whole.by_halving.Lts as lts
-use Rattle.doubles.proofs.whole.double_of.Reads as double-of-reads
 
 abbrev Inv-loop : tie.InvT-loop
 Inv-loop m y low₀ high₀ low high = Halving m y low high

@@ -5,9 +5,6 @@ use Rattle.doubles.proofs.Order.{no-nan}
 use borrow.Author.Needs.{needs}
 use Rattle.doubles.proofs.whole.guess.Statement.{statement}
 use Rattle.doubles.proofs.whole.guess.Tie as tie
-use Rattle.doubles.proofs.whole.guess.Reads as reads
-use Rattle.doubles.proofs.whole.guess.Lts as lts
-use Rattle.std.proofs.num.wrapping_sub_u64.Reads as wrapping-sub-u64-reads
 
 returns : tie.Need-returns
 returns c = search needs

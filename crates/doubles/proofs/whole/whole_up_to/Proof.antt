@@ -2,12 +2,6 @@ use Rattle.doubles.proofs.WholePart.{confirmed, answered}
 use borrow.Author.Needs.{needs}
 use Rattle.doubles.proofs.whole.whole_up_to.Statement.{statement}
 use Rattle.doubles.proofs.whole.whole_up_to.Tie as tie
-use Rattle.doubles.proofs.whole.whole_up_to.Reads as reads
-use Rattle.doubles.proofs.whole.whole_up_to.Lts as lts
-use Rattle.doubles.proofs.whole.by_halving.Reads as by-halving-reads
-use Rattle.doubles.proofs.whole.double_of.Reads as double-of-reads
-use Rattle.doubles.proofs.whole.guess.Reads as guess-reads
-use Rattle.doubles.proofs.whole.lesser.Reads as lesser-reads
 
 guess-requires : tie.Need-guess-requires
 guess-requires c κs = search needs

@@ -5,13 +5,6 @@ use Rattle.spline.proofs.Parts.{rest, inside, few, put-together}
 use borrow.Author.Needs.{needs}
 use Rattle.spline.proofs.curve.at.Statement.{statement}
 use Rattle.spline.proofs.curve.at.Tie as tie
-use Rattle.spline.proofs.curve.at.Reads as reads
-use Rattle.spline.proofs.curve.at.Lts as lts
-use Rattle.doubles.proofs.clamped.Reads as clamped-reads
-use Rattle.doubles.proofs.whole.double_of.Reads as double-of-reads
-use Rattle.doubles.proofs.whole.whole_up_to.Reads as whole-up-to-reads
-use Rattle.spline.proofs.segment.horner.Reads as horner-reads
-use Rattle.spline.proofs.segment.sums.Reads as sums-reads
 
 sub-k : tie.Need-sub-k
 sub-k c = search needs

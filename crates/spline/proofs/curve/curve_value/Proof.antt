@@ -2,15 +2,6 @@ use Rattle.spline.proofs.Parts.{by-basis}
 use borrow.Author.Needs.{needs}
 use Rattle.spline.proofs.curve.curve_value.Statement.{statement}
 use Rattle.spline.proofs.curve.curve_value.Tie as tie
-use Rattle.spline.proofs.curve.curve_value.Reads as reads
-use Rattle.spline.proofs.curve.curve_value.Lts as lts
-use Rattle.basis.proofs.basis_macros.bezier.Reads as bezier-reads
-use Rattle.basis.proofs.basis_macros.bspline.Reads as bspline-reads
-use Rattle.basis.proofs.basis_macros.catmull_rom.Reads as catmull-rom-reads
-use Rattle.basis.proofs.basis_macros.hermite.Reads as hermite-reads
-use Rattle.basis.proofs.basis_macros.linear.Reads as linear-reads
-use Rattle.basis.proofs.basis_macros.power.Reads as power-reads
-use Rattle.spline.proofs.curve.at.Reads as at-reads
 
 enum-told : tie.Need-enum-told
 enum-told c = search needs

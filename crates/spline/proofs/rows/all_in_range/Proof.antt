@@ -8,9 +8,6 @@ use lib.ListN.{length, drop}
 use Rattle.spline.specs.Rows.{allInRange}
 use Rattle.spline.proofs.rows.all_in_range.Statement.{statement}
 use Rattle.spline.proofs.rows.all_in_range.Tie as tie
-use Rattle.spline.proofs.rows.all_in_range.Reads as reads
-use Rattle.spline.proofs.rows.all_in_range.Lts as lts
-use Rattle.spline.proofs.rows.in_range.Reads as in-range-reads
 
 abbrev Inv-loop : tie.InvT-loop
 Inv-loop knots good₀ i₀ i-end good i = (i ≤ length knots) × ((good && allInRange (drop i knots)) ≡ allInRange knots)

@@ -3,9 +3,6 @@ use borrow.Author.Tests.{lt-ltb, le-ltb}
 use borrow.Author.Needs.{needs}
 use Rattle.spline.proofs.rows.curve_length.Statement.{statement}
 use Rattle.spline.proofs.rows.curve_length.Tie as tie
-use Rattle.spline.proofs.rows.curve_length.Reads as reads
-use Rattle.spline.proofs.rows.curve_length.Lts as lts
-use Rattle.spline.proofs.rows.is_regular.Reads as is-regular-reads
 
 returns : tie.Need-returns
 returns c = simp (lt-ltb (c .before .args .n) 4 (c .if1 .taken))

@@ -3,10 +3,6 @@ use Rattle.spline.proofs.Verdicts.{curve-stops, curve-number, curve-pas
 use borrow.Author.Needs.{needs}
 use Rattle.spline.proofs.rows.curve_verdict.Statement.{statement}
 use Rattle.spline.proofs.rows.curve_verdict.Tie as tie
-use Rattle.spline.proofs.rows.curve_verdict.Reads as reads
-use Rattle.spline.proofs.rows.curve_verdict.Lts as lts
-use Rattle.spline.proofs.rows.all_in_range.Reads as all-in-range-reads
-use Rattle.spline.proofs.rows.curve_length.Reads as curve-length-reads
 
 curve-length-requires : tie.Need-curve-length-requires
 curve-length-requires c κs = search needs

@@ -1,10 +1,7 @@
-use borrow.Author.Needs.{needs}
 use lib.Ieee.{ofBits, neg}
 use Rattle.spline.specs.Rows.{inRange}
 use Rattle.spline.proofs.rows.in_range.Statement.{statement}
 use Rattle.spline.proofs.rows.in_range.Tie as tie
-use Rattle.spline.proofs.rows.in_range.Reads as reads
-use Rattle.spline.proofs.rows.in_range.Lts as lts
 
 returns : tie.Need-returns
 unfolding inRange ofBits neg

@@ -2,8 +2,6 @@ use native.Mathlib.Nat.{mod-one}
 use borrow.Author.Needs.{needs}
 use Rattle.spline.proofs.rows.is_regular.Statement.{statement}
 use Rattle.spline.proofs.rows.is_regular.Tie as tie
-use Rattle.spline.proofs.rows.is_regular.Reads as reads
-use Rattle.spline.proofs.rows.is_regular.Lts as lts
 
 sub-m : tie.Need-sub-m
 sub-m c = search needs

@@ -1,9 +1,6 @@
-use borrow.Author.Needs.{needs}
 use borrow.Author.Tests.{lt-ltb, le-ltb}
 use Rattle.spline.proofs.rows.segment_length.Statement.{statement}
 use Rattle.spline.proofs.rows.segment_length.Tie as tie
-use Rattle.spline.proofs.rows.segment_length.Reads as reads
-use Rattle.spline.proofs.rows.segment_length.Lts as lts
 
 returns : tie.Need-returns
 returns c = simp (lt-ltb (c .before .args .n) 4 (c .if1 .taken))

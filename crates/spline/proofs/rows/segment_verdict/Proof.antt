@@ -4,10 +4,6 @@ use Rattle.spline.proofs.Verdicts.{segment-stops, segment-below, segmen
 use borrow.Author.Needs.{needs}
 use Rattle.spline.proofs.rows.segment_verdict.Statement.{statement}
 use Rattle.spline.proofs.rows.segment_verdict.Tie as tie
-use Rattle.spline.proofs.rows.segment_verdict.Reads as reads
-use Rattle.spline.proofs.rows.segment_verdict.Lts as lts
-use Rattle.spline.proofs.rows.all_in_range.Reads as all-in-range-reads
-use Rattle.spline.proofs.rows.segment_length.Reads as segment-length-reads
 
 segment-length-requires : tie.Need-segment-length-requires
 segment-length-requires c κs = search needs

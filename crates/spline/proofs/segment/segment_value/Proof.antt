@@ -4,10 +4,6 @@ use Rattle.spline.specs.Segment.{hornerOf}
 use borrow.Author.Needs.{needs}
 use Rattle.spline.proofs.segment.segment_value.Statement.{statement}
 use Rattle.spline.proofs.segment.segment_value.Tie as tie
-use Rattle.spline.proofs.segment.segment_value.Reads as reads
-use Rattle.spline.proofs.segment.segment_value.Lts as lts
-use Rattle.spline.proofs.segment.horner.Reads as horner-reads
-use Rattle.spline.proofs.segment.weights.Reads as weights-reads
 
 weights-requires : tie.Need-weights-requires
 weights-requires c κs = search needs

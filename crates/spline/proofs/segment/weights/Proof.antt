@@ -1,15 +1,6 @@
 use borrow.Author.Needs.{needs}
 use Rattle.spline.proofs.segment.weights.Statement.{statement}
 use Rattle.spline.proofs.segment.weights.Tie as tie
-use Rattle.spline.proofs.segment.weights.Reads as reads
-use Rattle.spline.proofs.segment.weights.Lts as lts
-use Rattle.basis.proofs.basis_macros.bezier.Reads as bezier-reads
-use Rattle.basis.proofs.basis_macros.bspline.Reads as bspline-reads
-use Rattle.basis.proofs.basis_macros.catmull_rom.Reads as catmull-rom-reads
-use Rattle.basis.proofs.basis_macros.hermite.Reads as hermite-reads
-use Rattle.basis.proofs.basis_macros.linear.Reads as linear-reads
-use Rattle.basis.proofs.basis_macros.power.Reads as power-reads
-use Rattle.spline.proofs.segment.sums.Reads as sums-reads
 
 enum-told : tie.Need-enum-told
 enum-told c = search needs
