@@ -221,3 +221,13 @@ module _ (e : Ends) (ev : Evaluations) (g : ℕ → Float → Float) (k : ℕ) (
   -- and everywhere there: so a segment that is entered is never refused
   pub off-where : Silent e ev g k y ε limit → NoneHolds e ev g k y ε limit → (n : ℕ) × (located e ev g k y ε limit ≡ OffCurve n)
   off-where = told-nowhere (located e ev g k y ε limit) (located-told e ev g k y ε limit some fits numbers)
+
+  told-place : (r : Inverted) → Told e ev g k y ε limit r → Silent e ev g k y ε limit → Supposed e ev g k y ε limit → (s : ℕ) → s < k → T (Holds g y k s) → (p : Place) × (r ≡ At p)
+  told-place _ (at-low h) q S s l H = absurd (T-not (atLow e y) (q .0) h)
+  told-place _ (at-high p h) q S s l H = absurd (T-not (atHigh e y) (q .1) h)
+  told-place _ (entered {p} _ r) q S s l H = (p, refl)
+  told-place _ (nowhere _ _ N) q S s l H = absurd (T-not (Holds g y k s) (N S s l) H)
+
+  -- where some segment's ends enclose the target, the answer is a place
+  pub place-where : Silent e ev g k y ε limit → Supposed e ev g k y ε limit → (s : ℕ) → s < k → T (Holds g y k s) → (p : Place) × (located e ev g k y ε limit ≡ At p)
+  place-where = told-place (located e ev g k y ε limit) (located-told e ev g k y ε limit some fits numbers)

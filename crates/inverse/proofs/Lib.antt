@@ -5,3 +5,7 @@ pub mod Calls
 pub mod Scan
 pub mod Below
 pub mod Verdicts
+pub mod TurnsBack
+pub mod Promises
+pub mod Refusals
+pub mod InOrder

@@ -1,0 +1,52 @@
+-- Up to 12 segments: the first in order whose ends enclose the target is the one entered. Assumes nothing.
+use mathlib.Core.Path.{_≡_, refl, sym, ap, _∙_}
+use mathlib.Core.Bool.{Bool, not, cond}
+use mathlib.Core.List.{List, []}
+use Prim.Native.Nat.{ℕ, suc, _+_, _-_, _≤_, _<_}
+use lib.Dec.{T}
+use lib.ListN.{length}
+use lib.Ieee.{Float}
+use lib.Ieee.Bits.{is-false}
+use Rattle.basis.specs.declared.Basis.{Basis}
+use Rattle.basis.specs.Basis.{segmentsOf}
+use Rattle.spline.specs.Segment.{segmentOf}
+use Rattle.invert.specs.declared.Place.{Place}
+use Rattle.invert.specs.declared.Inverted.{Inverted}
+use Rattle.invert.specs.declared.Inverted.the-variants.{At}
+use Rattle.invert.specs.Rounds.{Placed}
+use Rattle.invert.specs.Segment.{Outcome, placed}
+use Rattle.invert.specs.Answer.{answered}
+use Rattle.search.proofs.Found.{Holds, Nothing}
+use Rattle.search.proofs.First.{first-entered}
+use Rattle.search.proofs.Sound.{SoundIn, enters-sound}
+use Rattle.inverse.specs.EndRule.{atLow, atHigh, knotEnds}
+use Rattle.inverse.specs.Curve.{parameterOf, located}
+use Rattle.inverse.specs.Inverse.{inverseOf}
+use Rattle.inverse.proofs.Curve.{curve-numbers}
+use Rattle.inverse.proofs.Verdicts.{admitted}
+use Rattle.inverse.proofs.Promises.{Pass, Quiet}
+
+module _ (b : Basis) (y : Float) (ks : List Float) (check : Bool) (limit : ℕ) (ε : Float) where
+  abbrev k : ℕ
+  k = segmentsOf b (length ks)
+
+  -- the answer is a place in segment s
+  abbrev pub In : ℕ → Inverted → Type 0
+  In s r = (p : Place) × (r ≡ At p) × (p .segment ≡ s)
+
+  placed-in : (s : ℕ) (o : Outcome) (p : Placed) → o ≡ placed p → p .segment ≡ s → In s (answered (parameterOf k) o)
+  placed-in s o p e q = (_, ap (answered (parameterOf k)) e, q)
+
+  located-first : Pass b y ks check limit ε → Quiet b y ks check limit ε → k ≤ 12 → (s : ℕ) → s < k → T (Holds (segmentOf b ks) y k s) → Nothing (segmentOf b ks) y k 0 s
+      → In s (located (knotEnds b ks) [] (segmentOf b ks) k y ε limit)
+  unfolding located
+  located-first v q f s l H N =
+      let a = admitted b y ks check limit ε v in
+      let t = first-entered (segmentOf b ks) y ε limit k (knotEnds b ks .rising) s [] f l H N in
+      let u = enters-sound (segmentOf b ks) y ε limit k (curve-numbers b y ks (a .long) (a .number) (a .in-range)) s (t .0) l H in
+      simp (is-false (atLow (knotEnds b ks) y) (q .0), is-false (atHigh (knotEnds b ks) y) (q .1)) (placed-in s _ (u .0) (t .2 ∙ u .1) (u .2 .1))
+
+  -- h
+  pub inverse-first-entered : Pass b y ks check limit ε → Quiet b y ks check limit ε → k ≤ 12 → (s : ℕ) → s < k → T (Holds (segmentOf b ks) y k s) → Nothing (segmentOf b ks) y k 0 s → In s (inverseOf b y ks check limit ε)
+  unfolding inverseOf
+  inverse-first-entered v q f s l H N = rw v (located-first v q f s l H N)

@@ -1,0 +1,149 @@
+-- What the inversion of a curve promises on every input. b, y, ks, check, limit and ε are the call's arguments: basis, target, knots, order check yes or no, limit, precision. Assumes nothing.
+use mathlib.Core.Path.{_≡_, refl, sym, ap, _∙_, subst}
+use mathlib.Core.Bool.{Bool, true, false, not, cond, _&&_}
+use mathlib.Core.List.{List, []}
+use Prim.Native.Nat.{ℕ, suc, _+_, _*_, _≤_, _<_}
+use native.Mathlib.Nat.{le-trans}
+use native.Mathlib.Omega.{arith}
+use borrow.Author.Tests.{le-leb, lt-leb}
+use lib.Dec.{T, leb}
+use lib.ListN.{length}
+use lib.Ieee.{Float}
+use Rattle.error.specs.declared.Refusal.{Refusal}
+use Rattle.error.specs.declared.Verdict.{Verdict}
+use Rattle.error.specs.declared.Verdict.the-variants.{Passed, Failed}
+use Rattle.error.specs.Refusals.{first}
+use Rattle.basis.specs.declared.Basis.{Basis}
+use Rattle.basis.specs.Basis.{segmentsOf}
+use Rattle.spline.specs.Segment.{segmentOf}
+use Rattle.invert.specs.declared.Place.{Place}
+use Rattle.invert.specs.declared.Inverted.{Inverted}
+use Rattle.invert.specs.declared.Inverted.the-variants.{Refused, OffCurve, At}
+use Rattle.invert.specs.Agreed.{Agreed}
+use Rattle.invert.specs.Evaluations.{Evaluations}
+use Rattle.invert.specs.Answer.{inverted, countTold}
+use Rattle.invert.proofs.Enclosing.{Numbers}
+use Rattle.search.specs.Bound.{bitsOf, boundOf}
+use Rattle.search.proofs.Found.{Holds}
+use Rattle.inverse.specs.EndRule.{knotEnds}
+use Rattle.inverse.specs.Curve.{located, evaluations}
+use Rattle.inverse.specs.Inverse.{inverseUses, inverseOf, unlessRefused, inverseEvaluations}
+use Rattle.inverse.proofs.Told.{Silent, NoneHolds, Supposed}
+use Rattle.inverse.proofs.Facts.{AtPlace, IfOff, Proper, Enclosed, GroundSays, count-is-length, none-unlisted, count-bounded, place-proper, place-enclosed, ground-says, off-only, off-where, place-where}
+use Rattle.inverse.proofs.Curve.{segments-some, segments-few, curve-numbers}
+use Rattle.inverse.proofs.Verdicts.{Admitted, admitted}
+
+with-pass : (P Q R : Type 0) (r : Inverted) → P → IfOff (Q × R) r → IfOff (P × Q × R) r
+with-pass P Q R (At p) e h = tt
+with-pass P Q R (OffCurve n) e h = (e, h .0, h .1)
+with-pass P Q R (Refused r) e h = tt
+
+module _ (b : Basis) (y : Float) (ks : List Float) (check : Bool) (limit : ℕ) (ε : Float) where
+  abbrev pub k : ℕ
+  k = segmentsOf b (length ks)
+
+  -- the answer past the refusals
+  abbrev pub here : Inverted
+  here = located (knotEnds b ks) [] (segmentOf b ks) (segmentsOf b (length ks)) y ε limit
+
+  -- no row of the refusal table applies
+  abbrev pub Pass : Type 0
+  Pass = first (inverseUses b y ks check limit ε) ≡ Passed
+
+  -- the end rule is silent
+  abbrev pub Quiet : Type 0
+  Quiet = Silent (knotEnds b ks) [] (segmentOf b ks) k y ε limit
+
+  -- no segment's ends enclose the target
+  abbrev pub Nowhere : Type 0
+  Nowhere = NoneHolds (knotEnds b ks) [] (segmentOf b ks) k y ε limit
+
+  -- above 12 segments: evaluated starts, and ends, never turn against the knots' direction, and no start lies past its own end
+  abbrev pub Premise : Type 0
+  Premise = Supposed (knotEnds b ks) [] (segmentOf b ks) k y ε limit
+
+  by-verdict : (P : Inverted → Type 0) → ((r : Refusal) → P (Refused r)) → (Admitted b y ks check → P here) → P (inverseOf b y ks check limit ε)
+  unfolding inverseOf
+  by-verdict P f h = go (first (inverseUses b y ks check limit ε)) refl
+    where
+      go : (v : Verdict) → first (inverseUses b y ks check limit ε) ≡ v → P (inverted v here)
+      go Passed e = h (admitted b y ks check limit ε e)
+      go (Failed r) e = f r
+
+  numbers : Admitted b y ks check → (s : ℕ) → s < k → Numbers (segmentOf b ks s) y
+  numbers a = curve-numbers b y ks (a .long) (a .number) (a .in-range)
+
+  fits : Admitted b y ks check → k ≤ 4093
+  fits a = segments-few b (length ks) (a .short)
+
+  some : 0 < k
+  some = segments-some b (length ks)
+
+  -- ---- a: the list of evaluations
+  -- the count is its length
+  pub inverse-count : countTold (inverseOf b y ks check limit ε) ≡ length (inverseEvaluations b y ks check limit ε)
+  unfolding inverseOf inverseEvaluations
+  inverse-count = go (first (inverseUses b y ks check limit ε))
+    where
+      go : (v : Verdict) → countTold (inverted v here) ≡ length (unlessRefused v (evaluations (knotEnds b ks) [] (segmentOf b ks) k y ε limit))
+      go Passed = count-is-length (knotEnds b ks) [] (segmentOf b ks) k y ε limit
+      go (Failed r) = refl
+
+  -- it misses none: a curve h that agrees with this one at every listed place gets the same answer
+  pub inverse-unlisted : (h : ℕ → Float → Float) → Agreed (segmentOf b ks) h (inverseEvaluations b y ks check limit ε)
+      → inverseOf b y ks check limit ε ≡ inverted (first (inverseUses b y ks check limit ε)) (located (knotEnds b ks) [] h k y ε limit)
+  unfolding inverseOf inverseEvaluations
+  inverse-unlisted h = go (first (inverseUses b y ks check limit ε))
+    where
+      go : (v : Verdict) → Agreed (segmentOf b ks) h (unlessRefused v (evaluations (knotEnds b ks) [] (segmentOf b ks) k y ε limit)) → inverted v here ≡ inverted v (located (knotEnds b ks) [] h k y ε limit)
+      go Passed a = none-unlisted (knotEnds b ks) [] (segmentOf b ks) k y ε limit h a
+      go (Failed r) a = refl
+
+  -- a place and refusal 11 carry at most so many
+  pub inverse-bounded : countTold (inverseOf b y ks check limit ε) ≤ boundOf k limit
+  inverse-bounded = by-verdict (λ r. countTold r ≤ boundOf k limit) (λ r. omega arith) (λ a. le-trans (count-bounded (knotEnds b ks) [] (segmentOf b ks) k y ε limit some (fits a) (numbers a)) (omega arith))
+
+  pub few-bound : k ≤ 12 → boundOf k limit ≡ limit + 26
+  few-bound h = rw (le-leb k 12 h)
+
+  pub many-bound : 12 < k → boundOf k limit ≡ limit + 2 * bitsOf k + 6
+  many-bound h = rw (lt-leb k 12 h)
+
+  -- ---- b: parameter, local place and both bracket ends lie in 0 to 1, lower not above upper
+  pub inverse-proper : AtPlace Proper (inverseOf b y ks check limit ε)
+  inverse-proper = by-verdict (AtPlace Proper) (λ r. tt) (λ a. place-proper (knotEnds b ks) [] (segmentOf b ks) k y ε limit some (fits a) (numbers a))
+
+  -- ---- c: where a segment was entered, its values at the two bracket ends enclose the target, and so do those at its own ends
+  pub inverse-enclosed : AtPlace (λ p. Enclosed (knotEnds b ks) [] (segmentOf b ks) k y ε limit (p .ground) p) (inverseOf b y ks check limit ε)
+  inverse-enclosed =
+      by-verdict (AtPlace (λ p. Enclosed (knotEnds b ks) [] (segmentOf b ks) k y ε limit (p .ground) p)) (λ r. tt) (λ a. place-enclosed (knotEnds b ks) [] (segmentOf b ks) k y ε limit some (fits a) (numbers a))
+
+  -- ---- d: what the ground says
+  pub inverse-ground : AtPlace (λ p. GroundSays (knotEnds b ks) [] (segmentOf b ks) k y ε limit (p .ground) p) (inverseOf b y ks check limit ε)
+  inverse-ground =
+      by-verdict (AtPlace (λ p. GroundSays (knotEnds b ks) [] (segmentOf b ks) k y ε limit (p .ground) p)) (λ r. tt) (λ a. ground-says (knotEnds b ks) [] (segmentOf b ks) k y ε limit some (fits a) (numbers a))
+
+  -- ---- e: where some segment's ends enclose the target, and the end rule is silent, a segment is entered and not refused
+  pub inverse-entered : Pass → Quiet → Premise
+      → (s : ℕ) → s < k → T (Holds (segmentOf b ks) y k s) → (p : Place) × (inverseOf b y ks check limit ε ≡ At p)
+  unfolding inverseOf
+  inverse-entered v q S s l H =
+      let a = admitted b y ks check limit ε v in
+      rw v (place-where (knotEnds b ks) [] (segmentOf b ks) k y ε limit some (fits a) (numbers a) q S s l H)
+
+  -- ---- f: refusal 11 only where no row applies, the end rule is silent and no segment's ends enclose the target
+  pub inverse-off-only : IfOff (Pass × Quiet × (Premise → Nowhere)) (inverseOf b y ks check limit ε)
+  unfolding inverseOf
+  inverse-off-only = go (first (inverseUses b y ks check limit ε)) refl
+    where
+      go : (v : Verdict) → first (inverseUses b y ks check limit ε) ≡ v → IfOff (Pass × Quiet × (Premise → Nowhere)) (inverted v here)
+      go Passed e = let a = admitted b y ks check limit ε e in with-pass Pass Quiet (Premise → Nowhere) here e (off-only (knotEnds b ks) [] (segmentOf b ks) k y ε limit some (fits a) (numbers a))
+      go (Failed r) e = tt
+
+  -- and everywhere there
+  pub inverse-off-where : Pass → Quiet → Nowhere
+      → (n : ℕ) × (inverseOf b y ks check limit ε ≡ OffCurve n)
+  unfolding inverseOf
+  inverse-off-where v q N =
+      let a = admitted b y ks check limit ε v in
+      rw v (off-where (knotEnds b ks) [] (segmentOf b ks) k y ε limit some (fits a) (numbers a) q N)
