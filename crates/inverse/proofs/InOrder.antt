@@ -1,8 +1,8 @@
 -- Up to 12 segments: the first in order whose ends enclose the target is the one entered. Assumes nothing.
-use mathlib.Core.Path.{_≡_, refl, sym, ap, _∙_}
-use mathlib.Core.Bool.{Bool, not, cond}
+use mathlib.Core.Path.{_≡_, ap, _∙_}
+use mathlib.Core.Bool.{Bool}
 use mathlib.Core.List.{List, []}
-use Prim.Native.Nat.{ℕ, suc, _+_, _-_, _≤_, _<_}
+use Prim.Native.Nat.{ℕ, _≤_, _<_}
 use lib.Dec.{T}
 use lib.ListN.{length}
 use lib.Ieee.{Float}
@@ -18,7 +18,7 @@ use Rattle.invert.specs.Segment.{Outcome, placed}
 use Rattle.invert.specs.Answer.{answered}
 use Rattle.search.proofs.Found.{Holds, Nothing}
 use Rattle.search.proofs.First.{first-entered}
-use Rattle.search.proofs.Sound.{SoundIn, enters-sound}
+use Rattle.search.proofs.Sound.{enters-sound}
 use Rattle.inverse.specs.EndRule.{atLow, atHigh, knotEnds}
 use Rattle.inverse.specs.Curve.{parameterOf, located}
 use Rattle.inverse.specs.Inverse.{inverseOf}

@@ -9,3 +9,4 @@ pub mod TurnsBack
 pub mod Promises
 pub mod Refusals
 pub mod InOrder
+pub mod Examples

@@ -1,12 +1,12 @@
 -- What the inversion of a curve promises on every input. b, y, ks, check, limit and ε are the call's arguments: basis, target, knots, order check yes or no, limit, precision. Assumes nothing.
-use mathlib.Core.Path.{_≡_, refl, sym, ap, _∙_, subst}
-use mathlib.Core.Bool.{Bool, true, false, not, cond, _&&_}
+use mathlib.Core.Path.{_≡_, refl, sym, subst}
+use mathlib.Core.Bool.{Bool}
 use mathlib.Core.List.{List, []}
-use Prim.Native.Nat.{ℕ, suc, _+_, _*_, _≤_, _<_}
+use Prim.Native.Nat.{ℕ, _+_, _*_, _≤_, _<_}
 use native.Mathlib.Nat.{le-trans}
 use native.Mathlib.Omega.{arith}
 use borrow.Author.Tests.{le-leb, lt-leb}
-use lib.Dec.{T, leb}
+use lib.Dec.{T}
 use lib.ListN.{length}
 use lib.Ieee.{Float}
 use Rattle.error.specs.declared.Refusal.{Refusal}
@@ -20,7 +20,6 @@ use Rattle.invert.specs.declared.Place.{Place}
 use Rattle.invert.specs.declared.Inverted.{Inverted}
 use Rattle.invert.specs.declared.Inverted.the-variants.{Refused, OffCurve, At}
 use Rattle.invert.specs.Agreed.{Agreed}
-use Rattle.invert.specs.Evaluations.{Evaluations}
 use Rattle.invert.specs.Answer.{inverted, countTold}
 use Rattle.invert.proofs.Enclosing.{Numbers}
 use Rattle.search.specs.Bound.{bitsOf, boundOf}
@@ -147,3 +146,15 @@ module _ (b : Basis) (y : Float) (ks : List Float) (check : Bool) (limit : ℕ) 
   inverse-off-where v q N =
       let a = admitted b y ks check limit ε v in
       rw v (off-where (knotEnds b ks) [] (segmentOf b ks) k y ε limit some (fits a) (numbers a) q N)
+
+  -- ---- all of these of a reply r, as the call's contract gives it
+  pub record Promised (r : Inverted) : Type 0 where
+    pub count : countTold r ≡ length (inverseEvaluations b y ks check limit ε)
+    pub bounded : countTold r ≤ boundOf k limit
+    pub proper : AtPlace Proper r
+    pub enclosed : AtPlace (λ p. Enclosed (knotEnds b ks) [] (segmentOf b ks) k y ε limit (p .ground) p) r
+    pub ground : AtPlace (λ p. GroundSays (knotEnds b ks) [] (segmentOf b ks) k y ε limit (p .ground) p) r
+    pub off-only : IfOff (Pass × Quiet × (Premise → Nowhere)) r
+
+  pub reply-promised : (r : Inverted) → r ≡ inverseOf b y ks check limit ε → Promised r
+  reply-promised r e = subst Promised (sym e) (record { count = inverse-count; bounded = inverse-bounded; proper = inverse-proper; enclosed = inverse-enclosed; ground = inverse-ground; off-only = inverse-off-only })

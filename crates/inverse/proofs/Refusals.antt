@@ -1,9 +1,8 @@
 -- Which refusal the inversion of a curve gives, and when it says that the knots turn back. Assumes nothing.
-use mathlib.Core.Path.{_≡_, refl, sym, ap, _∙_, subst}
-use mathlib.Core.Bool.{Bool, true, false, not, cond, _&&_}
+use mathlib.Core.Path.{_≡_, refl, ap, _∙_, subst}
+use mathlib.Core.Bool.{Bool, true, _&&_}
 use mathlib.Core.List.{List, [], _∷_}
-use Prim.Native.Nat.{ℕ, _-_}
-use native.Mathlib.Omega.{arith}
+use Prim.Native.Nat.{ℕ}
 use lib.Dec.{T}
 use lib.ListN.{length}
 use lib.Ieee.{Float}
@@ -17,7 +16,6 @@ use Rattle.error.specs.Refusals.{Uses, applies, rows, firstOf, first, andThen}
 use Rattle.error.proofs.First.{First, here, there, None, first-sound, first-complete, graft}
 use Rattle.basis.specs.declared.Basis.{Basis}
 use Rattle.basis.specs.Basis.{segmentsOf}
-use Rattle.doubles.specs.Numbers.{nought, one}
 use Rattle.doubles.proofs.Order.{branch}
 use Rattle.spline.specs.Segment.{segmentOf}
 use Rattle.invert.specs.declared.Inverted.{Inverted}

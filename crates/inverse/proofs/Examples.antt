@@ -1,0 +1,90 @@
+-- The premise on starts and ends, above 12 segments: a curve that meets it, and one that shows why it is asked. Assumes nothing.
+use mathlib.Core.Path.{_≡_, refl, subst}
+use mathlib.Core.Logic.{inl, inr}
+use mathlib.Core.Bool.{Bool, true, false, _&&_}
+use mathlib.Core.List.{List, [], _∷_}
+use Prim.Native.Nat.{ℕ, zero, suc, _*_, _<_}
+use native.Mathlib.Nat.{eq-or-lt-of-le}
+use native.Mathlib.Omega.{arith}
+use lib.Dec.{T}
+use lib.IntN.{pos}
+use lib.Ieee.{Float, binary64, ofInt, ofBits, round, add, sub, mul, div, lt, le, eq, ne, neg, isNan}
+use lib.Ieee.Fits.{and-l, and-r}
+use lib.Count.{leadingZeros}
+use Rattle.basis.specs.declared.Basis.the-variants.{Bspline, Power}
+use Rattle.basis.specs.Basis.{frac, row, matrixOf}
+use Rattle.doubles.specs.Numbers.{nought, one, half, magnitudeOf}
+use Rattle.doubles.specs.Lerp.{lerpOf}
+use Rattle.spline.specs.Segment.{segmentOf}
+use Rattle.spline.specs.Rows.{inRange, allInRange}
+use Rattle.invert.specs.declared.Inverted.the-variants.{OffCurve}
+use Rattle.invert.specs.Round.{narrow, halving, weighed, kept, fraction, moved, settled, probed, turn}
+use Rattle.invert.specs.Rounds.{rounds}
+use Rattle.invert.specs.Segment.{entered, inSegmentBy}
+use Rattle.invert.specs.Answer.{precise, defaultLimit, defaultPrecision}
+use Rattle.search.specs.Bound.{bitsOf}
+use Rattle.search.specs.Search.{tries, last, halve, find}
+use Rattle.search.proofs.Found.{Holds, Straight}
+use Rattle.inverse.specs.Order.{ordered}
+use Rattle.inverse.specs.Curve.{parameterOf, located}
+use Rattle.inverse.specs.Inverse.{inverseOf}
+
+-- ---- a test at every number below n
+each : (ℕ → Bool) → ℕ → Bool
+each t zero = true
+each t (suc n) = t n && each t n
+
+each-at : (t : ℕ → Bool) (n i : ℕ) → T (each t n) → i < n → T (t i)
+unfolding each
+each-at t zero i h l = absurd (omega arith)
+each-at t (suc n) i h l = elim (eq-or-lt-of-le {n = suc i} {m = suc n} l) [
+  | inl e ↦ let q : n ≡ i = omega arith in subst (λ (j : ℕ). T (t j)) q (and-l (t n) (each t n) h)
+  | inr m ↦ each-at t n i (and-r (t n) (each t n) h) (omega arith)
+]
+
+-- 6·a, 6·(a + 1), and so on
+sixes : ℕ → ℕ → List Float
+sixes a zero = []
+sixes a (suc n) = ofInt binary64 (pos (6 * a)) ∷ sixes (suc a) n
+
+-- ---- met: the B-spline 0, 0, 6, 12, … 84, of 13 segments
+pub steady : List Float
+unfolding sixes ofInt
+steady = nought ∷ sixes 0 15
+
+abbrev g : ℕ → Float → Float
+g = segmentOf Bspline steady
+
+starts : T (each (λ i. le (g i nought) (g (suc i) nought)) 12)
+unfolding each sixes steady matrixOf row frac round ofInt add mul lt le eq
+starts = tt
+
+ends : T (each (λ i. le (g i one) (g (suc i) one)) 12)
+unfolding each sixes steady matrixOf row frac round ofInt add mul lt le eq
+ends = tt
+
+own : T (each (λ i. le (g i nought) (g i one)) 13)
+unfolding each sixes steady matrixOf row frac round ofInt add mul lt le eq
+own = tt
+
+pub premise-met : Straight (segmentOf Bspline steady) half 13 true
+premise-met =
+    record {
+      starts = λ i l. each-at (λ i. le (g i nought) (g (suc i) nought)) 12 i starts (omega arith);
+      ends = λ i l. each-at (λ i. le (g i one) (g (suc i) one)) 12 i ends (omega arith);
+      own = λ i l. each-at (λ i. le (g i nought) (g i one)) 13 i own l;
+    }
+
+-- ---- needed: a Power curve of 13 segments, the first from 0 to 1, the last from 1 to 2, and 0 in between. Its ends turn back after the first;
+-- so the halving goes right past it, and refuses the target 1/2 after 12 evaluations, which the first segment's ends enclose
+zeros : ℕ → List Float → List Float
+zeros zero l = l
+zeros (suc n) l = nought ∷ zeros n l
+
+pub jumping : List Float
+unfolding zeros
+jumping = nought ∷ nought ∷ one ∷ nought ∷ zeros 44 (nought ∷ nought ∷ one ∷ one ∷ [])
+
+pub premise-needed : T (Holds (segmentOf Power jumping) half 13 0) × (inverseOf Power half jumping false defaultLimit defaultPrecision ≡ OffCurve 12)
+unfolding zeros jumping matrixOf row frac round ofInt ofBits add sub mul div lt le eq ne neg isNan inRange allInRange precise ordered bitsOf leadingZeros magnitudeOf lerpOf narrow halving weighed kept fraction moved settled probed turn rounds entered inSegmentBy tries last halve find parameterOf located inverseOf
+premise-needed = (tt, refl)
