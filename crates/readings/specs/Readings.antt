@@ -1,0 +1,202 @@
+-- The readings: one table, and one statement, `readings`, that the definitions give what it tells.
+use mathlib.Core.Path.{_≡_, refl}
+use mathlib.Core.Bool.{Bool, true, false}
+use mathlib.Core.List.{List, [], _∷_, _++_}
+use Prim.Native.Nat.{ℕ, zero, suc, _*_}
+use lib.Count.{leadingZeros}
+use lib.IntN.{pos}
+use lib.Ieee.{Float, binary64, ofBits, ofInt, round, add, sub, mul, div, lt, le, eq, neg, isNan}
+use Rattle.error.specs.Refusals.{numberOf}
+use Rattle.basis.specs.declared.Basis.{Basis}
+use Rattle.basis.specs.declared.Basis.the-variants.{Bspline, Bezier, CatmullRom, Hermite, Linear, Power}
+use Rattle.basis.specs.Basis.{matrixOf}
+use Rattle.doubles.specs.Numbers.{nought, one, half, magnitudeOf, clamp}
+use Rattle.doubles.specs.Lerp.{lerpOf}
+use Rattle.doubles.specs.Whole.{wholeUpTo}
+use Rattle.spline.specs.declared.Evaluated.{Evaluated}
+use Rattle.spline.specs.declared.Evaluated.the-variants as E
+use Rattle.spline.specs.Rows.{inRange, allInRange}
+use Rattle.spline.specs.Curve.{curveAt}
+use Rattle.spline.specs.Evaluation.{splineOf}
+use Rattle.invert.specs.declared.Ground.{Ground}
+use Rattle.invert.specs.declared.Ground.the-variants.{End, Edge, Value}
+use Rattle.invert.specs.declared.Inverted.{Inverted}
+use Rattle.invert.specs.declared.Inverted.the-variants as I
+use Rattle.invert.specs.Answer.{defaultLimit, defaultPrecision, precise}
+use Rattle.invert.specs.Round.{narrow, halving, weighed, kept, fraction, moved, settled, probed, turn}
+use Rattle.invert.specs.Rounds.{rounds}
+use Rattle.invert.specs.Segment.{entered, inSegmentBy}
+use Rattle.search.specs.Bound.{bitsOf}
+use Rattle.search.specs.Search.{tries, last, halve, find}
+use Rattle.inverse.specs.Order.{ordered}
+use Rattle.inverse.specs.Curve.{parameterOf, located}
+use Rattle.inverse.specs.Inverse.{inverseOf}
+use Rattle.convert.specs.Conversion.{Conversion, gives, refuses, convertedOf}
+
+-- ---- what a reading tells: a value or the knots, a place by its parameter, ground and count, or a refusal's number; 11 with its count
+pub data Told : Type 0 where
+  value : Float → Told
+  place : Float → Ground → ℕ → Told
+  knots : List Float → Told
+  refused : ℕ → Told
+  off : ℕ → Told
+
+abbrev ofEvaluated : Evaluated → Told
+ofEvaluated (E.Value x) = value x
+ofEvaluated (E.Refused r) = refused (numberOf r)
+
+abbrev ofInverted : Inverted → Told
+ofInverted (I.Refused r) = refused (numberOf r)
+ofInverted (I.OffCurve n) = off n
+ofInverted (I.At p) = place (p .parameter) (p .ground) (p .count)
+
+abbrev ofConversion : Conversion → Told
+ofConversion (gives l) = knots l
+ofConversion (refuses r) = refused (numberOf r)
+
+-- ---- a reading: what is asked, and what is told
+pub data Asked : Type 0 where
+  -- a curve's value at a parameter
+  at : Basis → List Float → Float → Asked
+  -- the place of a target: with the order check or without, to a precision
+  place-of : Basis → List Float → Float → Bool → Float → Asked
+  -- a knot vector in another basis
+  turned : Basis → Basis → List Float → Asked
+
+pub data Reading : Type 0 where
+  tells : Asked → Told → Reading
+
+abbrev answer : Asked → Told
+answer (at b ks x) = ofEvaluated (splineOf b x ks)
+answer (place-of b ks y check ε) = ofInverted (inverseOf b y ks check defaultLimit ε)
+answer (turned from to ks) = ofConversion (convertedOf from to ks 4096)
+
+-- each tells what is answered
+abbrev pub Hold : List Reading → Type 0
+Hold [] = Unit
+Hold (tells a t ∷ rs) = (answer a ≡ t) × Hold rs
+
+-- ---- doubles
+-- −0.4, 0.4, 0.9 and 1.9, by their bits
+abbrev minusFourTenths : Float
+minusFourTenths = ofBits binary64 0xbfd9_9999_9999_999a
+
+abbrev fourTenths : Float
+fourTenths = ofBits binary64 0x3fd9_9999_9999_999a
+
+abbrev nineTenths : Float
+nineTenths = ofBits binary64 0x3fec_cccc_cccc_cccd
+
+abbrev nineteenTenths : Float
+nineteenTenths = ofBits binary64 0x3ffe_6666_6666_6666
+
+-- each is the double nearest to its decimal
+pub decimals : (minusFourTenths ≡ round binary64 true 4 10) × (fourTenths ≡ round binary64 false 4 10) × (nineTenths ≡ round binary64 false 9 10) × (nineteenTenths ≡ round binary64 false 19 10)
+unfolding ofBits round
+decimals = (refl, refl, refl, refl)
+
+abbrev whole : ℕ → Float
+whole n = ofInt binary64 (pos n)
+
+abbrev eighth : Float
+eighth = round binary64 false 1 8
+
+abbrev quarter : Float
+quarter = round binary64 false 1 4
+
+-- 2^40, and the next double up
+abbrev bound : Float
+bound = ofBits binary64 0x4270_0000_0000_0000
+
+abbrev beyond : Float
+beyond = ofBits binary64 0x4270_0000_0000_0001
+
+copies : ℕ → Float → List Float
+copies zero x = []
+copies (suc n) x = x ∷ copies n x
+
+-- 6·i, 6·(i + 1), and so on
+sixes : ℕ → ℕ → List Float
+sixes i zero = []
+sixes i (suc n) = whole (6 * i) ∷ sixes (suc i) n
+
+-- ---- the table, in groups
+-- a value, and lengths and knots at their bounds
+pub values : List Reading
+unfolding copies
+values =
+    tells (at CatmullRom (minusFourTenths ∷ nought ∷ fourTenths ∷ half ∷ nineTenths ∷ one ∷ nineteenTenths ∷ []) quarter) (value (fourTenths))
+    ∷ tells (at Bezier (copies 4 one) half) (value one)
+    ∷ tells (at Bezier (copies 7 one) half) (value one)
+    ∷ tells (at Bezier (copies 3 one) half) (refused 1)
+    ∷ tells (at Bezier (copies 5 one) half) (refused 2)
+    ∷ tells (at Bezier (copies 11 one) half) (refused 2)
+    ∷ tells (at Linear (copies 4 bound) half) (value bound)
+    ∷ tells (at Linear (copies 4 beyond) half) (refused 4)
+    ∷ []
+
+-- the most knots, and one more
+pub longest : List Reading
+unfolding copies
+longest =
+    tells (at Linear (copies 4096 one) half) (value one)
+    ∷ tells (at Linear (copies 4097 one) half) (refused 3)
+    ∷ []
+
+-- places by value, edge and end, and the order check
+pub places : List Reading
+places =
+    tells (place-of Linear (nought ∷ nought ∷ half ∷ half ∷ []) quarter true defaultPrecision) (place half Value 5)
+    ∷ tells (place-of Linear (nought ∷ nought ∷ one ∷ one ∷ []) eighth true eighth) (place nought Edge 4)
+    ∷ tells (place-of Linear (nought ∷ nought ∷ one ∷ one ∷ []) quarter true eighth) (place quarter Value 5)
+    ∷ tells (place-of Bezier (nought ∷ half ∷ half ∷ one ∷ []) quarter false defaultPrecision) (place nought End 0)
+    ∷ tells (place-of Bezier (nought ∷ half ∷ half ∷ one ∷ []) quarter true defaultPrecision) (refused 10)
+    ∷ tells (place-of CatmullRom (nought ∷ nought ∷ whole 3 ∷ whole 2 ∷ whole 5 ∷ whole 5 ∷ []) one true defaultPrecision) (refused 10)
+    ∷ []
+
+-- a target that no segment encloses: 13 segments by halving, 12 in order
+pub halvings : List Reading
+unfolding sixes
+halvings =
+    tells (place-of Bspline (nought ∷ sixes 0 15) half true defaultPrecision) (off 10)
+    ∷ tells (place-of Bspline (nought ∷ sixes 0 14) half true defaultPrecision) (off 24)
+    ∷ []
+
+-- conversions; the last loses a slope at its seam
+pub conversions : List Reading
+conversions =
+    tells (turned Bezier Power (nought ∷ nought ∷ nought ∷ one ∷ [])) (knots (one ∷ nought ∷ nought ∷ nought ∷ []))
+    ∷ tells (turned Linear Power (whole 9 ∷ one ∷ whole 3 ∷ whole 9 ∷ [])) (knots (nought ∷ nought ∷ whole 2 ∷ one ∷ []))
+    ∷ tells (turned Bezier Hermite (nought ∷ nought ∷ nought ∷ nought ∷ one ∷ one ∷ one ∷ [])) (knots (nought ∷ nought ∷ nought ∷ nought ∷ one ∷ nought ∷ []))
+    ∷ []
+
+abbrev pub table : List Reading
+table = values ++ (longest ++ (places ++ (halvings ++ conversions)))
+
+-- ---- the statement
+values-hold : Hold values
+unfolding values splineOf inRange allInRange curveAt wholeUpTo clamp matrixOf ofBits ofInt round add sub mul lt le eq neg isNan
+values-hold = (refl, (refl, (refl, (refl, (refl, (refl, (refl, (refl, tt))))))))
+
+longest-hold : Hold longest
+unfolding longest splineOf inRange allInRange curveAt wholeUpTo clamp matrixOf ofBits ofInt round add sub mul lt le eq neg isNan
+longest-hold = (refl, (refl, tt))
+
+places-hold : Hold places
+unfolding places inverseOf located find tries last halve bitsOf inSegmentBy entered rounds turn probed settled moved fraction kept weighed halving narrow ordered precise parameterOf inRange allInRange magnitudeOf lerpOf matrixOf ofBits ofInt round add sub mul div lt le eq neg isNan leadingZeros
+places-hold = (refl, (refl, (refl, (refl, (refl, (refl, tt))))))
+
+halvings-hold : Hold halvings
+unfolding halvings inverseOf located find tries last halve bitsOf inSegmentBy entered rounds turn probed settled moved fraction kept weighed halving narrow ordered precise parameterOf inRange allInRange magnitudeOf lerpOf matrixOf ofBits ofInt round add sub mul div lt le eq neg isNan leadingZeros
+halvings-hold = (refl, (refl, tt))
+
+conversions-hold : Hold conversions
+unfolding conversions convertedOf inRange allInRange matrixOf ofBits ofInt round add sub mul div lt le eq neg isNan
+conversions-hold = (refl, (refl, (refl, tt)))
+
+both : (rs qs : List Reading) → Hold rs → Hold qs → Hold (rs ++ qs)
+both [] qs h k = k
+both (tells a t ∷ rs) qs h k = (h .0, both rs qs (h .1) k)
+
+pub readings : Hold table
+readings = both values _ values-hold (both longest _ longest-hold (both places _ places-hold (both halvings _ halvings-hold conversions-hold)))

@@ -1,0 +1,1 @@
+// Worked readings of evaluation, inversion and conversion, computed from the definitions: specs/Readings.antt.
