@@ -1,0 +1,199 @@
+//! `judge SIZE` compares the port with the crate and the model; SIZE is quick, long, or a number of rounds.
+
+use std::time::Instant;
+use std::{env, process, thread};
+
+use judge::compare;
+use judge::inputs::{self, Rng, AWKWARD, LIMITS, PRECISIONS, SEGMENTS};
+use judge::model::{Options, STEP};
+use judge::port::{self, UNTOUCHED, UNTOUCHED_WHOLE};
+use judge::tally::{Call, Tally, NO_BASIS};
+
+/// How much is run: awkward doubles in the exhaustive part, rounds of the random part.
+#[derive(Clone, Copy)]
+struct Size {
+    awkward: usize,
+    rounds: usize,
+}
+
+const DEFAULTS: Options = Options { check: true, limit: 32, precision: 1e-10 };
+
+fn main() {
+    let word = env::args().nth(1).unwrap_or_default();
+    let size = match word.as_str() {
+        "quick" => Size { awkward: 12, rounds: 6 },
+        "long" => Size { awkward: AWKWARD.len(), rounds: 120 },
+        n => match n.parse() {
+            Ok(rounds) => Size { awkward: AWKWARD.len(), rounds },
+            Err(_) => {
+                eprintln!("usage: judge quick | long | ROUNDS");
+                process::exit(2);
+            }
+        },
+    };
+    let start = Instant::now();
+    let workers = thread::available_parallelism().map_or(1, |n| n.get());
+    let mut tally = Tally::default();
+    thread::scope(|scope| {
+        let shares: Vec<_> = (0..workers).map(|w| scope.spawn(move || share(size, w, workers))).collect();
+        shares.into_iter().for_each(|s| tally.join(&s.join().unwrap()));
+    });
+    println!("{tally}");
+    println!("No difference. {} s.", start.elapsed().as_secs());
+}
+
+/// One worker's part of everything.
+fn share(size: Size, worker: usize, workers: usize) -> Tally {
+    let mut t = Tally::default();
+    if worker == 0 {
+        lengths(&mut t);
+        no_bases(&mut t);
+    }
+    let mut all = Vec::new();
+    for n in 0..4 {
+        all.clear();
+        each_tuple(&AWKWARD[..4], n, &mut all, &mut |cv| short(&mut t, cv, &AWKWARD[..6], worker, workers));
+    }
+    for n in 4..9 {
+        let of = [size.awkward, 8, 5, 4, 3][n - 4].min(size.awkward);
+        all.clear();
+        let ats = &AWKWARD[..if n == 4 { size.awkward } else { 12 }];
+        each_tuple(&AWKWARD[..of], n, &mut all, &mut |cv| short(&mut t, cv, ats, worker, workers));
+    }
+    let mut r = Rng(worker as u64 + 1);
+    for _ in 0..size.rounds {
+        for k in SEGMENTS {
+            for b in 0..6 {
+                random(&mut t, &mut r, b, k);
+            }
+        }
+    }
+    t
+}
+
+/// Every list of `n` of the doubles.
+fn each_tuple(of: &[f64], n: usize, so_far: &mut Vec<f64>, f: &mut impl FnMut(&[f64])) {
+    if so_far.len() == n {
+        return f(so_far);
+    }
+    for &d in of {
+        so_far.push(d);
+        each_tuple(of, n, so_far, f);
+        so_far.pop();
+    }
+}
+
+/// Everything that can be asked of these few knots.
+fn short(t: &mut Tally, knots: &[f64], ats: &[f64], worker: usize, workers: usize) {
+    let sum = knots.iter().fold(0u64, |h, k| (h ^ k.to_bits()).wrapping_mul(0x9E37_79B9_7F4A_7C15));
+    if (sum >> 40) as usize % workers != worker {
+        return;
+    }
+    for b in 0..6 {
+        for (i, &at) in ats.iter().enumerate() {
+            compare::spline(t, b, at, knots);
+            compare::spline_segment(t, b, at, knots);
+            let turn = (sum >> 20) as usize + i;
+            let other = Options {
+                check: turn % 2 == 0,
+                limit: LIMITS[turn % LIMITS.len()],
+                precision: PRECISIONS[turn / 2 % PRECISIONS.len()],
+            };
+            for o in [DEFAULTS, Options { check: false, ..DEFAULTS }, other] {
+                compare::spline_inverse(t, b, at, knots, &o);
+            }
+            compare::spline_inverse_segment(t, b, at, knots, &DEFAULTS);
+            compare::spline_inverse_segment(t, b, at, knots, &other);
+        }
+        for to in 0..6 {
+            let needed = 4 + knots.len().saturating_sub(4) / STEP[b] * STEP[to];
+            let room = [needed, needed + 3, needed - 1, 0][(sum >> 50) as usize % 4];
+            compare::convert_spline(t, b, to, knots, room);
+            compare::convert_segment(t, b, to, knots, [4, 5, 3, 0][(sum >> 52) as usize % 4]);
+        }
+    }
+}
+
+/// Curves of about `k` segments, whole and damaged.
+fn random(t: &mut Tally, r: &mut Rng, b: usize, k: usize) {
+    let n = 4 + (k - 1) * STEP[b];
+    let n = match r.below(8) {
+        0 => n + 1,
+        1 => n - 1,
+        2 => r.one_of(&[4095, 4096, 4097, 4100]),
+        _ => n,
+    };
+    let mut knots = Vec::new();
+    inputs::fill(r, n, &mut knots);
+    if r.below(3) == 0 {
+        inputs::damage(r, &mut knots);
+    }
+    let asked = 40_000 / (n + 100);
+    for _ in 0..asked.max(16) {
+        let x = inputs::parameter(r, k);
+        compare::spline(t, b, x, &knots);
+        let y = inputs::target(r, b, &knots);
+        compare::spline_inverse(t, b, y, &knots, &inputs::options(r));
+        compare::spline_inverse(t, b, y, &knots, &Options { check: r.below(2) == 0, ..DEFAULTS });
+        let s = r.below(knots.len().max(1));
+        let cv = &knots[s.min(knots.len())..(s + 4).min(knots.len())];
+        let y = inputs::target(r, b, cv);
+        let x = inputs::parameter(r, 1);
+        compare::spline_segment(t, b, x, cv);
+        compare::spline_inverse_segment(t, b, y, cv, &inputs::options(r));
+        compare::convert_segment(t, b, r.below(6), cv, 2 + r.below(4));
+    }
+    for to in 0..6 {
+        let needed = 4 + n.saturating_sub(4) / STEP[b] * STEP[to];
+        let room = (needed + r.below(6)).saturating_sub(r.below(2));
+        compare::convert_spline(t, b, to, &knots, room);
+    }
+}
+
+fn lengths(t: &mut Tally) {
+    for b in 0..6 {
+        (0..20_000).for_each(|n| compare::is_len_ok(t, b, n));
+        (0..100).for_each(|i| compare::is_len_ok(t, b, usize::MAX - i));
+    }
+}
+
+/// A number that is no basis: a reply of its own, before all refusals, and nothing written.
+fn no_bases(t: &mut Tally) {
+    let knots = [0.0, 0.0, 1.0, 1.0];
+    for b in 6..=255u8 {
+        for cv in [&knots[..], &knots[..3], &[]] {
+            for at in [0.5, f64::NAN] {
+                let valued = port::Valued { reply: 255, value: UNTOUCHED };
+                let inverted =
+                    port::Inverted { reply: 255, place: [UNTOUCHED; 4], whole: [UNTOUCHED_WHOLE; 3] };
+                assert_eq!(port::spline(b, at, cv), valued);
+                assert_eq!(port::spline_segment(b, at, cv), valued);
+                for limit in [0, 32] {
+                    let o = Options { check: true, limit, precision: at };
+                    assert_eq!(port::spline_inverse(b, at, cv, &o), inverted);
+                    assert_eq!(port::spline_inverse_segment(b, at, cv, limit, at), inverted);
+                }
+                assert_eq!(port::spline_inverse_default(b, at, cv, true), inverted);
+                assert_eq!(port::spline_inverse_segment_default(b, at, cv), inverted);
+            }
+            for (from, to) in [(b, 0), (0, b), (b, 4), (4, b), (b, b)] {
+                let buffer: Vec<u64> = (0..8).map(|i| UNTOUCHED + i).collect();
+                let converted = port::Converted { reply: 255, written: UNTOUCHED_WHOLE, buffer };
+                assert_eq!(port::convert_spline(from, to, cv, 4), converted);
+                assert_eq!(port::convert_segment(from, to, cv, 4), converted);
+            }
+        }
+        assert_eq!(port::is_len_ok(b, 4), 255);
+        t.add(Call::IsLenOk, NO_BASIS, false);
+        for (call, n) in [
+            (Call::Spline, 6),
+            (Call::SplineSegment, 6),
+            (Call::SplineInverse, 18),
+            (Call::SplineInverseSegment, 18),
+            (Call::ConvertSpline, 15),
+            (Call::ConvertSegment, 15),
+        ] {
+            (0..n).for_each(|_| t.add(call, NO_BASIS, false));
+        }
+    }
+}

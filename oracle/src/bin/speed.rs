@@ -1,0 +1,1 @@
+fn main() { let k=[-0.4, 0.0, 0.4, 0.5, 0.9, 1.0, 1.9]; println!("{:?}", plain::spline::<plain::basis::CatmullRom,_,_>(0.25f64,&k)); println!("{:?}", ordered::spline_inverse::<ordered::basis::CatmullRom,_>(0.25f64,&k)); }

@@ -1,0 +1,7 @@
+//! The crate uniform-cubic-splines as the judge of the port.
+pub mod compare;
+pub mod crates;
+pub mod inputs;
+pub mod model;
+pub mod port;
+pub mod tally;
