@@ -5,3 +5,4 @@ pub mod inputs;
 pub mod model;
 pub mod port;
 pub mod tally;
+pub mod wrapped;
