@@ -1,0 +1,88 @@
+/* How deep each call goes: it runs on a painted stack of its own, and the lowest byte that lost its paint is told.
+ * What the switch of stacks itself takes is measured with an empty call and taken off. */
+#include "simmerstoat.h"
+
+#include <stdio.h>
+#include <stdlib.h>
+#include <string.h>
+#include <ucontext.h>
+
+enum { SIZE = 1 << 15, PAINT = 0xA5, KNOTS = 4096 };
+
+static unsigned char *stack;
+static ucontext_t back, there;
+static double knots[KNOTS], out[4 * KNOTS], value, place[4];
+static size_t whole[3], written;
+static int basis, other;
+static size_t length;
+static double at;
+static volatile int reply;
+
+static void nothing(void) { reply = 0; }
+static void is_len_ok(void) { reply = simmerstoat_is_len_ok(basis, length); }
+static void spline(void) { reply = simmerstoat_spline(basis, at, knots, length, &value); }
+static void spline_segment(void) { reply = simmerstoat_spline_segment(basis, at, knots + 100, 4, &value); }
+static void spline_inverse(void) {
+    reply = simmerstoat_spline_inverse(basis, at * 40, knots, length, true, place, whole);
+}
+static void spline_inverse_with(void) {
+    reply = simmerstoat_spline_inverse_with(basis, at * 40, knots, length, false, 300, 1e-300, place, whole);
+}
+static void spline_inverse_segment(void) {
+    reply = simmerstoat_spline_inverse_segment(basis, 0.991 + at * 0.02, knots + 99, 4, place, whole);
+}
+static void spline_inverse_segment_with(void) {
+    reply = simmerstoat_spline_inverse_segment_with(basis, 0.991 + at * 0.02, knots + 99, 4, 300, 1e-300, place, whole);
+}
+static void convert_segment(void) { reply = simmerstoat_convert_segment(basis, other, knots, 4, out, 4); }
+static void convert_spline(void) {
+    reply = simmerstoat_convert_spline(basis, other, knots, length, out, 4 * KNOTS, &written);
+}
+
+static size_t depth(void (*call)(void)) {
+    memset(stack, PAINT, SIZE);
+    getcontext(&there);
+    there.uc_stack.ss_sp = stack;
+    there.uc_stack.ss_size = SIZE;
+    there.uc_link = &back;
+    makecontext(&there, call, 0);
+    swapcontext(&back, &there);
+    size_t i = 0;
+    while (i < SIZE && stack[i] == PAINT) i++;
+    return SIZE - i;
+}
+
+int main(void) {
+    static const struct {
+        const char *name;
+        void (*call)(void);
+    } calls[] = {{"is_len_ok", is_len_ok},
+                 {"spline", spline},
+                 {"spline_segment", spline_segment},
+                 {"spline_inverse", spline_inverse},
+                 {"spline_inverse_with", spline_inverse_with},
+                 {"spline_inverse_segment", spline_inverse_segment},
+                 {"spline_inverse_segment_with", spline_inverse_segment_with},
+                 {"convert_segment", convert_segment},
+                 {"convert_spline", convert_spline}};
+    static const size_t lengths[] = {4, 16, 28, 100, 1024, 4096};
+    stack = malloc(SIZE);
+    for (int i = 0; i < KNOTS; i++) knots[i] = 0.01 * i;
+    size_t empty = depth(nothing);
+    printf("| call | bytes of stack |\n|---|---:|\n");
+    for (size_t c = 0; c < sizeof calls / sizeof *calls; c++) {
+        size_t deepest = 0;
+        for (basis = 0; basis < 7; basis++)
+            for (other = 0; other < 6; other++)
+                for (size_t l = 0; l < 6; l++)
+                    for (int i = 0; i <= 20; i++) {
+                        length = lengths[l];
+                        at = (i + 0.37) / 20.0;
+                        size_t d = depth(calls[c].call);
+                        if (d > deepest) deepest = d;
+                    }
+        /* the caller's own return address is the call's, so nothing is taken off for it */
+        printf("| simmerstoat_%s | %zu |\n", calls[c].name, deepest - empty);
+    }
+    return 0;
+}
