@@ -3,10 +3,9 @@
 //! The scans fold a flag and have no early exit, which is the quickest that we know of in Rust.
 
 use crate::crates;
-use crate::model::{Options, STEP};
+use crate::model::STEP;
 
 const LARGEST: f64 = 1_099_511_627_776.0;
-const DEFAULTS: Options = Options { check: false, limit: 32, precision: 1e-10 };
 
 fn in_range(knots: &[f64]) -> bool {
     knots.iter().fold(true, |good, k| good & (k.abs() <= LARGEST))
@@ -141,6 +140,23 @@ pub fn bare_inverse(b: u8, y: f64, knots: &[f64], check: bool, parameter: &mut f
     told(crates::spline_inverse_default(b as usize, y, knots, check), parameter)
 }
 
+/// 4 or 10, or 0. With the order check one pass is enough where nothing is wrong: knots in order lie between
+/// the second and the last.
+fn knots_refusal(knots: &[f64], check: bool) -> u8 {
+    if !check {
+        return if in_range(knots) { 0 } else { 4 };
+    }
+    let n = knots.len();
+    if in_order(knots) && in_range(&[knots[0], knots[1], knots[n - 1]]) {
+        return 0;
+    }
+    if in_range(knots) {
+        10
+    } else {
+        4
+    }
+}
+
 /// Its own order check, folded; then the crate without one.
 #[inline(never)]
 pub fn inverse(b: u8, y: f64, knots: &[f64], check: bool, parameter: &mut f64) -> u8 {
@@ -151,13 +167,11 @@ pub fn inverse(b: u8, y: f64, knots: &[f64], check: bool, parameter: &mut f64) -
     if y.is_nan() {
         return 5;
     }
-    if !in_range(knots) {
-        return 4;
+    let no = knots_refusal(knots, check);
+    if no != 0 {
+        return no;
     }
-    if check && !in_order(knots) {
-        return 10;
-    }
-    told(crates::spline_inverse_default(b as usize, y, knots, DEFAULTS.check), parameter)
+    told(crates::spline_inverse_default(b as usize, y, knots, false), parameter)
 }
 
 #[inline(never)]

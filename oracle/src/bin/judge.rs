@@ -5,7 +5,7 @@ use std::{env, process, thread};
 
 use judge::compare;
 use judge::inputs::{self, Rng, AWKWARD, LIMITS, PRECISIONS, SEGMENTS};
-use judge::model::{Options, STEP};
+use judge::model::{self, Options, STEP};
 use judge::port::{self, UNTOUCHED, UNTOUCHED_WHOLE};
 use judge::tally::{Call, Tally, NO_BASIS};
 
@@ -21,8 +21,8 @@ const DEFAULTS: Options = Options { check: true, limit: 32, precision: 1e-10 };
 fn main() {
     let word = env::args().nth(1).unwrap_or_default();
     let size = match word.as_str() {
-        "quick" => Size { awkward: 12, rounds: 6 },
-        "long" => Size { awkward: AWKWARD.len(), rounds: 120 },
+        "quick" => Size { awkward: 12, rounds: 12 },
+        "long" => Size { awkward: AWKWARD.len(), rounds: 150 },
         n => match n.parse() {
             Ok(rounds) => Size { awkward: AWKWARD.len(), rounds },
             Err(_) => {
@@ -83,27 +83,25 @@ fn each_tuple(of: &[f64], n: usize, so_far: &mut Vec<f64>, f: &mut impl FnMut(&[
     }
 }
 
-/// Everything that can be asked of these few knots.
+/// Everything that can be asked of these few knots; little where the length alone decides.
 fn short(t: &mut Tally, knots: &[f64], ats: &[f64], worker: usize, workers: usize) {
     let sum = knots.iter().fold(0u64, |h, k| (h ^ k.to_bits()).wrapping_mul(0x9E37_79B9_7F4A_7C15));
     if (sum >> 40) as usize % workers != worker {
         return;
     }
     for b in 0..6 {
-        for (i, &at) in ats.iter().enumerate() {
+        let of = |suits: bool| if suits { ats } else { &ats[..1] };
+        for (i, &at) in of(model::is_len_ok(b, knots.len())).iter().enumerate() {
             compare::spline(t, b, at, knots);
-            compare::spline_segment(t, b, at, knots);
-            let turn = (sum >> 20) as usize + i;
-            let other = Options {
-                check: turn % 2 == 0,
-                limit: LIMITS[turn % LIMITS.len()],
-                precision: PRECISIONS[turn / 2 % PRECISIONS.len()],
-            };
+            let other = other_options((sum >> 20) as usize + i);
             for o in [DEFAULTS, Options { check: false, ..DEFAULTS }, other] {
                 compare::spline_inverse(t, b, at, knots, &o);
             }
+        }
+        for (i, &at) in of(knots.len() == 4).iter().enumerate() {
+            compare::spline_segment(t, b, at, knots);
             compare::spline_inverse_segment(t, b, at, knots, &DEFAULTS);
-            compare::spline_inverse_segment(t, b, at, knots, &other);
+            compare::spline_inverse_segment(t, b, at, knots, &other_options((sum >> 20) as usize + i));
         }
         for to in 0..6 {
             let needed = 4 + knots.len().saturating_sub(4) / STEP[b] * STEP[to];
@@ -111,6 +109,15 @@ fn short(t: &mut Tally, knots: &[f64], ats: &[f64], worker: usize, workers: usiz
             compare::convert_spline(t, b, to, knots, room);
             compare::convert_segment(t, b, to, knots, [4, 5, 3, 0][(sum >> 52) as usize % 4]);
         }
+    }
+}
+
+/// Limits and precisions in turn.
+fn other_options(turn: usize) -> Options {
+    Options {
+        check: turn % 2 == 0,
+        limit: LIMITS[turn % LIMITS.len()],
+        precision: PRECISIONS[turn / 2 % PRECISIONS.len()],
     }
 }
 

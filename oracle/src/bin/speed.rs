@@ -1,5 +1,5 @@
 //! `speed [WORD]` times each call of the port beside the crate, bare and behind the same refusals, and prints
-//! the table; with WORD only the calls whose name holds it.
+//! the table; with WORD only the rows of that call.
 //!
 //! All three stand behind one shape of call: a function that is not inlined, the basis by number. The three
 //! take turns, and the least time of many turns counts.
@@ -250,7 +250,7 @@ fn main() {
     println!("| call | basis | k | port, ns | crate, ns | ratio | refusing crate, ns | ratio | target |");
     println!("|---|---|---:|---:|---:|---:|---:|---:|---|");
     let mut wanted = |call: &str, row: &mut dyn FnMut() -> Row| {
-        if call.contains(word.as_str()) {
+        if word.is_empty() || call == word {
             let row = row();
             println!("{row}");
             rows += 1;
