@@ -1,0 +1,58 @@
+use mathlib.Core.Path.{ap, _∙_}
+use Rattle.invert.specs.Answer.{numberTold, defaultLimit, defaultPrecision}
+use Rattle.inverse.specs.Inverse.{inverseOf}
+use Rattle.simmerstoat.specs.Replies.{noBasis, placeLeft, wholeLeft}
+use Rattle.simmerstoat.proofs.Found.{found, unfound}
+use borrow.Author.Needs.{needs}
+use Rattle.simmerstoat.proofs.simmerstoat_spline_inverse.Statement.{statement}
+use Rattle.simmerstoat.proofs.simmerstoat_spline_inverse.Tie as tie
+
+basis-of-requires : tie.Need-basis-of-requires
+basis-of-requires c κs = search needs
+
+enum-known-c : tie.Need-enum-known-c
+enum-known-c c = search needs
+
+enum-told : tie.Need-enum-told
+enum-told c = search needs
+
+returns : tie.Need-returns
+returns c =
+    let args = c .before .before .before .before .args in
+    let place = args .place .now in
+    let whole = args .whole .now in
+    let asked = c .before .before .basis-of .ensures in
+    let unknown = c .enum-told .given .1 in
+    (unfound noBasis (λ b. numberTold (inverseOf b (args .y) (args .knots .now) (args .check) defaultLimit defaultPrecision)) asked unknown,
+     (unfound place (λ b. placeLeft (inverseOf b (args .y) (args .knots .now) (args .check) defaultLimit defaultPrecision) place) asked unknown,
+      unfound whole (λ b. wholeLeft (inverseOf b (args .y) (args .knots .now) (args .check) defaultLimit defaultPrecision) whole) asked unknown))
+
+spline-inverse-requires : tie.Need-spline-inverse-requires
+spline-inverse-requires c κs = search needs
+
+place-told-requires : tie.Need-place-told-requires
+place-told-requires c κs = search needs
+
+returns-2 : tie.Need-returns-2
+returns-2 c =
+    let args = c .before .before .before .before .before .before .before .before .before .args in
+    let place = args .place .now in
+    let whole = args .whole .now in
+    let asked = c .before .before .before .before .before .before .before .basis-of .ensures in
+    let known = c .before .before .before .before .before .c .given .1 in
+    let call = c .before .before .before .spline-inverse .ensures in
+    (found noBasis (λ b. numberTold (inverseOf b (args .y) (args .knots .now) (args .check) defaultLimit defaultPrecision)) asked known (c .place-told .ensures .0 ∙ ap numberTold call),
+     (found place (λ b. placeLeft (inverseOf b (args .y) (args .knots .now) (args .check) defaultLimit defaultPrecision) place) asked known (c .place-told .ensures .1 ∙ ap (λ a. placeLeft a place) call),
+      found whole (λ b. wholeLeft (inverseOf b (args .y) (args .knots .now) (args .check) defaultLimit defaultPrecision) whole) asked known (c .place-told .ensures .2 ∙ ap (λ a. wholeLeft a whole) call)))
+
+pub simmerstoat-spline-inverse-spec : {M : Type 1} → statement M
+simmerstoat-spline-inverse-spec =
+    tie.close
+    (tie.spec
+    basis-of-requires
+    enum-known-c
+    enum-told
+    returns
+    spline-inverse-requires
+    place-told-requires
+    returns-2)
