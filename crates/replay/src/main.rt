@@ -67,7 +67,10 @@ fn place_equal(reply: u8, place: [f64; 4], whole: [usize; 3], w: [u64; 64]) -> b
     if reply != 0 {
         return true;
     }
-    let places = text::to_bits(place[0]) == w[6] && text::to_bits(place[1]) == w[7] && text::to_bits(place[2]) == w[8] && text::to_bits(place[3]) == w[9];
+    let places = text::to_bits(place[0]) == w[6]
+        && text::to_bits(place[1]) == w[7]
+        && text::to_bits(place[2]) == w[8]
+        && text::to_bits(place[3]) == w[9];
     let wholes = whole[0] as u64 == w[10] && whole[1] as u64 == w[11] && whole[2] as u64 == w[12];
     places & wholes
 }
@@ -79,9 +82,26 @@ fn inversion_equal(letter: u8, w: [u64; 64], knots: &[f64]) -> bool {
     let y = text::of_bits(w[1]);
     let precision = text::of_bits(w[4]);
     let reply = if letter == b'i' {
-        simmerstoat::simmerstoat_spline_inverse_with(byte(w[0]), y, knots, w[2] == 1, short(w[3]), precision, &mut place, &mut whole)
+        simmerstoat::simmerstoat_spline_inverse_with(
+            byte(w[0]),
+            y,
+            knots,
+            w[2] == 1,
+            short(w[3]),
+            precision,
+            &mut place,
+            &mut whole,
+        )
     } else {
-        simmerstoat::simmerstoat_spline_inverse_segment_with(byte(w[0]), y, knots, short(w[3]), precision, &mut place, &mut whole)
+        simmerstoat::simmerstoat_spline_inverse_segment_with(
+            byte(w[0]),
+            y,
+            knots,
+            short(w[3]),
+            precision,
+            &mut place,
+            &mut whole,
+        )
     };
     place_equal(reply, place, whole, w)
 }
@@ -113,7 +133,13 @@ fn output_equal(reply: u8, written: usize, out: &[f64], w: [u64; 64]) -> bool {
 fn curve_conversion_equal(w: [u64; 64], knots: &[f64]) -> bool {
     let mut out = [0.0; 64];
     let mut written: usize = 0;
-    let reply = simmerstoat::simmerstoat_convert_spline(byte(w[0]), byte(w[1]), knots, &mut out, &mut written);
+    let reply = simmerstoat::simmerstoat_convert_spline(
+        byte(w[0]),
+        byte(w[1]),
+        knots,
+        &mut out,
+        &mut written,
+    );
     output_equal(reply, written, &out, w)
 }
 
@@ -150,22 +176,39 @@ fn stored(w: &[u64], table: &mut [f64]) -> usize {
 fn ended(line: Line, w: [u64; 64], table: &mut [f64], t: Tally) -> Tally {
     if line.letter == b'k' {
         let words = up_to_64(line.words as u64);
-        return Tally { compared: t.compared, equal: t.equal, knots: stored(&w[0..words], table) };
+        return Tally {
+            compared: t.compared,
+            equal: t.equal,
+            knots: stored(&w[0..words], table),
+        };
     }
     let knots = t.knots;
     if knots <= table.len() {
         let good = is_equal(line.letter, w, &table[0..knots]);
-        return Tally { compared: count(t.compared, true), equal: count(t.equal, good), knots: knots };
+        return Tally {
+            compared: count(t.compared, true),
+            equal: count(t.equal, good),
+            knots: knots,
+        };
     }
     t
 }
 
 fn count(n: u64, one: bool) -> u64 {
-    if one { std::num::wrapping_add_u64(n, 1) } else { n }
+    if one {
+        std::num::wrapping_add_u64(n, 1)
+    } else {
+        n
+    }
 }
 
 fn started() -> Line {
-    Line { letter: 0, words: 0, word: 0, inside: false }
+    Line {
+        letter: 0,
+        words: 0,
+        word: 0,
+        inside: false,
+    }
 }
 
 // The word that a space or the line's end ends; words beyond 64 are dropped.
@@ -174,7 +217,12 @@ fn pushed(line: Line, w: &mut [u64; 64]) -> Line {
         let n = line.words;
         if n < 64 {
             w[n] = line.word;
-            return Line { letter: line.letter, words: n + 1, word: 0, inside: false };
+            return Line {
+                letter: line.letter,
+                words: n + 1,
+                word: 0,
+                inside: false,
+            };
         }
     }
     line
@@ -183,12 +231,22 @@ fn pushed(line: Line, w: &mut [u64; 64]) -> Line {
 fn step(line: Line, b: u8, w: &mut [u64; 64]) -> Line {
     let d = digit(b);
     if d < 16 {
-        return Line { letter: line.letter, words: line.words, word: line.word % 1152921504606846976 * 16 + d, inside: true };
+        return Line {
+            letter: line.letter,
+            words: line.words,
+            word: line.word % 1152921504606846976 * 16 + d,
+            inside: true,
+        };
     }
     if b == b' ' {
         return pushed(line, w);
     }
-    Line { letter: b, words: line.words, word: line.word, inside: line.inside }
+    Line {
+        letter: b,
+        words: line.words,
+        word: line.word,
+        inside: line.inside,
+    }
 }
 
 // Both, from byte to byte.
@@ -203,10 +261,16 @@ fn fed(r: Run, b: u8, w: &mut [u64; 64], table: &mut [f64]) -> Run {
     if b == b'\n' {
         let whole = pushed(line, w);
         let next = ended(whole, *w, table, tally);
-        return Run { line: started(), tally: next };
+        return Run {
+            line: started(),
+            tally: next,
+        };
     }
     let further = step(line, b, w);
-    Run { line: further, tally: tally }
+    Run {
+        line: further,
+        tally: tally,
+    }
 }
 
 fn feed(begun: Run, chunk: &[u8], w: &mut [u64; 64], table: &mut [f64]) -> Run {
@@ -225,7 +289,14 @@ fn turn(r: Run, chunk: &mut [u8], w: &mut [u64; 64], table: &mut [f64]) -> Run {
 
 // At most 32 chunks: the list is shorter.
 fn replayed(chunk: &mut [u8], w: &mut [u64; 64], table: &mut [f64]) -> Tally {
-    let mut r = Run { line: started(), tally: Tally { compared: 0, equal: 0, knots: 0 } };
+    let mut r = Run {
+        line: started(),
+        tally: Tally {
+            compared: 0,
+            equal: 0,
+            knots: 0,
+        },
+    };
     let most: usize = 32;
     for i in 0..most {
         let next = turn(r, chunk, w, table);

@@ -10,11 +10,11 @@ ghost use Rattle.convert.specs.Conversion.{convertedOf, convertedSegmentOf};
 ghost use Rattle.convert.specs.Buffer.{answerOf, bufferOf};
 ghost use Rattle.simmerstoat.specs.Replies.{chosenOf, noBasis, chosen, valueReply, valueLeft, groundNumber, placeLeft, wholeLeft, conversionReply, lengthLeft};
 use basis::Basis;
+use convert::Converted;
 use error::Refusal;
-use spline::Evaluated;
 use invert::Ground;
 use invert::Inverted;
-use convert::Converted;
+use spline::Evaluated;
 
 pub enum Chosen {
     Known(Basis),
@@ -120,7 +120,14 @@ fn place_told(a: Inverted, place: &mut [f64; 4], whole: &mut [usize; 3]) -> u8
 
 // A curve's inversion with the defaults.
 #[no_mangle]
-pub extern "C" fn simmerstoat_spline_inverse(basis: u8, y: f64, knots: &[f64], check: bool, place: &mut [f64; 4], whole: &mut [usize; 3]) -> u8
+pub extern "C" fn simmerstoat_spline_inverse(
+    basis: u8,
+    y: f64,
+    knots: &[f64],
+    check: bool,
+    place: &mut [f64; 4],
+    whole: &mut [usize; 3],
+) -> u8
     ensures { λ r. ⌜ r ≡ chosen (chosenOf basis) noBasis (λ b. numberTold (inverseOf b y (now (knots .entry)) check defaultLimit defaultPrecision)) ⌝ }
     ensures { λ _. ⌜ now (place .exit) ≡ chosen (chosenOf basis) (now (place .entry)) (λ b. placeLeft (inverseOf b y (now (knots .entry)) check defaultLimit defaultPrecision) (now (place .entry))) ⌝ }
     ensures { λ _. ⌜ now (whole .exit) ≡ chosen (chosenOf basis) (now (whole .entry)) (λ b. wholeLeft (inverseOf b y (now (knots .entry)) check defaultLimit defaultPrecision) (now (whole .entry))) ⌝ }
@@ -134,7 +141,16 @@ pub extern "C" fn simmerstoat_spline_inverse(basis: u8, y: f64, knots: &[f64], c
 
 // A curve's inversion with a limit and a precision.
 #[no_mangle]
-pub extern "C" fn simmerstoat_spline_inverse_with(basis: u8, y: f64, knots: &[f64], check: bool, limit: u16, precision: f64, place: &mut [f64; 4], whole: &mut [usize; 3]) -> u8
+pub extern "C" fn simmerstoat_spline_inverse_with(
+    basis: u8,
+    y: f64,
+    knots: &[f64],
+    check: bool,
+    limit: u16,
+    precision: f64,
+    place: &mut [f64; 4],
+    whole: &mut [usize; 3],
+) -> u8
     ensures { λ r. ⌜ r ≡ chosen (chosenOf basis) noBasis (λ b. numberTold (inverseOf b y (now (knots .entry)) check limit precision)) ⌝ }
     ensures { λ _. ⌜ now (place .exit) ≡ chosen (chosenOf basis) (now (place .entry)) (λ b. placeLeft (inverseOf b y (now (knots .entry)) check limit precision) (now (place .entry))) ⌝ }
     ensures { λ _. ⌜ now (whole .exit) ≡ chosen (chosenOf basis) (now (whole .entry)) (λ b. wholeLeft (inverseOf b y (now (knots .entry)) check limit precision) (now (whole .entry))) ⌝ }
@@ -143,12 +159,22 @@ pub extern "C" fn simmerstoat_spline_inverse_with(basis: u8, y: f64, knots: &[f6
     let Chosen::Known(b) = c else {
         return 255;
     };
-    place_told(inverse::spline_inverse_with(b, y, knots, check, limit, precision), place, whole)
+    place_told(
+        inverse::spline_inverse_with(b, y, knots, check, limit, precision),
+        place,
+        whole,
+    )
 }
 
 // One segment's inversion with the defaults.
 #[no_mangle]
-pub extern "C" fn simmerstoat_spline_inverse_segment(basis: u8, y: f64, cv: &[f64], place: &mut [f64; 4], whole: &mut [usize; 3]) -> u8
+pub extern "C" fn simmerstoat_spline_inverse_segment(
+    basis: u8,
+    y: f64,
+    cv: &[f64],
+    place: &mut [f64; 4],
+    whole: &mut [usize; 3],
+) -> u8
     ensures { λ r. ⌜ r ≡ chosen (chosenOf basis) noBasis (λ b. numberTold (inverseSegmentOf b y (now (cv .entry)) defaultLimit defaultPrecision)) ⌝ }
     ensures { λ _. ⌜ now (place .exit) ≡ chosen (chosenOf basis) (now (place .entry)) (λ b. placeLeft (inverseSegmentOf b y (now (cv .entry)) defaultLimit defaultPrecision) (now (place .entry))) ⌝ }
     ensures { λ _. ⌜ now (whole .exit) ≡ chosen (chosenOf basis) (now (whole .entry)) (λ b. wholeLeft (inverseSegmentOf b y (now (cv .entry)) defaultLimit defaultPrecision) (now (whole .entry))) ⌝ }
@@ -162,7 +188,15 @@ pub extern "C" fn simmerstoat_spline_inverse_segment(basis: u8, y: f64, cv: &[f6
 
 // One segment's inversion with a limit and a precision.
 #[no_mangle]
-pub extern "C" fn simmerstoat_spline_inverse_segment_with(basis: u8, y: f64, cv: &[f64], limit: u16, precision: f64, place: &mut [f64; 4], whole: &mut [usize; 3]) -> u8
+pub extern "C" fn simmerstoat_spline_inverse_segment_with(
+    basis: u8,
+    y: f64,
+    cv: &[f64],
+    limit: u16,
+    precision: f64,
+    place: &mut [f64; 4],
+    whole: &mut [usize; 3],
+) -> u8
     ensures { λ r. ⌜ r ≡ chosen (chosenOf basis) noBasis (λ b. numberTold (inverseSegmentOf b y (now (cv .entry)) limit precision)) ⌝ }
     ensures { λ _. ⌜ now (place .exit) ≡ chosen (chosenOf basis) (now (place .entry)) (λ b. placeLeft (inverseSegmentOf b y (now (cv .entry)) limit precision) (now (place .entry))) ⌝ }
     ensures { λ _. ⌜ now (whole .exit) ≡ chosen (chosenOf basis) (now (whole .entry)) (λ b. wholeLeft (inverseSegmentOf b y (now (cv .entry)) limit precision) (now (whole .entry))) ⌝ }
@@ -171,7 +205,11 @@ pub extern "C" fn simmerstoat_spline_inverse_segment_with(basis: u8, y: f64, cv:
     let Chosen::Known(b) = c else {
         return 255;
     };
-    place_told(invert::spline_inverse_segment_with(b, y, cv, limit, precision), place, whole)
+    place_told(
+        invert::spline_inverse_segment_with(b, y, cv, limit, precision),
+        place,
+        whole,
+    )
 }
 
 // The length is written and answered by 0; a refusal writes nothing.
@@ -214,7 +252,13 @@ pub extern "C" fn simmerstoat_convert_segment(from: u8, to: u8, cv: &[f64], out:
 }
 // A curve's conversion, into the first places of out.
 #[no_mangle]
-pub extern "C" fn simmerstoat_convert_spline(from: u8, to: u8, knots: &[f64], out: &mut [f64], written: &mut usize) -> u8
+pub extern "C" fn simmerstoat_convert_spline(
+    from: u8,
+    to: u8,
+    knots: &[f64],
+    out: &mut [f64],
+    written: &mut usize,
+) -> u8
     ensures { λ r. ⌜ r ≡ chosen (chosenOf from) noBasis (λ f. chosen (chosenOf to) noBasis (λ t. conversionReply (answerOf (convertedOf f t (now (knots .entry)) (length (now (out .entry))))))) ⌝ }
     ensures { λ _. ⌜ now (written .exit) ≡ chosen (chosenOf from) (now (written .entry)) (λ f. chosen (chosenOf to) (now (written .entry)) (λ t. lengthLeft (answerOf (convertedOf f t (now (knots .entry)) (length (now (out .entry))))) (now (written .entry)))) ⌝ }
     ensures { λ _. ⌜ now (out .exit) ≡ chosen (chosenOf from) (now (out .entry)) (λ f. chosen (chosenOf to) (now (out .entry)) (λ t. bufferOf (convertedOf f t (now (knots .entry)) (length (now (out .entry)))) (now (out .entry)))) ⌝ }

@@ -22,9 +22,10 @@ returns c =
     let args = c .before .before .before .before .before .args in
     let out = args .out .now in
     let asked = c .before .before .basis-of .ensures in
-    let unknown = c .enum-told .given .1 in
-    (unfound noBasis (λ f. chosen (chosenOf (args .to)) noBasis (λ t. conversionReply (answerOf (convertedSegmentOf f t (args .cv .now) (length out))))) asked unknown,
-     unfound out (λ f. chosen (chosenOf (args .to)) out (λ t. bufferOf (convertedSegmentOf f t (args .cv .now) (length out)) out)) asked unknown)
+    let unknown = c .enum-told .given .1 in (
+      unfound noBasis (λ f. chosen (chosenOf (args .to)) noBasis (λ t. conversionReply (answerOf (convertedSegmentOf f t (args .cv .now) (length out))))) asked unknown,
+      unfound out (λ f. chosen (chosenOf (args .to)) out (λ t. bufferOf (convertedSegmentOf f t (args .cv .now) (length out)) out)) asked unknown,
+    )
 
 basis-of-requires-2 : tie.Need-basis-of-requires-2
 basis-of-requires-2 c κs = search needs
@@ -43,9 +44,10 @@ returns-2 c =
     let known = c .before .before .before .before .c .given .1 in
     let from = c .before .before .before .before .c .given .0 .0 in
     let asked-to = c .before .before .basis-of2 .ensures in
-    let unknown = c .enum-told2 .given .1 in
-    (found noBasis (λ f. chosen (chosenOf (args .to)) noBasis (λ t. conversionReply (answerOf (convertedSegmentOf f t (args .cv .now) (length out))))) asked known (unfound noBasis (λ t. conversionReply (answerOf (convertedSegmentOf from t (args .cv .now) (length out)))) asked-to unknown),
-     found out (λ f. chosen (chosenOf (args .to)) out (λ t. bufferOf (convertedSegmentOf f t (args .cv .now) (length out)) out)) asked known (unfound out (λ t. bufferOf (convertedSegmentOf from t (args .cv .now) (length out)) out) asked-to unknown))
+    let unknown = c .enum-told2 .given .1 in (
+      found noBasis (λ f. chosen (chosenOf (args .to)) noBasis (λ t. conversionReply (answerOf (convertedSegmentOf f t (args .cv .now) (length out))))) asked known (unfound noBasis (λ t. conversionReply (answerOf (convertedSegmentOf from t (args .cv .now) (length out)))) asked-to unknown),
+      found out (λ f. chosen (chosenOf (args .to)) out (λ t. bufferOf (convertedSegmentOf f t (args .cv .now) (length out)) out)) asked known (unfound out (λ t. bufferOf (convertedSegmentOf from t (args .cv .now) (length out)) out) asked-to unknown),
+    )
 
 convert-segment-requires : tie.Need-convert-segment-requires
 convert-segment-requires c κs = search needs
@@ -67,9 +69,10 @@ returns-3 c =
     let known-to = c .before .before .before .before .before .before .d .given .1 in
     let call = c .before .before .before .convert-segment .ensures in
     let reply = c .conversion-reply .ensures ∙ ap conversionReply (call .0) in
-    let buffer = call .1 in
-    (found noBasis (λ f. chosen (chosenOf (args .to)) noBasis (λ t. conversionReply (answerOf (convertedSegmentOf f t (args .cv .now) (length out))))) asked known (found noBasis (λ t. conversionReply (answerOf (convertedSegmentOf from t (args .cv .now) (length out)))) asked-to known-to reply),
-     found out (λ f. chosen (chosenOf (args .to)) out (λ t. bufferOf (convertedSegmentOf f t (args .cv .now) (length out)) out)) asked known (found out (λ t. bufferOf (convertedSegmentOf from t (args .cv .now) (length out)) out) asked-to known-to buffer))
+    let buffer = call .1 in (
+      found noBasis (λ f. chosen (chosenOf (args .to)) noBasis (λ t. conversionReply (answerOf (convertedSegmentOf f t (args .cv .now) (length out))))) asked known (found noBasis (λ t. conversionReply (answerOf (convertedSegmentOf from t (args .cv .now) (length out)))) asked-to known-to reply),
+      found out (λ f. chosen (chosenOf (args .to)) out (λ t. bufferOf (convertedSegmentOf f t (args .cv .now) (length out)) out)) asked known (found out (λ t. bufferOf (convertedSegmentOf from t (args .cv .now) (length out)) out) asked-to known-to buffer),
+    )
 
 pub simmerstoat-convert-segment-spec : {M : Type 1} → statement M
 simmerstoat-convert-segment-spec =

@@ -23,10 +23,13 @@ returns c =
     let written = args .written .now in
     let out = args .out .now in
     let asked = c .before .before .basis-of .ensures in
-    let unknown = c .enum-told .given .1 in
-    (unfound noBasis (λ f. chosen (chosenOf (args .to)) noBasis (λ t. conversionReply (answerOf (convertedOf f t (args .knots .now) (length out))))) asked unknown,
-     (unfound written (λ f. chosen (chosenOf (args .to)) written (λ t. lengthLeft (answerOf (convertedOf f t (args .knots .now) (length out))) written)) asked unknown,
-      unfound out (λ f. chosen (chosenOf (args .to)) out (λ t. bufferOf (convertedOf f t (args .knots .now) (length out)) out)) asked unknown))
+    let unknown = c .enum-told .given .1 in (
+      unfound noBasis (λ f. chosen (chosenOf (args .to)) noBasis (λ t. conversionReply (answerOf (convertedOf f t (args .knots .now) (length out))))) asked unknown,
+      (
+        unfound written (λ f. chosen (chosenOf (args .to)) written (λ t. lengthLeft (answerOf (convertedOf f t (args .knots .now) (length out))) written)) asked unknown,
+        unfound out (λ f. chosen (chosenOf (args .to)) out (λ t. bufferOf (convertedOf f t (args .knots .now) (length out)) out)) asked unknown,
+      ),
+    )
 
 basis-of-requires-2 : tie.Need-basis-of-requires-2
 basis-of-requires-2 c κs = search needs
@@ -46,10 +49,13 @@ returns-2 c =
     let known = c .before .before .before .before .c .given .1 in
     let from = c .before .before .before .before .c .given .0 .0 in
     let asked-to = c .before .before .basis-of2 .ensures in
-    let unknown = c .enum-told2 .given .1 in
-    (found noBasis (λ f. chosen (chosenOf (args .to)) noBasis (λ t. conversionReply (answerOf (convertedOf f t (args .knots .now) (length out))))) asked known (unfound noBasis (λ t. conversionReply (answerOf (convertedOf from t (args .knots .now) (length out)))) asked-to unknown),
-     (found written (λ f. chosen (chosenOf (args .to)) written (λ t. lengthLeft (answerOf (convertedOf f t (args .knots .now) (length out))) written)) asked known (unfound written (λ t. lengthLeft (answerOf (convertedOf from t (args .knots .now) (length out))) written) asked-to unknown),
-      found out (λ f. chosen (chosenOf (args .to)) out (λ t. bufferOf (convertedOf f t (args .knots .now) (length out)) out)) asked known (unfound out (λ t. bufferOf (convertedOf from t (args .knots .now) (length out)) out) asked-to unknown)))
+    let unknown = c .enum-told2 .given .1 in (
+      found noBasis (λ f. chosen (chosenOf (args .to)) noBasis (λ t. conversionReply (answerOf (convertedOf f t (args .knots .now) (length out))))) asked known (unfound noBasis (λ t. conversionReply (answerOf (convertedOf from t (args .knots .now) (length out)))) asked-to unknown),
+      (
+        found written (λ f. chosen (chosenOf (args .to)) written (λ t. lengthLeft (answerOf (convertedOf f t (args .knots .now) (length out))) written)) asked known (unfound written (λ t. lengthLeft (answerOf (convertedOf from t (args .knots .now) (length out))) written) asked-to unknown),
+        found out (λ f. chosen (chosenOf (args .to)) out (λ t. bufferOf (convertedOf f t (args .knots .now) (length out)) out)) asked known (unfound out (λ t. bufferOf (convertedOf from t (args .knots .now) (length out)) out) asked-to unknown),
+      ),
+    )
 
 convert-spline-requires : tie.Need-convert-spline-requires
 convert-spline-requires c κs = search needs
@@ -73,10 +79,13 @@ returns-3 c =
     let call = c .before .before .before .before .convert-spline .ensures in
     let reply = c .length-told .ensures .0 ∙ ap conversionReply (call .0) in
     let length-left = c .length-told .ensures .1 ∙ ap (λ a. lengthLeft a written) (call .0) in
-    let buffer = call .1 in
-    (found noBasis (λ f. chosen (chosenOf (args .to)) noBasis (λ t. conversionReply (answerOf (convertedOf f t (args .knots .now) (length out))))) asked known (found noBasis (λ t. conversionReply (answerOf (convertedOf from t (args .knots .now) (length out)))) asked-to known-to reply),
-     (found written (λ f. chosen (chosenOf (args .to)) written (λ t. lengthLeft (answerOf (convertedOf f t (args .knots .now) (length out))) written)) asked known (found written (λ t. lengthLeft (answerOf (convertedOf from t (args .knots .now) (length out))) written) asked-to known-to length-left),
-      found out (λ f. chosen (chosenOf (args .to)) out (λ t. bufferOf (convertedOf f t (args .knots .now) (length out)) out)) asked known (found out (λ t. bufferOf (convertedOf from t (args .knots .now) (length out)) out) asked-to known-to buffer)))
+    let buffer = call .1 in (
+      found noBasis (λ f. chosen (chosenOf (args .to)) noBasis (λ t. conversionReply (answerOf (convertedOf f t (args .knots .now) (length out))))) asked known (found noBasis (λ t. conversionReply (answerOf (convertedOf from t (args .knots .now) (length out)))) asked-to known-to reply),
+      (
+        found written (λ f. chosen (chosenOf (args .to)) written (λ t. lengthLeft (answerOf (convertedOf f t (args .knots .now) (length out))) written)) asked known (found written (λ t. lengthLeft (answerOf (convertedOf from t (args .knots .now) (length out))) written) asked-to known-to length-left),
+        found out (λ f. chosen (chosenOf (args .to)) out (λ t. bufferOf (convertedOf f t (args .knots .now) (length out)) out)) asked known (found out (λ t. bufferOf (convertedOf from t (args .knots .now) (length out)) out) asked-to known-to buffer),
+      ),
+    )
 
 pub simmerstoat-convert-spline-spec : {M : Type 1} → statement M
 simmerstoat-convert-spline-spec =

@@ -30,9 +30,10 @@ returns-2 c =
     let asked = c .before .before .before .before .before .before .basis-of .ensures in
     let known = c .before .before .before .before .c .given .1 in
     let old = args .value .now in
-    let call = c .before .before .spline .ensures in
-    (found noBasis (λ b. valueReply (splineOf b (args .x) (args .knots .now))) asked known (c .value-told .ensures .0 ∙ ap valueReply call),
-     found old (λ b. valueLeft (splineOf b (args .x) (args .knots .now)) old) asked known (c .value-told .ensures .1 ∙ ap (λ e. valueLeft e old) call))
+    let call = c .before .before .spline .ensures in (
+      found noBasis (λ b. valueReply (splineOf b (args .x) (args .knots .now))) asked known (c .value-told .ensures .0 ∙ ap valueReply call),
+      found old (λ b. valueLeft (splineOf b (args .x) (args .knots .now)) old) asked known (c .value-told .ensures .1 ∙ ap (λ e. valueLeft e old) call),
+    )
 
 pub simmerstoat-spline-spec : {M : Type 1} → statement M
 simmerstoat-spline-spec =

@@ -22,10 +22,13 @@ returns c =
     let place = args .place .now in
     let whole = args .whole .now in
     let asked = c .before .before .basis-of .ensures in
-    let unknown = c .enum-told .given .1 in
-    (unfound noBasis (λ b. numberTold (inverseOf b (args .y) (args .knots .now) (args .check) defaultLimit defaultPrecision)) asked unknown,
-     (unfound place (λ b. placeLeft (inverseOf b (args .y) (args .knots .now) (args .check) defaultLimit defaultPrecision) place) asked unknown,
-      unfound whole (λ b. wholeLeft (inverseOf b (args .y) (args .knots .now) (args .check) defaultLimit defaultPrecision) whole) asked unknown))
+    let unknown = c .enum-told .given .1 in (
+      unfound noBasis (λ b. numberTold (inverseOf b (args .y) (args .knots .now) (args .check) defaultLimit defaultPrecision)) asked unknown,
+      (
+        unfound place (λ b. placeLeft (inverseOf b (args .y) (args .knots .now) (args .check) defaultLimit defaultPrecision) place) asked unknown,
+        unfound whole (λ b. wholeLeft (inverseOf b (args .y) (args .knots .now) (args .check) defaultLimit defaultPrecision) whole) asked unknown,
+      ),
+    )
 
 spline-inverse-requires : tie.Need-spline-inverse-requires
 spline-inverse-requires c κs = search needs
@@ -40,10 +43,13 @@ returns-2 c =
     let whole = args .whole .now in
     let asked = c .before .before .before .before .before .before .before .basis-of .ensures in
     let known = c .before .before .before .before .before .c .given .1 in
-    let call = c .before .before .before .spline-inverse .ensures in
-    (found noBasis (λ b. numberTold (inverseOf b (args .y) (args .knots .now) (args .check) defaultLimit defaultPrecision)) asked known (c .place-told .ensures .0 ∙ ap numberTold call),
-     (found place (λ b. placeLeft (inverseOf b (args .y) (args .knots .now) (args .check) defaultLimit defaultPrecision) place) asked known (c .place-told .ensures .1 ∙ ap (λ a. placeLeft a place) call),
-      found whole (λ b. wholeLeft (inverseOf b (args .y) (args .knots .now) (args .check) defaultLimit defaultPrecision) whole) asked known (c .place-told .ensures .2 ∙ ap (λ a. wholeLeft a whole) call)))
+    let call = c .before .before .before .spline-inverse .ensures in (
+      found noBasis (λ b. numberTold (inverseOf b (args .y) (args .knots .now) (args .check) defaultLimit defaultPrecision)) asked known (c .place-told .ensures .0 ∙ ap numberTold call),
+      (
+        found place (λ b. placeLeft (inverseOf b (args .y) (args .knots .now) (args .check) defaultLimit defaultPrecision) place) asked known (c .place-told .ensures .1 ∙ ap (λ a. placeLeft a place) call),
+        found whole (λ b. wholeLeft (inverseOf b (args .y) (args .knots .now) (args .check) defaultLimit defaultPrecision) whole) asked known (c .place-told .ensures .2 ∙ ap (λ a. wholeLeft a whole) call),
+      ),
+    )
 
 pub simmerstoat-spline-inverse-spec : {M : Type 1} → statement M
 simmerstoat-spline-inverse-spec =

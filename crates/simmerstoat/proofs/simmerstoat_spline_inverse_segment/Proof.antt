@@ -21,10 +21,13 @@ returns c =
     let place = args .place .now in
     let whole = args .whole .now in
     let asked = c .before .before .basis-of .ensures in
-    let unknown = c .enum-told .given .1 in
-    (unfound noBasis (λ b. numberTold (inverseSegmentOf b (args .y) (args .cv .now) defaultLimit defaultPrecision)) asked unknown,
-     (unfound place (λ b. placeLeft (inverseSegmentOf b (args .y) (args .cv .now) defaultLimit defaultPrecision) place) asked unknown,
-      unfound whole (λ b. wholeLeft (inverseSegmentOf b (args .y) (args .cv .now) defaultLimit defaultPrecision) whole) asked unknown))
+    let unknown = c .enum-told .given .1 in (
+      unfound noBasis (λ b. numberTold (inverseSegmentOf b (args .y) (args .cv .now) defaultLimit defaultPrecision)) asked unknown,
+      (
+        unfound place (λ b. placeLeft (inverseSegmentOf b (args .y) (args .cv .now) defaultLimit defaultPrecision) place) asked unknown,
+        unfound whole (λ b. wholeLeft (inverseSegmentOf b (args .y) (args .cv .now) defaultLimit defaultPrecision) whole) asked unknown,
+      ),
+    )
 
 spline-inverse-segment-requires : tie.Need-spline-inverse-segment-requires
 spline-inverse-segment-requires c κs = search needs
@@ -39,10 +42,13 @@ returns-2 c =
     let whole = args .whole .now in
     let asked = c .before .before .before .before .before .before .before .basis-of .ensures in
     let known = c .before .before .before .before .before .c .given .1 in
-    let call = c .before .before .before .spline-inverse-segment .ensures in
-    (found noBasis (λ b. numberTold (inverseSegmentOf b (args .y) (args .cv .now) defaultLimit defaultPrecision)) asked known (c .place-told .ensures .0 ∙ ap numberTold call),
-     (found place (λ b. placeLeft (inverseSegmentOf b (args .y) (args .cv .now) defaultLimit defaultPrecision) place) asked known (c .place-told .ensures .1 ∙ ap (λ a. placeLeft a place) call),
-      found whole (λ b. wholeLeft (inverseSegmentOf b (args .y) (args .cv .now) defaultLimit defaultPrecision) whole) asked known (c .place-told .ensures .2 ∙ ap (λ a. wholeLeft a whole) call)))
+    let call = c .before .before .before .spline-inverse-segment .ensures in (
+      found noBasis (λ b. numberTold (inverseSegmentOf b (args .y) (args .cv .now) defaultLimit defaultPrecision)) asked known (c .place-told .ensures .0 ∙ ap numberTold call),
+      (
+        found place (λ b. placeLeft (inverseSegmentOf b (args .y) (args .cv .now) defaultLimit defaultPrecision) place) asked known (c .place-told .ensures .1 ∙ ap (λ a. placeLeft a place) call),
+        found whole (λ b. wholeLeft (inverseSegmentOf b (args .y) (args .cv .now) defaultLimit defaultPrecision) whole) asked known (c .place-told .ensures .2 ∙ ap (λ a. wholeLeft a whole) call),
+      ),
+    )
 
 pub simmerstoat-spline-inverse-segment-spec : {M : Type 1} → statement M
 simmerstoat-spline-inverse-segment-spec =
