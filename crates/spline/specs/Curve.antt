@@ -1,6 +1,7 @@
 -- A curve's value: the parameter clamped, scaled by the number of segments, split into whole part and local place. Definitions only.
+use mathlib.Core.Path.{_≡_}
 use mathlib.Core.List.{List}
-use Prim.Native.Nat.{ℕ, _+_, _-_, _*_, _/_}
+use Prim.Native.Nat.{ℕ, _+_, _-_, _*_, _/_, _<_}
 use lib.ListN.{length, drop}
 use lib.Ieee.{Float, binary64, sub, mul}
 use Rattle.basis.specs.declared.Basis.{Basis}
@@ -20,6 +21,12 @@ segmentAt k x = wholeUpTo (k - 1) (scaled k x)
 -- local t: the product minus the segment
 abbrev pub localAt : ℕ → Float → Float
 localAt k x = sub binary64 (scaled k x) (double (segmentAt k x))
+
+-- the segment and the local place of a parameter
+pub record Spotted (k : ℕ) (x : Float) (s : ℕ) (t : Float) : Type 0 where
+  pub segment : s ≡ segmentAt k x
+  pub local : t ≡ localAt k x
+  pub below : s < k
 
 -- the segment s of k is the four knots from place s × step onward
 unfoldable pub curveAt : List (List Float) → ℕ → Float → List Float → Float

@@ -2,20 +2,36 @@
 ghost use mathlib.Core.Path.{_≡_};
 ghost use Prim.Native.Nat.{_≤_, _<_};
 ghost use lib.ListN.{length};
-ghost use Rattle.spline.specs.Curve.{curveAt, curveValue};
+ghost use Rattle.spline.specs.Curve.{Spotted, curveAt, curveValue};
 use basis::Basis;
 
+// A segment, and the local place in it.
+pub struct Spot {
+    pub s: usize,
+    pub t: f64,
+}
+
+// A call of its own, so that `at` stays small enough to be made anew for each basis.
+fn place(k: usize, x: f64) -> Spot
+    requires { ⌜ (0 < k) × (k ≤ 4096) ⌝ }
+    ensures { λ r. ⌜ Spotted k x (r .s) (r .t) ⌝ }
+{
+    let p = doubles::clamped(x) * doubles::whole::double_of(k);
+    let s = doubles::whole::whole_up_to(k - 1, p);
+    let t = p - doubles::whole::double_of(s);
+    Spot { s: s, t: t }
+}
+
 // The segment is the part of the knots that starts at its place: nothing is copied.
-pub fn at(m: [[f64; 4]; 4], step: usize, x: f64, knots: &[f64]) -> f64
+fn at(m: [[f64; 4]; 4], step: usize, x: f64, knots: &[f64]) -> f64
     requires { ⌜ (0 < step) × (4 ≤ length (now knots)) × (length (now knots) ≤ 4096) ⌝ }
     ensures { λ r. ⌜ r ≡ curveAt m step x (now (knots .entry)) ⌝ }
 {
     let k = (knots.len() - 4) / step + 1;
-    let p = doubles::clamped(x) * doubles::whole::double_of(k);
-    let s = doubles::whole::whole_up_to(k - 1, p);
-    let t = p - doubles::whole::double_of(s);
+    let z = place(k, x);
+    let s = z.s;
     let start = s * step;
-    crate::segment::horner(crate::segment::sums(m, &knots[start..]), t)
+    crate::segment::horner(crate::segment::sums(m, &knots[start..]), z.t)
 }
 
 pub fn curve_value(b: Basis, x: f64, knots: &[f64]) -> f64

@@ -44,10 +44,17 @@ pub fn weights(b: Basis, cv: &[f64]) -> Weights
     }
 }
 
-// The segment whose four knots stand at the front of cv.
+// The segment whose four knots stand at the front of cv. The match is here too, so that no row sum goes through memory.
 pub fn segment_value(b: Basis, cv: &[f64], t: f64) -> f64
     requires { ⌜ 4 ≤ length (now cv) ⌝ }
     ensures { λ r. ⌜ r ≡ segmentValue (matrixOf b) (now (cv .entry)) t ⌝ }
 {
-    horner(weights(b, cv), t)
+    match b {
+        Basis::Bspline => horner(sums(basis::basis_macros::bspline(), cv), t),
+        Basis::Bezier => horner(sums(basis::basis_macros::bezier(), cv), t),
+        Basis::CatmullRom => horner(sums(basis::basis_macros::catmull_rom(), cv), t),
+        Basis::Hermite => horner(sums(basis::basis_macros::hermite(), cv), t),
+        Basis::Linear => horner(sums(basis::basis_macros::linear(), cv), t),
+        Basis::Power => horner(sums(basis::basis_macros::power(), cv), t),
+    }
 }
