@@ -1,0 +1,54 @@
+use native.Mathlib.Omega.{arith}
+use Rattle.lines.proofs.Steps.{step-end, step-push, step-full}
+use borrow.Author.Needs.{needs}
+use Rattle.lines.proofs.step.Statement.{statement}
+use Rattle.lines.proofs.step.Tie as tie
+
+ended-requires : tie.Need-ended-requires
+ended-requires c κs = search needs
+
+same-length : tie.Need-same-length
+same-length c = search needs
+
+same-length-2 : tie.Need-same-length-2
+same-length-2 c = search needs
+
+same-length-3 : tie.Need-same-length-3
+same-length-3 c = search needs
+
+same-length-4 : tie.Need-same-length-4
+same-length-4 c = search needs
+
+returns : tie.Need-returns
+returns c = (step-end _ _ (c .before .before .before .before .before .before .before .before .before .before .before .if1 .taken) (c .before .before .before .before .before .before .ended .ensures .0), c .before .before .before .before .before .before .ended .ensures .1)
+
+slice-write-line : tie.Need-slice-write-line
+slice-write-line c = search needs
+
+add-t20 : tie.Need-add-t20
+add-t20 c = search needs
+
+same-length-5 : tie.Need-same-length-5
+same-length-5 c = search needs
+
+returns-2 : tie.Need-returns-2
+returns-2 c = (step-push _ _ _ _ _ _ (c .before .if1 .left) (c .before .before .before .before .before .before .pre .0) (omega arith), omega arith)
+
+returns-3 : tie.Need-returns-3
+returns-3 c = (step-full _ _ _ _ _ _ (c .before .if1 .left) (c .before .before .before .before .before .before .pre .0) (omega arith), omega arith)
+
+pub step-spec : {M : Type 1} → statement M
+step-spec =
+    tie.close
+    (tie.spec
+    ended-requires
+    same-length
+    same-length-2
+    same-length-3
+    same-length-4
+    returns
+    slice-write-line
+    add-t20
+    same-length-5
+    returns-2
+    returns-3)
