@@ -1,0 +1,4 @@
+// The line program on an empty input.
+fn main() {
+    run_lines::run();
+}
