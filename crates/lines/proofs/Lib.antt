@@ -1,3 +1,4 @@
 pub mod Whole
 pub mod Replies
+pub mod Again
 pub mod Steps

@@ -43,18 +43,18 @@ overlong l h = rw (lt-leb (length l) widest h) refl
 
 -- ---- bytes and lines
 
--- no byte is LF
-abbrev pub Plain : List ℕ → Type 0
-Plain [] = Prim.Unit
-Plain (b ∷ l) = (b ≡ LF → ⊥) × Plain l
+-- no byte of a text is b
+abbrev pub Free : ℕ → List ℕ → Type 0
+Free b [] = Prim.Unit
+Free b (a ∷ l) = (a ≡ b → ⊥) × Free b l
 
-pub line-ended : (l x : List ℕ) → Plain l → linesOf (l ++ (LF ∷ x)) ≡ l ∷ linesOf x
+pub line-ended : (l x : List ℕ) → Free LF l → linesOf (l ++ (LF ∷ x)) ≡ l ∷ linesOf x
 unfolding linesOf onto
 line-ended [] x p = refl
 line-ended (b ∷ l) x p = rw (ne-eqb b LF (p .0), line-ended l x (p .1)) refl
 
 -- the last line may lack its LF
-pub line-last : (b : ℕ) (l : List ℕ) → Plain (b ∷ l) → linesOf (b ∷ l) ≡ (b ∷ l) ∷ []
+pub line-last : (b : ℕ) (l : List ℕ) → Free LF (b ∷ l) → linesOf (b ∷ l) ≡ (b ∷ l) ∷ []
 unfolding linesOf onto
 line-last b [] p = rw (ne-eqb b LF (p .0)) refl
 line-last b (a ∷ l) p = rw (ne-eqb b LF (p .0), line-last a l (p .1)) refl
