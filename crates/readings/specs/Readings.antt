@@ -41,16 +41,16 @@ pub data Told : Type 0 where
   refused : ℕ → Told
   off : ℕ → Told
 
-abbrev ofEvaluated : Evaluated → Told
+abbrev pub ofEvaluated : Evaluated → Told
 ofEvaluated (E.Value x) = value x
 ofEvaluated (E.Refused r) = refused (numberOf r)
 
-abbrev ofInverted : Inverted → Told
+abbrev pub ofInverted : Inverted → Told
 ofInverted (I.Refused r) = refused (numberOf r)
 ofInverted (I.OffCurve n) = off n
 ofInverted (I.At p) = place (p .parameter) (p .ground) (p .count)
 
-abbrev ofConversion : Conversion → Told
+abbrev pub ofConversion : Conversion → Told
 ofConversion (gives l) = knots l
 ofConversion (refuses r) = refused (numberOf r)
 
