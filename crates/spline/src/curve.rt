@@ -11,7 +11,7 @@ pub struct Spot {
     pub t: f64,
 }
 
-// A call of its own, so that `at` stays small enough to be made anew for each basis.
+// Where a parameter lies on a curve of k segments.
 fn place(k: usize, x: f64) -> Spot
     requires { ⌜ (0 < k) × (k ≤ 4096) ⌝ }
     ensures { λ r. ⌜ Spotted k x (r .s) (r .t) ⌝ }
