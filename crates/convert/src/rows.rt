@@ -1,7 +1,6 @@
 // The refusals of conversion, all decided before the first write.
 ghost use mathlib.Core.Path.{_≡_};
 ghost use Prim.Native.Nat.{_≤_};
-ghost use lib.ListN.{length};
 ghost use Rattle.error.specs.Refusals.{first};
 ghost use Rattle.matrix.specs.Elimination.{isLinear};
 ghost use Rattle.convert.specs.Output.{outputLength};

@@ -3,7 +3,7 @@ use mathlib.Core.Path.{_≡_, refl, sym, subst}
 use mathlib.Core.Bool.{Bool}
 use mathlib.Core.List.{List, []}
 use Prim.Native.Nat.{ℕ, _+_, _*_, _≤_, _<_}
-use native.Mathlib.Nat.{le-trans}
+use native.Mathlib.Nat.{le-trans, le-of-eq}
 use native.Mathlib.Omega.{arith}
 use borrow.Author.Tests.{le-leb, lt-leb}
 use lib.Dec.{T}
@@ -150,11 +150,24 @@ module _ (b : Basis) (y : Float) (ks : List Float) (check : Bool) (limit : ℕ) 
   -- ---- all of these of a reply r, as the call's contract gives it
   pub record Promised (r : Inverted) : Type 0 where
     pub count : countTold r ≡ length (inverseEvaluations b y ks check limit ε)
-    pub bounded : countTold r ≤ boundOf k limit
+    pub few : k ≤ 12 → countTold r ≤ limit + 26
+    pub many : 12 < k → countTold r ≤ limit + 2 * bitsOf k + 6
     pub proper : AtPlace Proper r
     pub enclosed : AtPlace (λ p. Enclosed (knotEnds b ks) [] (segmentOf b ks) k y ε limit (p .ground) p) r
     pub ground : AtPlace (λ p. GroundSays (knotEnds b ks) [] (segmentOf b ks) k y ε limit (p .ground) p) r
     pub off-only : IfOff (Pass × Quiet × (Premise → Nowhere)) r
+    pub off-where : Pass → Quiet → Nowhere → (n : ℕ) × (r ≡ OffCurve n)
 
   pub reply-promised : (r : Inverted) → r ≡ inverseOf b y ks check limit ε → Promised r
-  reply-promised r e = subst Promised (sym e) (record { count = inverse-count; bounded = inverse-bounded; proper = inverse-proper; enclosed = inverse-enclosed; ground = inverse-ground; off-only = inverse-off-only })
+  reply-promised r e =
+      subst Promised (sym e)
+      (record {
+        count = inverse-count;
+        few = λ h. le-trans inverse-bounded (le-of-eq (few-bound h));
+        many = λ h. le-trans inverse-bounded (le-of-eq (many-bound h));
+        proper = inverse-proper;
+        enclosed = inverse-enclosed;
+        ground = inverse-ground;
+        off-only = inverse-off-only;
+        off-where = inverse-off-where;
+      })

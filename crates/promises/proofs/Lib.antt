@@ -1,0 +1,4 @@
+pub mod OneReply
+pub mod Refusing
+pub mod Inverting
+pub mod Exports

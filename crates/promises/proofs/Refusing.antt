@@ -1,0 +1,157 @@
+-- Each call may be called with anything, refuses exactly where a row of the refusal table applies, by the first that does, and then leaves lent memory as it was. Assumes nothing.
+use mathlib.Core.Path.{_≡_, refl, sym, ap, _∙_}
+use mathlib.Core.Bool.{Bool}
+use mathlib.Core.List.{List, []}
+use Prim.Native.Nat.{ℕ}
+use native.Mathlib.Omega.{arith}
+use denote.Ref.{now}
+use lib.ListN.{length}
+use lib.Ieee.{Float}
+use Rattle.error.specs.declared.Refusal.{Refusal}
+use Rattle.error.specs.declared.Verdict.{Verdict}
+use Rattle.error.specs.declared.Verdict.the-variants.{Passed, Failed}
+use Rattle.error.specs.Refusals.{Uses, rows, first}
+use Rattle.error.proofs.First.{never, First, first-sound, first-complete}
+use Rattle.error.proofs.number.Reads as number
+use Rattle.basis.specs.declared.Basis.{Basis}
+use Rattle.basis.specs.Basis.{matrixOf}
+use Rattle.basis.proofs.is_len_ok.Reads as is_len_ok
+use Rattle.spline.specs.declared.Evaluated.{Evaluated}
+use Rattle.spline.specs.declared.Evaluated.the-variants as E
+use Rattle.spline.specs.Segment.{segmentValue, segmentOf}
+use Rattle.spline.specs.Curve.{curveValue}
+use Rattle.spline.specs.Evaluation.{evaluated, splineUses, splineOf, splineSegmentUses, splineSegmentOf}
+use Rattle.spline.proofs.spline.Reads as spline
+use Rattle.spline.proofs.spline_segment.Reads as spline_segment
+use Rattle.invert.specs.declared.Inverted.{Inverted}
+use Rattle.invert.specs.declared.Inverted.the-variants as I
+use Rattle.invert.specs.Segment.{Outcome, off, placed, inSegment}
+use Rattle.invert.specs.Answer.{answered, inverted, alone, inverseSegmentUses, inverseSegmentOf}
+use Rattle.invert.proofs.spline_inverse_segment_with.Reads as spline_inverse_segment_with
+use Rattle.invert.proofs.spline_inverse_segment.Reads as spline_inverse_segment
+use Rattle.inverse.specs.Inverse.{inverseUses, inverseOf}
+use Rattle.inverse.proofs.Refusals.{inverse-refused-only, inverse-refused-where}
+use Rattle.inverse.proofs.spline_inverse_with.Reads as spline_inverse_with
+use Rattle.inverse.proofs.spline_inverse.Reads as spline_inverse
+use Rattle.convert.specs.declared.Converted.{Converted}
+use Rattle.convert.specs.declared.Converted.the-variants as C
+use Rattle.convert.specs.Output.{segmentOutput, splineOutput}
+use Rattle.convert.specs.Conversion.{Conversion, gives, refuses, unless, segmentUses, convertedSegmentOf, splineUses as conversionUses, convertedOf}
+use Rattle.convert.specs.Buffer.{answerOf, bufferOf}
+use Rattle.convert.proofs.convert_segment.Reads as convert_segment
+use Rattle.convert.proofs.convert_spline.Reads as convert_spline
+use Rattle.promises.specs.Calls.{AsksNothing, Keeps, Exactly}
+
+-- ---- no call asks anything of its caller
+pub number-asks-nothing : AsksNothing number.Asked
+number-asks-nothing κs a = tt
+
+pub is-len-ok-asks-nothing : AsksNothing is_len_ok.Asked
+is-len-ok-asks-nothing κs a = tt
+
+pub spline-asks-nothing : AsksNothing spline.Asked
+spline-asks-nothing κs a = tt
+
+pub spline-segment-asks-nothing : AsksNothing spline_segment.Asked
+spline-segment-asks-nothing κs a = tt
+
+pub spline-inverse-segment-with-asks-nothing : AsksNothing spline_inverse_segment_with.Asked
+spline-inverse-segment-with-asks-nothing κs a = tt
+
+pub spline-inverse-segment-asks-nothing : AsksNothing spline_inverse_segment.Asked
+spline-inverse-segment-asks-nothing κs a = tt
+
+pub spline-inverse-with-asks-nothing : AsksNothing spline_inverse_with.Asked
+spline-inverse-with-asks-nothing κs a = tt
+
+pub spline-inverse-asks-nothing : AsksNothing spline_inverse.Asked
+spline-inverse-asks-nothing κs a = tt
+
+pub convert-segment-asks-nothing : AsksNothing convert_segment.Asked
+convert-segment-asks-nothing κs a = tt
+
+pub convert-spline-asks-nothing : AsksNothing convert_spline.Asked
+convert-spline-asks-nothing κs a = tt
+
+-- ---- the definitions refuse by the first row that applies, and where none does they answer
+two-ways : {P Q R : Type 0} → Exactly P Q → Exactly Q R → Exactly P R
+two-ways x y = (λ p. y .0 (x .0 p), λ r. x .1 (y .1 r))
+
+by-first : (us : Uses) (r : Refusal) → Exactly (first us ≡ Failed r) (First us rows r)
+by-first us r = (first-sound rows us r, first-complete rows us r)
+
+by-evaluated : (v : Verdict) (f : Float) (r : Refusal) → Exactly (evaluated v f ≡ E.Refused r) (v ≡ Failed r)
+by-evaluated Passed f r = (λ p. let z : _≡_ {A = ℕ} 0 1 = cc in absurd (omega arith), λ p. absurd (never (sym p)))
+by-evaluated (Failed q) f r = (λ p. let s : q ≡ r = cc in ap Failed s, λ p. let s : q ≡ r = cc in ap E.Refused s)
+
+by-inverted : (v : Verdict) (P : ℕ → Float → Float) (o : Outcome) (r : Refusal) → Exactly (inverted v (answered P o) ≡ I.Refused r) (v ≡ Failed r)
+by-inverted Passed P (off ev) r = (λ p. let z : _≡_ {A = ℕ} 0 1 = cc in absurd (omega arith), λ p. absurd (never (sym p)))
+by-inverted Passed P (placed q) r = (λ p. let z : _≡_ {A = ℕ} 0 1 = cc in absurd (omega arith), λ p. absurd (never (sym p)))
+by-inverted (Failed q) P o r = (λ p. let s : q ≡ r = cc in ap Failed s, λ p. let s : q ≡ r = cc in ap I.Refused s)
+
+by-answer : (v : Verdict) (l : List Float) (r : Refusal) → Exactly (answerOf (unless v l) ≡ C.Refused r) (v ≡ Failed r)
+by-answer Passed l r = (λ p. let z : _≡_ {A = ℕ} 0 1 = cc in absurd (omega arith), λ p. absurd (never (sym p)))
+by-answer (Failed q) l r = (λ p. let s : q ≡ r = cc in ap Failed s, λ p. let s : q ≡ r = cc in ap C.Refused s)
+
+pub value-refused : (b : Basis) (x : Float) (ks : List Float) (r : Refusal) → Exactly (splineOf b x ks ≡ E.Refused r) (First (splineUses b x ks) rows r)
+unfolding splineOf
+value-refused b x ks r = two-ways (by-evaluated (first (splineUses b x ks)) (curveValue b x ks) r) (by-first (splineUses b x ks) r)
+
+pub segment-value-refused : (b : Basis) (x : Float) (cv : List Float) (r : Refusal) → Exactly (splineSegmentOf b x cv ≡ E.Refused r) (First (splineSegmentUses x cv) rows r)
+unfolding splineSegmentOf
+segment-value-refused b x cv r = two-ways (by-evaluated (first (splineSegmentUses x cv)) (segmentValue (matrixOf b) cv x) r) (by-first (splineSegmentUses x cv) r)
+
+pub segment-place-refused : (b : Basis) (y : Float) (cv : List Float) (limit : ℕ) (ε : Float) (r : Refusal) → Exactly (inverseSegmentOf b y cv limit ε ≡ I.Refused r) (First (inverseSegmentUses y cv limit ε) rows r)
+unfolding inverseSegmentOf
+segment-place-refused b y cv limit ε r =
+    two-ways (by-inverted (first (inverseSegmentUses y cv limit ε)) alone (inSegment (segmentOf b cv 0) 0 y ε limit []) r) (by-first (inverseSegmentUses y cv limit ε) r)
+
+pub place-refused : (b : Basis) (y : Float) (ks : List Float) (check : Bool) (limit : ℕ) (ε : Float) (r : Refusal) → Exactly (inverseOf b y ks check limit ε ≡ I.Refused r) (First (inverseUses b y ks check limit ε) rows r)
+place-refused b y ks check limit ε r = (inverse-refused-only b y ks check limit ε r, inverse-refused-where b y ks check limit ε r)
+
+pub segment-conversion-refused : (from to : Basis) (cv : List Float) (room : ℕ) (r : Refusal) → Exactly (answerOf (convertedSegmentOf from to cv room) ≡ C.Refused r) (First (segmentUses to cv room) rows r)
+unfolding convertedSegmentOf
+segment-conversion-refused from to cv room r = two-ways (by-answer (first (segmentUses to cv room)) (segmentOutput from to cv) r) (by-first (segmentUses to cv room) r)
+
+pub conversion-refused : (from to : Basis) (ks : List Float) (room : ℕ) (r : Refusal) → Exactly (answerOf (convertedOf from to ks room) ≡ C.Refused r) (First (conversionUses from to ks room) rows r)
+unfolding convertedOf
+conversion-refused from to ks room r = two-ways (by-answer (first (conversionUses from to ks room)) (splineOutput from to ks) r) (by-first (conversionUses from to ks room) r)
+
+-- ---- and so do the calls
+carried : {Z : Type 0} {z d t : Z} {Q : Type 0} → z ≡ d → Exactly (d ≡ t) Q → Exactly (z ≡ t) Q
+carried e x = (λ p. x .0 (sym e ∙ p), λ q. e ∙ x .1 q)
+
+pub spline-refuses : Keeps spline.Learnt (λ κs a z e. (r : Refusal) → Exactly (z ≡ E.Refused r) (First (splineUses (a .0) (a .1 .0) (now (a .1 .1 .0))) rows r))
+spline-refuses κs a z e p r = carried p (value-refused (a .0) (a .1 .0) (now (a .1 .1 .0)) r)
+
+pub spline-segment-refuses : Keeps spline_segment.Learnt (λ κs a z e. (r : Refusal) → Exactly (z ≡ E.Refused r) (First (splineSegmentUses (a .1 .0) (now (a .1 .1 .0))) rows r))
+spline-segment-refuses κs a z e p r = carried p (segment-value-refused (a .0) (a .1 .0) (now (a .1 .1 .0)) r)
+
+pub spline-inverse-segment-refuses : Keeps spline_inverse_segment_with.Learnt
+    (λ κs a z e. (r : Refusal) → Exactly (z ≡ I.Refused r) (First (inverseSegmentUses (a .1 .0) (now (a .1 .1 .0)) (a .1 .1 .1 .0) (a .1 .1 .1 .1 .0)) rows r))
+spline-inverse-segment-refuses κs a z e p r = carried p (segment-place-refused (a .0) (a .1 .0) (now (a .1 .1 .0)) (a .1 .1 .1 .0) (a .1 .1 .1 .1 .0) r)
+
+pub spline-inverse-refuses : Keeps spline_inverse_with.Learnt
+    (λ κs a z e. (r : Refusal) → Exactly (z ≡ I.Refused r) (First (inverseUses (a .0) (a .1 .0) (now (a .1 .1 .0)) (a .1 .1 .1 .0) (a .1 .1 .1 .1 .0) (a .1 .1 .1 .1 .1 .0)) rows r))
+spline-inverse-refuses κs a z e p r = carried p (place-refused (a .0) (a .1 .0) (now (a .1 .1 .0)) (a .1 .1 .1 .0) (a .1 .1 .1 .1 .0) (a .1 .1 .1 .1 .1 .0) r)
+
+pub convert-segment-refuses : Keeps convert_segment.Learnt
+    (λ κs a z e. (r : Refusal) → Exactly (z ≡ C.Refused r) (First (segmentUses (a .1 .0) (now (a .1 .1 .0)) (length (now (a .1 .1 .1 .0)))) rows r))
+convert-segment-refuses κs a z e p r = carried (p .0) (segment-conversion-refused (a .0) (a .1 .0) (now (a .1 .1 .0)) (length (now (a .1 .1 .1 .0))) r)
+
+pub convert-spline-refuses : Keeps convert_spline.Learnt
+    (λ κs a z e. (r : Refusal) → Exactly (z ≡ C.Refused r) (First (conversionUses (a .0) (a .1 .0) (now (a .1 .1 .0)) (length (now (a .1 .1 .1 .0)))) rows r))
+convert-spline-refuses κs a z e p r = carried (p .0) (conversion-refused (a .0) (a .1 .0) (now (a .1 .1 .0)) (length (now (a .1 .1 .1 .0))) r)
+
+-- ---- a refusal writes nothing
+kept : (c : Conversion) (out : List Float) (r : Refusal) → answerOf c ≡ C.Refused r → bufferOf c out ≡ out
+kept (gives l) out r p = let z : _≡_ {A = ℕ} 0 1 = cc in absurd (omega arith)
+kept (refuses q) out r p = refl
+
+pub convert-segment-writes-nothing : Keeps convert_segment.Learnt (λ κs a z e. (r : Refusal) → z ≡ C.Refused r → now (e .1 .1 .1 .0) ≡ now (a .1 .1 .1 .0))
+convert-segment-writes-nothing κs a z e p r h =
+    p .1 ∙ kept (convertedSegmentOf (a .0) (a .1 .0) (now (a .1 .1 .0)) (length (now (a .1 .1 .1 .0)))) (now (a .1 .1 .1 .0)) r (sym (p .0) ∙ h)
+
+pub convert-spline-writes-nothing : Keeps convert_spline.Learnt (λ κs a z e. (r : Refusal) → z ≡ C.Refused r → now (e .1 .1 .1 .0) ≡ now (a .1 .1 .1 .0))
+convert-spline-writes-nothing κs a z e p r h =
+    p .1 ∙ kept (convertedOf (a .0) (a .1 .0) (now (a .1 .1 .0)) (length (now (a .1 .1 .1 .0)))) (now (a .1 .1 .1 .0)) r (sym (p .0) ∙ h)
