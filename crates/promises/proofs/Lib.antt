@@ -2,3 +2,4 @@ pub mod OneReply
 pub mod Refusing
 pub mod Inverting
 pub mod Exports
+pub mod Searching
