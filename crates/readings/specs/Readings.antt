@@ -1,12 +1,14 @@
 -- The readings: one table, and one statement, `readings`, that the definitions give what it tells.
 use mathlib.Core.Path.{_≡_, refl}
 use mathlib.Core.Bool.{Bool, true, false}
-use mathlib.Core.List.{List, [], _∷_, _++_}
+use mathlib.Core.List.{List, [], _∷_, _++_, map, reverse}
 use Prim.Native.Nat.{ℕ, zero, suc, _*_}
 use lib.Count.{leadingZeros}
 use lib.IntN.{pos}
 use lib.Ieee.{Float, binary64, ofBits, ofInt, round, add, sub, mul, div, lt, le, eq, neg, isNan}
-use Rattle.error.specs.Refusals.{numberOf}
+use Rattle.error.specs.declared.Verdict.{Verdict}
+use Rattle.error.specs.declared.Verdict.the-variants.{Passed, Failed}
+use Rattle.error.specs.Refusals.{numberOf, first}
 use Rattle.basis.specs.declared.Basis.{Basis}
 use Rattle.basis.specs.declared.Basis.the-variants.{Bspline, Bezier, CatmullRom, Hermite, Linear, Power}
 use Rattle.basis.specs.Basis.{matrixOf}
@@ -15,7 +17,7 @@ use Rattle.doubles.specs.Lerp.{lerpOf}
 use Rattle.doubles.specs.Whole.{wholeUpTo}
 use Rattle.spline.specs.declared.Evaluated.{Evaluated}
 use Rattle.spline.specs.declared.Evaluated.the-variants as E
-use Rattle.spline.specs.Rows.{inRange, allInRange}
+use Rattle.spline.specs.Rows.{curveLength, inRange, allInRange}
 use Rattle.spline.specs.Curve.{curveAt}
 use Rattle.spline.specs.Evaluation.{splineOf}
 use Rattle.invert.specs.declared.Ground.{Ground}
@@ -29,17 +31,19 @@ use Rattle.invert.specs.Segment.{entered, inSegmentBy}
 use Rattle.search.specs.Bound.{bitsOf}
 use Rattle.search.specs.Search.{tries, last, halve, find}
 use Rattle.inverse.specs.Order.{ordered}
-use Rattle.inverse.specs.Curve.{parameterOf, located}
-use Rattle.inverse.specs.Inverse.{inverseOf}
+use Rattle.inverse.specs.Curve.{parameterOf, located, evaluations}
+use Rattle.inverse.specs.Inverse.{inverseOf, inverseEvaluations}
 use Rattle.convert.specs.Conversion.{Conversion, gives, refuses, convertedOf}
 
--- ---- what a reading tells: a value or the knots, a place by its parameter, ground and count, or a refusal's number; 11 with its count
+-- ---- what a reading tells: a value or the knots, a place by its parameter, ground and count, or a refusal's number, 11 with its count; that a length is accepted; segments
 pub data Told : Type 0 where
   value : Float → Told
   place : Float → Ground → ℕ → Told
   knots : List Float → Told
   refused : ℕ → Told
   off : ℕ → Told
+  accepted : Told
+  segments : List ℕ → Told
 
 abbrev pub ofEvaluated : Evaluated → Told
 ofEvaluated (E.Value x) = value x
@@ -54,12 +58,20 @@ abbrev pub ofConversion : Conversion → Told
 ofConversion (gives l) = knots l
 ofConversion (refuses r) = refused (numberOf r)
 
+abbrev pub ofVerdict : Verdict → Told
+ofVerdict Passed = accepted
+ofVerdict (Failed r) = refused (numberOf r)
+
 -- ---- a reading: what is asked, and what is told
 pub data Asked : Type 0 where
+  -- whether a number of knots suits a basis
+  knots-of : Basis → ℕ → Asked
   -- a curve's value at a parameter
   at : Basis → List Float → Float → Asked
   -- the place of a target: with the order check or without, to a precision
   place-of : Basis → List Float → Float → Bool → Float → Asked
+  -- the segments that are evaluated for it, the first one first
+  visited : Basis → List Float → Float → Asked
   -- a knot vector in another basis
   turned : Basis → Basis → List Float → Asked
 
@@ -67,8 +79,10 @@ pub data Reading : Type 0 where
   tells : Asked → Told → Reading
 
 abbrev answer : Asked → Told
+answer (knots-of b n) = ofVerdict (first (curveLength b n))
 answer (at b ks x) = ofEvaluated (splineOf b x ks)
 answer (place-of b ks y check ε) = ofInverted (inverseOf b y ks check defaultLimit ε)
+answer (visited b ks y) = segments (reverse (map (λ e. e .0) (inverseEvaluations b y ks true defaultLimit defaultPrecision)))
 answer (turned from to ks) = ofConversion (convertedOf from to ks 4096)
 
 -- each tells what is answered
@@ -121,6 +135,18 @@ sixes i zero = []
 sixes i (suc n) = whole (6 * i) ∷ sixes (suc i) n
 
 -- ---- the table, in groups
+-- lengths
+pub lengths : List Reading
+lengths =
+    tells (knots-of Bezier 4) accepted
+    ∷ tells (knots-of Bezier 7) accepted
+    ∷ tells (knots-of Bezier 3) (refused 1)
+    ∷ tells (knots-of Bezier 5) (refused 2)
+    ∷ tells (knots-of Bezier 11) (refused 2)
+    ∷ tells (knots-of Linear 4096) accepted
+    ∷ tells (knots-of Linear 4097) (refused 3)
+    ∷ []
+
 -- a value, and lengths and knots at their bounds
 pub values : List Reading
 unfolding copies
@@ -154,11 +180,12 @@ places =
     ∷ tells (place-of CatmullRom (nought ∷ nought ∷ whole 3 ∷ whole 2 ∷ whole 5 ∷ whole 5 ∷ []) one true defaultPrecision) (refused 10)
     ∷ []
 
--- a target that no segment encloses: 13 segments by halving, 12 in order
+-- a target that no segment encloses: 13 segments by halving, with the last tries at segments 0 and 1; 12 in order
 pub halvings : List Reading
 unfolding sixes
 halvings =
     tells (place-of Bspline (nought ∷ sixes 0 15) half true defaultPrecision) (off 10)
+    ∷ tells (visited Bspline (nought ∷ sixes 0 15) half) (segments (6 ∷ 6 ∷ 2 ∷ 2 ∷ 0 ∷ 0 ∷ 0 ∷ 0 ∷ 1 ∷ 1 ∷ []))
     ∷ tells (place-of Bspline (nought ∷ sixes 0 14) half true defaultPrecision) (off 24)
     ∷ []
 
@@ -171,9 +198,13 @@ conversions =
     ∷ []
 
 abbrev pub table : List Reading
-table = values ++ (longest ++ (places ++ (halvings ++ conversions)))
+table = lengths ++ (values ++ (longest ++ (places ++ (halvings ++ conversions))))
 
 -- ---- the statement
+lengths-hold : Hold lengths
+unfolding lengths
+lengths-hold = (refl, (refl, (refl, (refl, (refl, (refl, (refl, tt)))))))
+
 values-hold : Hold values
 unfolding values splineOf inRange allInRange curveAt wholeUpTo clamp matrixOf ofBits ofInt round add sub mul lt le eq neg isNan
 values-hold = (refl, (refl, (refl, (refl, (refl, (refl, (refl, (refl, tt))))))))
@@ -187,8 +218,8 @@ unfolding places inverseOf located find tries last halve bitsOf inSegmentBy ente
 places-hold = (refl, (refl, (refl, (refl, (refl, (refl, tt))))))
 
 halvings-hold : Hold halvings
-unfolding halvings inverseOf located find tries last halve bitsOf inSegmentBy entered rounds turn probed settled moved fraction kept weighed halving narrow ordered precise parameterOf inRange allInRange magnitudeOf lerpOf matrixOf ofBits ofInt round add sub mul div lt le eq neg isNan leadingZeros
-halvings-hold = (refl, (refl, tt))
+unfolding halvings inverseOf inverseEvaluations located evaluations find tries last halve bitsOf inSegmentBy entered rounds turn probed settled moved fraction kept weighed halving narrow ordered precise parameterOf inRange allInRange magnitudeOf lerpOf matrixOf ofBits ofInt round add sub mul div lt le eq neg isNan leadingZeros
+halvings-hold = (refl, (refl, (refl, tt)))
 
 conversions-hold : Hold conversions
 unfolding conversions convertedOf inRange allInRange matrixOf ofBits ofInt round add sub mul div lt le eq neg isNan
@@ -199,4 +230,4 @@ both [] qs h k = k
 both (tells a t ∷ rs) qs h k = (h .0, both rs qs (h .1) k)
 
 pub readings : Hold table
-readings = both values _ values-hold (both longest _ longest-hold (both places _ places-hold (both halvings _ halvings-hold conversions-hold)))
+readings = both lengths _ lengths-hold (both values _ values-hold (both longest _ longest-hold (both places _ places-hold (both halvings _ halvings-hold conversions-hold))))
