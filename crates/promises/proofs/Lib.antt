@@ -3,3 +3,4 @@ pub mod Refusing
 pub mod Inverting
 pub mod Exports
 pub mod Searching
+pub mod Spending
