@@ -24,7 +24,7 @@ use Rattle.invert.specs.declared.State.{State}
 use Rattle.invert.specs.Evaluations.{Evaluations}
 use Rattle.invert.specs.Round.{Weighting, halving, narrow, weighed, fraction, falsi, Turn, found, on, turn, probed, settled}
 use Rattle.invert.specs.Rounds.{Placed, rounds}
-use Rattle.invert.specs.Segment.{encloses, near, start, whole, entered, Outcome, off, placed, evaluationsOf, inSegmentBy, inSegment}
+use Rattle.invert.specs.Segment.{encloses, near, start, whole, entered, Outcome, off, placed, evaluationsOf, inSegmentBy}
 use Rattle.invert.specs.Answer.{answered, inverted}
 use Rattle.search.specs.Bound.{bitsOf}
 use Rattle.search.specs.Search.{before, tries, last, halve, find}
