@@ -30,7 +30,7 @@ unfoldable pub magnitudeOf : Float → Float
 unfolding lt neg
 magnitudeOf x = cond (lt x nought) (neg x) x
 
--- -0 stays
+-- 0 for what is below 0, 1 for what is above 1; -0 stays
 unfoldable pub clamp : Float → Float
 unfolding lt
 clamp x = cond (lt x nought) nought (cond (lt one x) one x)

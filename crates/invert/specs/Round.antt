@@ -21,6 +21,7 @@ narrow ε b =
     let width = magnitudeOf (sub binary64 (b .upper) (b .lower)) in
     lt width (greater ε (mul binary64 width trillionth))
 
+-- the place with the fraction 0.5
 abbrev pub midpoint : Bracket → Float
 midpoint b = lerpOf (b .lower) (b .upper) half
 
@@ -35,7 +36,7 @@ halving y true b = record { lower = b .lower; upper = b .upper; v0 = mul binary6
 halving y false b = record { lower = b .lower; upper = b .upper; v0 = b .v0; v1 = mul binary64 (b .v1) half }
 
 -- ---- the fraction
--- whether a round goes by regula falsi: its number, from 0, is below 3·limit/4, and the same-side count below 3
+-- whether a round goes by regula falsi: its number, from 0, is below 3·limit/4 rounded down, and the same-side count below 3
 abbrev pub falsi : ℕ → ℕ → State → Bool
 falsi limit i st = ltb i (3 * limit / 4) && ltb (st .stuck) 3
 
@@ -47,6 +48,7 @@ weighed W y by st = cond (by && ltb 0 (st .stuck)) (W y (eqb (st .side) 1) (st .
 unfoldable pub kept : Float → Float
 kept t = cond (lt hundredth t && lt t ninetyNineHundredths) t half
 
+-- (y − v0)/(v1 − v0) in a round by regula falsi; a half in any other
 unfoldable pub fraction : Float → Bool → Bracket → Float
 fraction y by b = cond by (kept (div binary64 (sub binary64 y (b .v0)) (sub binary64 (b .v1) (b .v0)))) half
 
@@ -76,6 +78,7 @@ probed W f s y ε rising by st ev =
     let seen = see f s x ev in
     settled y ε rising b st x (seen .value) (seen .made)
 
+-- the width test comes first, and the midpoint is its answer
 unfoldable pub turn : Weighting → (Float → Float) → ℕ → Float → Float → Bool → Bool → State → Evaluations → Turn
 turn W f s y ε rising by st ev =
     let r = probed W f s y ε rising by st ev in

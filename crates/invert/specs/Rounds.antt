@@ -17,6 +17,7 @@ pub record Placed : Type 0 where
   pub upper : Float
   pub made : Evaluations
 
+-- the bracket shown is the one after its last move
 abbrev pub stopped : ℕ → Ground → Float → Bracket → Evaluations → Placed
 stopped s g x b ev = record { ground = g; segment = s; local = x; lower = b .lower; upper = b .upper; made = ev }
 

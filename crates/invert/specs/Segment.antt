@@ -26,7 +26,7 @@ whole v0 v1 = record { lower = nought; upper = one; v0 = v0; v1 = v1 }
 abbrev pub start : Bracket → State
 start b = record { bracket = b; side = 0; stuck = 0 }
 
--- a segment whose end values v0 and v1 enclose y: local 0, or else local 1, or else the rounds
+-- a segment whose end values v0 and v1 enclose y: local 0, or else local 1, or else the rounds. Rising means v0 < v1
 unfoldable pub entered : Weighting → (Float → Float) → ℕ → Float → Float → ℕ → Float → Float → Evaluations → Placed
 entered W f s y ε limit v0 v1 ev =
     let r = rounds W f s y ε (lt v0 v1) limit limit 0 (on (start (whole v0 v1)) ev) in
@@ -41,6 +41,7 @@ abbrev pub evaluationsOf : Outcome → Evaluations
 evaluationsOf (off ev) = ev
 evaluationsOf (placed p) = p .made
 
+-- both ends are evaluated, 0 and then 1; y is off the segment where they do not enclose it
 unfoldable pub inSegmentBy : Weighting → (Float → Float) → ℕ → Float → Float → ℕ → Evaluations → Outcome
 inSegmentBy W f s y ε limit ev =
     let a = see f s nought ev in

@@ -30,7 +30,7 @@ unfolding eq
 firstOf [] a i = Missing
 firstOf (k ∷ ks) a i = cond (isZero (entry a k i)) (firstOf ks a i) (Row k)
 
--- row i itself, and where its entry is zero the first row below
+-- row i itself, and where its entry is zero the first row below whose entry is not
 abbrev pub pivotOf : Rows → ℕ → Pivot
 pivotOf a i = firstOf (drop i (0 ∷ 1 ∷ 2 ∷ 3 ∷ [])) a i
 

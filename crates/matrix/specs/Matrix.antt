@@ -27,6 +27,7 @@ column m j = four (λ k. entry m k j)
 abbrev pub rowTimes : List Float → Rows → List Float
 rowTimes r b = four (λ j. rowSum r (column b j))
 
+-- each row of a times b
 unfoldable pub product : Rows → Rows → Rows
 unfolding add mul
 product a b = four (λ i. rowTimes (row a i) b)

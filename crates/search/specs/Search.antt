@@ -35,7 +35,7 @@ module _ (g : ℕ → Float → Float) (y ε : Float) (limit : ℕ) where
       let later = tries n (suc s) (p .made) in
       cond (p .holds) here later
 
-  -- nothing is open: left is l, and right l − 1, at least 0. From left − 1, at least 0, up to but not including the lesser of right + 2 and k
+  -- nothing is open: left is l, and right l − 1, at least 0, as after going left at segment 0. From left − 1, at least 0, up to but not including the lesser of right + 2 and k
   unfoldable pub last : ℕ → ℕ → Evaluations → Outcome
   last k l ev = tries (min (l - 1 + 2) k - (l - 1)) (l - 1) ev
 

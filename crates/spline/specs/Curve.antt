@@ -28,7 +28,7 @@ pub record Spotted (k : ℕ) (x : Float) (s : ℕ) (t : Float) : Type 0 where
   pub local : t ≡ localAt k x
   pub below : s < k
 
--- the segment s of k is the four knots from place s × step onward
+-- n knots give k = (n − 4)/step + 1 segments; segment s is the four knots from place s × step onward
 unfoldable pub curveAt : List (List Float) → ℕ → Float → List Float → Float
 curveAt m step x ks = let k = (length ks - 4) / step + 1 in segmentValue m (drop (segmentAt k x * step) ks) (localAt k x)
 
