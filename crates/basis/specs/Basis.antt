@@ -108,3 +108,12 @@ matrixOf Power =
     row 1 +0 +0 +1 +0 ∷
     row 1 +0 +0 +0 +1 ∷
     []
+
+-- the one basis whose matrix has no inverse
+abbrev pub isLinear : Basis → Bool
+isLinear Bspline = false
+isLinear Bezier = false
+isLinear CatmullRom = false
+isLinear Hermite = false
+isLinear Linear = true
+isLinear Power = false

@@ -12,13 +12,14 @@ use Rattle.basis.specs.declared.Basis.{Basis}
 use Rattle.basis.specs.Basis.{stepOf}
 use Rattle.spline.specs.declared.Weights.{Weights}
 use Rattle.spline.specs.Segment.{weightsOf}
-use Rattle.matrix.specs.Matrix.{Rows}
+use Rattle.matrix.specs.Matrix.{Matrix}
 use Rattle.matrix.specs.Elimination.{conversionOf}
 use Rattle.convert.specs.declared.Converted.{Converted}
 use Rattle.convert.specs.declared.Converted.the-variants.{Written, Refused}
 use Rattle.convert.specs.Output.{windows, segmentOutput, splineOutput}
-use Rattle.convert.specs.Conversion.{Conversion, gives, refuses, unless, segmentUses, splineUses, convertedSegmentOf, convertedOf}
-use Rattle.convert.specs.Buffer.{answerOf, bufferOf, placed, listOf}
+use Rattle.convert.specs.Conversion.{Conversion, gives, refuses, unless, convertSegmentUses, convertUses, convertedSegmentOf, convertedOf}
+use Rattle.convert.specs.Buffer.{answerOf, bufferOf}
+use Rattle.convert.specs.Shown.{placed, listOf}
 use Rattle.convert.proofs.Verdicts.{less-one}
 use Rattle.convert.proofs.Writing.{windows-length}
 
@@ -35,25 +36,25 @@ told-gift l n out out′ e p q = record { answer = ap Written p ∙ sym (ap answ
 
 -- ---- one segment
 module _ (from to : Basis) (cv out : List Float) where
-  pub segment-refused : (r : Refusal) → first (segmentUses to cv (length out)) ≡ Failed r → Told (convertedSegmentOf from to cv (length out)) (Refused r) out out
+  pub segment-refused : (r : Refusal) → first (convertSegmentUses to cv (length out)) ≡ Failed r → Told (convertedSegmentOf from to cv (length out)) (Refused r) out out
   unfolding convertedSegmentOf
   segment-refused r e = told-refusal r out (ap (λ (v : Verdict). unless v (segmentOutput from to cv)) e)
 
-  pub segment-written : (m : Rows) (w : Weights) (out′ : List Float) → first (segmentUses to cv (length out)) ≡ Passed
+  pub segment-written : (m : Matrix) (w : Weights) (out′ : List Float) → first (convertSegmentUses to cv (length out)) ≡ Passed
       → m ≡ conversionOf from to → w ≡ weightsOf m cv → out′ ≡ placed 0 (drop (4 - 4) (listOf w)) out
       → Told (convertedSegmentOf from to cv (length out)) (Written 4) out out′
   unfolding convertedSegmentOf segmentOutput
   segment-written m w out′ e p q r =
       told-gift (segmentOutput from to cv) 4 out out′ (ap (λ (v : Verdict). unless v (segmentOutput from to cv)) e) refl
-      (r ∙ ap (λ (x : Weights). listOf x ++ drop 4 out) (q ∙ ap (λ (x : Rows). weightsOf x cv) p))
+      (r ∙ ap (λ (x : Weights). listOf x ++ drop 4 out) (q ∙ ap (λ (x : Matrix). weightsOf x cv) p))
 
 -- ---- a curve
 module _ (from to : Basis) (ks out : List Float) where
-  pub spline-refused : (r : Refusal) → first (splineUses from to ks (length out)) ≡ Failed r → Told (convertedOf from to ks (length out)) (Refused r) out out
+  pub spline-refused : (r : Refusal) → first (convertUses from to ks (length out)) ≡ Failed r → Told (convertedOf from to ks (length out)) (Refused r) out out
   unfolding convertedOf
   spline-refused r e = told-refusal r out (ap (λ (v : Verdict). unless v (splineOutput from to ks)) e)
 
-  pub spline-written : (m : Rows) (step gap n : ℕ) (out′ : List Float) → first (splineUses from to ks (length out)) ≡ Passed
+  pub spline-written : (m : Matrix) (step gap n : ℕ) (out′ : List Float) → first (convertUses from to ks (length out)) ≡ Passed
       → m ≡ conversionOf from to → step ≡ stepOf from → gap ≡ stepOf to → gap ≤ 4
       → n ≡ 4 + (length ks - 4) / step * gap
       → out′ ≡ bufferOf (gives (windows m step gap ks ((length ks - 4) / step))) out
@@ -62,7 +63,7 @@ module _ (from to : Basis) (ks out : List Float) where
   spline-written m step gap n out′ e p a b g l q =
       let k = (length ks - 4) / step in
       let same : windows m step gap ks k ≡ splineOutput from to ks =
-      ap (λ (x : Rows). windows x step gap ks k) p
+      ap (λ (x : Matrix). windows x step gap ks k) p
       ∙ ap (λ (x : ℕ). windows (conversionOf from to) x gap ks ((length ks - 4) / x)) a
       ∙ ap (λ (x : ℕ). windows (conversionOf from to) (stepOf from) x ks ((length ks - 4) / stepOf from)) b
       ∙ ap (windows (conversionOf from to) (stepOf from) (stepOf to) ks) (less-one ((length ks - 4) / stepOf from)) in

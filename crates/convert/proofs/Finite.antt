@@ -14,11 +14,11 @@ use Rattle.doubles.proofs.Bounds.{within-finite}
 use Rattle.spline.specs.Rows.{allInRange}
 use Rattle.spline.proofs.Finite.{Four, Small, Finite, none, more, row-finite, knots-within}
 use Rattle.spline.proofs.Parts.{inside}
-use Rattle.matrix.specs.Matrix.{Rows, row, applied}
+use Rattle.matrix.specs.Matrix.{Matrix, row, applied}
 use Rattle.matrix.specs.Elimination.{conversionOf}
 use Rattle.matrix.proofs.Inverses.{conversion-small}
 use Rattle.convert.specs.Output.{windows, segmentOutput, splineOutput}
-use Rattle.convert.specs.Conversion.{gives, segmentUses, splineUses, convertedSegmentOf, convertedOf}
+use Rattle.convert.specs.Conversion.{gives, convertSegmentUses, convertUses, convertedSegmentOf, convertedOf}
 use Rattle.convert.proofs.Kept.{given}
 use Rattle.convert.proofs.Verdicts.{segment-passed, spline-passed}
 
@@ -38,14 +38,14 @@ finite-at (more w p) zero h = within-finite w
 finite-at (more w p) (suc i) h = finite-at p i (omega arith)
 
 -- ---- a window, and all windows
-applied-finite : (m : Rows) (cv : List Float) → Small 3 m → Four 40 cv → Finite (applied m cv)
+applied-finite : (m : Matrix) (cv : List Float) → Small 3 m → Four 40 cv → Finite (applied m cv)
 applied-finite m cv s k =
     more (row-finite 3 cv (row m 0) (lit≤ tt) k (s .r0) .within)
     (more (row-finite 3 cv (row m 1) (lit≤ tt) k (s .r1) .within)
     (more (row-finite 3 cv (row m 2) (lit≤ tt) k (s .r2) .within)
     (more (row-finite 3 cv (row m 3) (lit≤ tt) k (s .r3) .within) none)))
 
-windows-finite : (m : Rows) (step gap : ℕ) (ks : List Float) (n : ℕ) → Small 3 m → T (allInRange ks) → ((i : ℕ) → i ≤ n → i * step + 4 ≤ length ks) → Finite (windows m step gap ks n)
+windows-finite : (m : Matrix) (step gap : ℕ) (ks : List Float) (n : ℕ) → Small 3 m → T (allInRange ks) → ((i : ℕ) → i ≤ n → i * step + 4 ≤ length ks) → Finite (windows m step gap ks n)
 unfolding windows
 windows-finite m step gap ks zero s t h = applied-finite m (drop (0 * step) ks) s (knots-within ks (0 * step) t (h 0 (omega arith)))
 windows-finite m step gap ks (suc n) s t h =
@@ -56,14 +56,14 @@ windows-finite m step gap ks (suc n) s t h =
 pub segment-finite : (from to : Basis) (cv : List Float) (room : ℕ) (l : List Float) → convertedSegmentOf from to cv room ≡ gives l → Finite l
 unfolding convertedSegmentOf segmentOutput
 segment-finite from to cv room l e =
-    let g = given (first (segmentUses to cv room)) e in
+    let g = given (first (convertSegmentUses to cv room)) e in
     let p = segment-passed to cv room (g .0) in
     subst Finite (g .1) (applied-finite (conversionOf from to) cv (conversion-small from to) (knots-within cv 0 (subst T (sym (p .1 .in-range)) tt) (omega arith)))
 
 pub spline-finite : (from to : Basis) (ks : List Float) (room : ℕ) (l : List Float) → convertedOf from to ks room ≡ gives l → Finite l
 unfolding convertedOf splineOutput
 spline-finite from to ks room l e =
-    let g = given (first (splineUses from to ks room)) e in
+    let g = given (first (convertUses from to ks room)) e in
     let p = spline-passed from to ks room (g .0) in
     let k = (length ks - 4) / stepOf from in
     let fit : (i : ℕ) → i ≤ k + 1 - 1 → i * stepOf from + 4 ≤ length ks = λ i h. reach i (inside i (stepOf from) (length ks - 4) (omega arith)) (p .0 .least) in

@@ -17,7 +17,7 @@ use Rattle.basis.specs.declared.Basis.the-variants.{Bspline, Bezier, CatmullRom
 use Rattle.basis.specs.Basis.{stepOf, segmentsOf}
 use Rattle.matrix.specs.Elimination.{conversionOf}
 use Rattle.convert.specs.Output.{segmentOutput, splineOutput, outputLength}
-use Rattle.convert.specs.Conversion.{Conversion, gives, refuses, unless, segmentUses, splineUses, convertedSegmentOf, convertedOf}
+use Rattle.convert.specs.Conversion.{Conversion, gives, refuses, unless, convertSegmentUses, convertUses, convertedSegmentOf, convertedOf}
 use Rattle.convert.specs.Buffer.{bufferOf}
 use Rattle.convert.proofs.Verdicts.{segment-passed, spline-passed}
 use Rattle.convert.proofs.Writing.{windows-length}
@@ -53,7 +53,7 @@ four-at-most Power = lit≤ tt
 pub spline-length : (from to : Basis) (ks : List Float) (room : ℕ) (l : List Float) → convertedOf from to ks room ≡ gives l → (length l ≡ outputLength from to (length ks)) × (length l ≤ room)
 unfolding convertedOf splineOutput
 spline-length from to ks room l e =
-    let g = given (first (splineUses from to ks room)) e in
+    let g = given (first (convertUses from to ks room)) e in
     let n : length l ≡ outputLength from to (length ks) =
     ap length (sym (g .1)) ∙ windows-length (conversionOf from to) (stepOf from) (stepOf to) ks (segmentsOf from (length ks) - 1) (four-at-most to) in
     (n, le-trans (le-of-eq n) (spline-passed from to ks room (g .0) .1 .enough))
@@ -62,6 +62,6 @@ spline-length from to ks room l e =
 pub segment-length : (from to : Basis) (cv : List Float) (room : ℕ) (l : List Float) → convertedSegmentOf from to cv room ≡ gives l → (length l ≡ 4) × (length l ≤ room)
 unfolding convertedSegmentOf segmentOutput
 segment-length from to cv room l e =
-    let g = given (first (segmentUses to cv room)) e in
+    let g = given (first (convertSegmentUses to cv room)) e in
     let n : length l ≡ 4 = ap length (sym (g .1)) in
     (n, le-trans (le-of-eq n) (segment-passed to cv room (g .0) .1 .enough))

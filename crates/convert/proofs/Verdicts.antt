@@ -15,27 +15,26 @@ use Rattle.error.specs.declared.Verdict.the-variants.{Passed, Failed}
 use Rattle.error.specs.Refusals.{first, rows}
 use Rattle.error.proofs.First.{stops, goes-on, passed}
 use Rattle.basis.specs.declared.Basis.{Basis}
-use Rattle.basis.specs.Basis.{stepOf}
+use Rattle.basis.specs.Basis.{stepOf, isLinear}
 use Rattle.spline.specs.Rows.{curveLength, segmentLength, allInRange}
 use Rattle.spline.proofs.Parts.{few}
-use Rattle.matrix.specs.Elimination.{isLinear}
 use Rattle.convert.specs.Output.{outputLength}
-use Rattle.convert.specs.Conversion.{outputUses, segmentUses, splineUses}
+use Rattle.convert.specs.Conversion.{outputUses, convertSegmentUses, convertUses}
 
 -- ---- the length's rows, then the output's
 module _ (to : Basis) (cv : List Float) (room : ℕ) {l : Verdict} (e : l ≡ first (segmentLength (length cv))) where
-  pub segment-stops : {r : Refusal} → l ≡ Failed r → Failed r ≡ first (segmentUses to cv room)
-  segment-stops k = sym k ∙ stops (segmentUses to cv room) e k
+  pub segment-stops : {r : Refusal} → l ≡ Failed r → Failed r ≡ first (convertSegmentUses to cv room)
+  segment-stops k = sym k ∙ stops (convertSegmentUses to cv room) e k
 
-  pub segment-goes-on : {w : Verdict} → l ≡ Passed → w ≡ first (outputUses to cv 4 room) → w ≡ first (segmentUses to cv room)
-  segment-goes-on k h = goes-on (segmentUses to cv room) e k h
+  pub segment-goes-on : {w : Verdict} → l ≡ Passed → w ≡ first (outputUses to cv 4 room) → w ≡ first (convertSegmentUses to cv room)
+  segment-goes-on k h = goes-on (convertSegmentUses to cv room) e k h
 
 module _ (from to : Basis) (ks : List Float) (room : ℕ) {l : Verdict} (e : l ≡ first (curveLength from (length ks))) where
-  pub spline-stops : {r : Refusal} → l ≡ Failed r → Failed r ≡ first (splineUses from to ks room)
-  spline-stops k = sym k ∙ stops (splineUses from to ks room) e k
+  pub spline-stops : {r : Refusal} → l ≡ Failed r → Failed r ≡ first (convertUses from to ks room)
+  spline-stops k = sym k ∙ stops (convertUses from to ks room) e k
 
-  pub spline-goes-on : {w : Verdict} {need : ℕ} → l ≡ Passed → need ≡ outputLength from to (length ks) → w ≡ first (outputUses to ks need room) → w ≡ first (splineUses from to ks room)
-  spline-goes-on k n h = goes-on (splineUses from to ks room) e k (h ∙ ap (λ (x : ℕ). first (outputUses to ks x room)) n)
+  pub spline-goes-on : {w : Verdict} {need : ℕ} → l ≡ Passed → need ≡ outputLength from to (length ks) → w ≡ first (outputUses to ks need room) → w ≡ first (convertUses from to ks room)
+  spline-goes-on k n h = goes-on (convertUses from to ks room) e k (h ∙ ap (λ (x : ℕ). first (outputUses to ks x room)) n)
 
 -- ---- where no row applies
 pub record Length (n : ℕ) : Type 0 where
@@ -53,17 +52,17 @@ pub record Room (to : Basis) (ks : List Float) (need room : ℕ) : Type 0 where
   pub enough : need ≤ room
   pub in-range : allInRange ks ≡ true
 
-pub segment-passed : (to : Basis) (cv : List Float) (room : ℕ) → first (segmentUses to cv room) ≡ Passed → (length cv ≡ 4) × Room to cv 4 room
+pub segment-passed : (to : Basis) (cv : List Float) (room : ℕ) → first (convertSegmentUses to cv room) ≡ Passed → (length cv ≡ 4) × Room to cv 4 room
 segment-passed to cv room e =
-    let p = passed rows (segmentUses to cv room) e in
+    let p = passed rows (convertSegmentUses to cv room) e in
     let q = p .1 .1 .1 .1 .1 .1 in
     let least : 4 ≤ length cv = ltb-false (length cv) 4 (p .0) in
     let most : length cv ≤ 4 = ltb-false 4 (length cv) (p .1 .0) in
     (omega arith, record { invertible = q .0; enough = ltb-false room 4 (q .1 .0); in-range = not-false (allInRange cv) (q .1 .1 .0) })
 
-pub spline-passed : (from to : Basis) (ks : List Float) (room : ℕ) → first (splineUses from to ks room) ≡ Passed → Length (length ks) × Room to ks (outputLength from to (length ks)) room
+pub spline-passed : (from to : Basis) (ks : List Float) (room : ℕ) → first (convertUses from to ks room) ≡ Passed → Length (length ks) × Room to ks (outputLength from to (length ks)) room
 spline-passed from to ks room e =
-    let p = passed rows (splineUses from to ks room) e in
+    let p = passed rows (convertUses from to ks room) e in
     let q = p .1 .1 .1 .1 .1 .1 in
     let n = length ks in (
       record { least = ltb-false n 4 (p .0); most = ltb-false 4096 n (p .1 .1 .0) },

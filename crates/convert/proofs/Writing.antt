@@ -12,9 +12,9 @@ use lib.Ieee.{Float}
 use Rattle.spline.specs.declared.Weights.{Weights}
 use Rattle.spline.specs.Segment.{weightsOf}
 use Rattle.spline.proofs.Parts.{rest, inside, few}
-use Rattle.matrix.specs.Matrix.{Rows, applied}
+use Rattle.matrix.specs.Matrix.{Matrix, applied}
 use Rattle.convert.specs.Output.{windowOf, windows}
-use Rattle.convert.specs.Buffer.{placed, listOf}
+use Rattle.convert.specs.Shown.{placed, listOf}
 
 -- ---- the stores of one window
 module _ (o : List Float) (at : ℕ) (w : Weights) (gap : ℕ) where
@@ -53,7 +53,7 @@ past p o at n e h =
     let g : at + k ≡ n = omega arith in
     ap (λ (x : ℕ). drop x (p ++ drop at o)) f ∙ drop-append-add p (drop at o) k ∙ drop-drop k at o ∙ ap (λ (x : ℕ). drop x o) g
 
-module _ (m : Rows) (step gap : ℕ) (ks : List Float) where
+module _ (m : Matrix) (step gap : ℕ) (ks : List Float) where
   pub windows-length : (n : ℕ) → gap ≤ 4 → length (windows m step gap ks n) ≡ 4 + n * gap
   unfolding windows
   windows-length zero g = ap (λ (k : ℕ). 4 + k) (sym (zero-mul gap))

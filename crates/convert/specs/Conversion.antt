@@ -11,8 +11,8 @@ use Rattle.error.specs.declared.Verdict.{Verdict}
 use Rattle.error.specs.declared.Verdict.the-variants.{Passed, Failed}
 use Rattle.error.specs.Refusals.{Uses, first}
 use Rattle.basis.specs.declared.Basis.{Basis}
+use Rattle.basis.specs.Basis.{isLinear}
 use Rattle.spline.specs.Rows.{curveLength, segmentLength, allInRange}
-use Rattle.matrix.specs.Elimination.{isLinear}
 use Rattle.convert.specs.Output.{segmentOutput, splineOutput, outputLength}
 
 -- the doubles to be written, or a refusal
@@ -29,17 +29,17 @@ abbrev pub outputUses : Basis → List Float → ℕ → ℕ → Uses
 outputUses to ks need room = (LinearOutput, isLinear to) ∷ (ShortBuffer, ltb room need) ∷ (BadKnot, not (allInRange ks)) ∷ []
 
 -- one segment, into a buffer of room places
-abbrev pub segmentUses : Basis → List Float → ℕ → Uses
-segmentUses to cv room = segmentLength (length cv) ++ outputUses to cv 4 room
+abbrev pub convertSegmentUses : Basis → List Float → ℕ → Uses
+convertSegmentUses to cv room = segmentLength (length cv) ++ outputUses to cv 4 room
 
 unfoldable pub convertedSegmentOf : Basis → Basis → List Float → ℕ → Conversion
 unfolding segmentOutput
-convertedSegmentOf from to cv room = unless (first (segmentUses to cv room)) (segmentOutput from to cv)
+convertedSegmentOf from to cv room = unless (first (convertSegmentUses to cv room)) (segmentOutput from to cv)
 
 -- a curve
-abbrev pub splineUses : Basis → Basis → List Float → ℕ → Uses
-splineUses from to ks room = curveLength from (length ks) ++ outputUses to ks (outputLength from to (length ks)) room
+abbrev pub convertUses : Basis → Basis → List Float → ℕ → Uses
+convertUses from to ks room = curveLength from (length ks) ++ outputUses to ks (outputLength from to (length ks)) room
 
 unfoldable pub convertedOf : Basis → Basis → List Float → ℕ → Conversion
 unfolding splineOutput
-convertedOf from to ks room = unless (first (splineUses from to ks room)) (splineOutput from to ks)
+convertedOf from to ks room = unless (first (convertUses from to ks room)) (splineOutput from to ks)

@@ -5,15 +5,15 @@ use lib.ListN.{length, drop}
 use lib.Ieee.{Float, add, mul}
 use Rattle.basis.specs.declared.Basis.{Basis}
 use Rattle.basis.specs.Basis.{stepOf, segmentsOf}
-use Rattle.matrix.specs.Matrix.{Rows, applied}
+use Rattle.matrix.specs.Matrix.{Matrix, applied}
 use Rattle.matrix.specs.Elimination.{conversionOf}
 
 -- segment s: the matrix applied to the four knots from place s × step onward
-abbrev pub windowOf : Rows → ℕ → List Float → ℕ → List Float
+abbrev pub windowOf : Matrix → ℕ → List Float → ℕ → List Float
 windowOf m step ks s = applied m (drop (s * step) ks)
 
 -- segments 0 to n: segment 0 gives four doubles, each later one its last gap
-unfoldable pub windows : Rows → ℕ → ℕ → List Float → ℕ → List Float
+unfoldable pub windows : Matrix → ℕ → ℕ → List Float → ℕ → List Float
 unfolding add mul
 windows m step gap ks zero = windowOf m step ks 0
 windows m step gap ks (suc n) = windows m step gap ks n ++ drop (4 - gap) (windowOf m step ks (suc n))

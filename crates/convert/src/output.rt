@@ -4,7 +4,8 @@ ghost use Prim.Native.Nat.{_+_, _-_, _*_, _/_, _≤_, _<_};
 ghost use lib.ListN.{length, drop};
 ghost use Rattle.convert.specs.Output.{windows};
 ghost use Rattle.convert.specs.Conversion.{gives};
-ghost use Rattle.convert.specs.Buffer.{bufferOf, placed, listOf};
+ghost use Rattle.convert.specs.Buffer.{bufferOf};
+ghost use Rattle.convert.specs.Shown.{placed, listOf};
 use spline::Weights;
 
 // The last gap of the four, from place at on.

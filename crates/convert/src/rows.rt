@@ -2,9 +2,9 @@
 ghost use mathlib.Core.Path.{_≡_};
 ghost use Prim.Native.Nat.{_≤_};
 ghost use Rattle.error.specs.Refusals.{first};
-ghost use Rattle.matrix.specs.Elimination.{isLinear};
+ghost use Rattle.basis.specs.Basis.{isLinear};
 ghost use Rattle.convert.specs.Output.{outputLength};
-ghost use Rattle.convert.specs.Conversion.{outputUses, segmentUses, splineUses};
+ghost use Rattle.convert.specs.Conversion.{outputUses, convertSegmentUses, convertUses};
 use basis::Basis;
 use error::Refusal;
 use error::Verdict;
@@ -39,7 +39,7 @@ fn output_verdict(to: Basis, knots: &[f64], need: usize, room: usize) -> Verdict
 }
 
 pub fn segment_verdict(to: Basis, cv: &[f64], room: usize) -> Verdict
-    ensures { λ r. ⌜ r ≡ first (segmentUses to (now (cv .entry)) room) ⌝ }
+    ensures { λ r. ⌜ r ≡ first (convertSegmentUses to (now (cv .entry)) room) ⌝ }
 {
     let l = spline::rows::segment_length(cv.len());
     match l {
@@ -57,7 +57,7 @@ pub fn output_length(from: Basis, to: Basis, n: usize) -> usize
 }
 
 pub fn spline_verdict(from: Basis, to: Basis, knots: &[f64], room: usize) -> Verdict
-    ensures { λ r. ⌜ r ≡ first (splineUses from to (now (knots .entry)) room) ⌝ }
+    ensures { λ r. ⌜ r ≡ first (convertUses from to (now (knots .entry)) room) ⌝ }
 {
     let n = knots.len();
     let l = spline::rows::curve_length(from, n);

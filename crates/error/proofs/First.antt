@@ -8,10 +8,15 @@ use Rattle.error.specs.declared.Refusal.{Refusal}
 use Rattle.error.specs.declared.Refusal.the-variants.{TooFew, BadPattern, TooMany, NotANumber, BadPrecision, NoRounds, LinearOutput, ShortBuffer, BadKnot, TurnsBack, OffCurve, BadLine}
 use Rattle.error.specs.declared.Verdict.{Verdict}
 use Rattle.error.specs.declared.Verdict.the-variants.{Passed, Failed}
-use Rattle.error.specs.Refusals.{Uses, applies, firstOf, first, andThen}
+use Rattle.error.specs.Refusals.{Uses, applies, firstOf, first}
 
 pub never : {r : Refusal} → Failed r ≡ Passed → ⊥
 never {r} e = let z : _≡_ {A = ℕ} 0 1 = cc in omega arith
+
+-- a verdict, and the next one where it is passed
+abbrev pub andThen : Verdict → Verdict → Verdict
+andThen Passed w = w
+andThen (Failed r) w = Failed r
 
 -- rows in two groups, one after the other
 pub graft : (xs ys : List Refusal) (us : Uses) → firstOf (xs ++ ys) us ≡ andThen (firstOf xs us) (firstOf ys us)

@@ -43,8 +43,3 @@ firstOf (r ∷ rs) us = cond (applies r us) (Failed r) (firstOf rs us)
 
 abbrev pub first : Uses → Verdict
 first us = firstOf rows us
-
--- a verdict, and the next one where it is passed
-abbrev pub andThen : Verdict → Verdict → Verdict
-andThen Passed w = w
-andThen (Failed r) w = Failed r

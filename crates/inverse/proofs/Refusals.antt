@@ -12,8 +12,8 @@ use Rattle.error.specs.declared.Refusal.{Refusal}
 use Rattle.error.specs.declared.Refusal.the-variants.{TooFew, BadPattern, TooMany, NotANumber, BadPrecision, NoRounds, LinearOutput, ShortBuffer, BadKnot, TurnsBack, OffCurve as OffCurveRow, BadLine}
 use Rattle.error.specs.declared.Verdict.{Verdict}
 use Rattle.error.specs.declared.Verdict.the-variants.{Passed, Failed}
-use Rattle.error.specs.Refusals.{Uses, applies, rows, firstOf, first, andThen}
-use Rattle.error.proofs.First.{First, here, there, None, first-sound, first-complete, graft}
+use Rattle.error.specs.Refusals.{Uses, applies, rows, firstOf, first}
+use Rattle.error.proofs.First.{First, here, there, None, first-sound, first-complete, graft, andThen}
 use Rattle.basis.specs.declared.Basis.{Basis}
 use Rattle.basis.specs.Basis.{segmentsOf}
 use Rattle.doubles.proofs.Order.{branch}

@@ -14,7 +14,7 @@ use Rattle.invert.specs.Evaluations.{Evaluations}
 use Rattle.invert.specs.Agreed.{Agreed}
 use Rattle.invert.specs.Round.{Weighting, narrow, falsi, weighed, fraction, Turn, found, on, settled, probed, turn}
 use Rattle.invert.specs.Rounds.{Placed, rounds}
-use Rattle.invert.specs.Segment.{encloses, near, whole, start, entered, Outcome, placed, evaluationsOf, inSegmentBy}
+use Rattle.invert.specs.Segment.{encloses, near, opening, start, entered, Outcome, placed, evaluationsOf, inSegmentBy}
 
 -- what a round has seen
 abbrev seenBy : Turn → Evaluations
@@ -82,11 +82,11 @@ module _ (g h : ℕ → Float → Float) (W : Weighting) (s : ℕ) (y ε : Float
     unfolding entered
     entered-grows v0 v1 ev =
         let P : Placed → Type 0 = λ p. Alike p → Agreed g h ev in
-        branch P (near y v0 ε) (λ _ a. a) (λ _. branch P (near y v1 ε) (λ _ a. a) (λ _ a. rounds-grows (lt v0 v1) limit limit 0 (on (start (whole v0 v1)) ev) a))
+        branch P (near y v0 ε) (λ _ a. a) (λ _. branch P (near y v1 ε) (λ _ a. a) (λ _ a. rounds-grows (lt v0 v1) limit limit 0 (on (start (opening v0 v1)) ev) a))
 
     entered-same : (v0 v1 : Float) (ev : Evaluations) → Alike (entered W (g s) s y ε limit v0 v1 ev) → entered W (g s) s y ε limit v0 v1 ev ≡ entered W (h s) s y ε limit v0 v1 ev
     unfolding entered
-    entered-same v0 v1 ev a = alike Alike (near y v0 ε) (λ _. refl) (alike Alike (near y v1 ε) (λ _. refl) (rounds-same (lt v0 v1) limit limit 0 (on (start (whole v0 v1)) ev))) a
+    entered-same v0 v1 ev a = alike Alike (near y v0 ε) (λ _. refl) (alike Alike (near y v1 ε) (λ _. refl) (rounds-same (lt v0 v1) limit limit 0 (on (start (opening v0 v1)) ev))) a
 
     abbrev After : Evaluations → Evaluations
     After ev = (s, one) ∷ ((s, nought) ∷ ev)

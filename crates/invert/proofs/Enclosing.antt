@@ -129,7 +129,7 @@ module _ (W : Weighting) (keeps : Keeps W) (f : Float → Float) (s : ℕ) (y ε
   weighed-bracketed : (by : Bool) (st : State) → Bracketed f y rising (st .bracket .lower) (st .bracket .upper) → Bracketed f y rising (weighed W y by st .lower) (weighed W y by st .upper)
   unfolding weighed
   weighed-bracketed by st h =
-      branch (λ (b : Bracket). Bracketed f y rising (b .lower) (b .upper)) (by && ltb 0 (st .stuck))
+      branch (λ (b : Bracket). Bracketed f y rising (b .lower) (b .upper)) (by && ltb 0 (st .repeats))
       (λ _. subst₂ (λ (l u : Float). Bracketed f y rising l u) (sym (keeps .keeps-lower y (eqb (st .side) 1) (st .bracket))) (sym (keeps .keeps-upper y (eqb (st .side) 1) (st .bracket))) h)
       (λ _. h)
 

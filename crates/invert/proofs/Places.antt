@@ -17,7 +17,7 @@ use Rattle.doubles.proofs.Interpolation.{Inside}
 use Rattle.invert.specs.Evaluations.{Evaluations}
 use Rattle.invert.specs.Round.{Weighting, falsi, Turn, found, on, turn}
 use Rattle.invert.specs.Rounds.{Placed, rounds}
-use Rattle.invert.specs.Segment.{encloses, near, whole, start, entered, Outcome, off, placed, evaluationsOf, inSegmentBy}
+use Rattle.invert.specs.Segment.{encloses, near, opening, start, entered, Outcome, off, placed, evaluationsOf, inSegmentBy}
 use Rattle.invert.proofs.Weighting.{Keeps}
 use Rattle.invert.proofs.Enclosing.{Numbers, Bracketed, Sound, Fine, midpoint-inside, turn-fine}
 
@@ -47,9 +47,9 @@ split-encloses : (p : Bool) (a b c d : Bool) → T (cond p (a && b) (c && d)) �
 split-encloses true a b c d h = (and-l a b h, and-r a b h)
 split-encloses false a b c d h = (and-r c d h, and-l c d h)
 
-whole-bracketed : (f : Float → Float) (y : Float) → T (encloses (f nought) (f one) y) → Bracketed f y (lt (f nought) (f one)) nought one
+opening-bracketed : (f : Float → Float) (y : Float) → T (encloses (f nought) (f one) y) → Bracketed f y (lt (f nought) (f one)) nought one
 unfolding le lt
-whole-bracketed f y h =
+opening-bracketed f y h =
     let r = split-encloses (lt (f nought) (f one)) (le (f nought) y) (le y (f one)) (le (f one) y) (le y (f nought)) h in
     record { lower-in = nought-in; upper-in = one-in; order = tt; at-lower = r .0; at-upper = r .1 }
 
@@ -85,8 +85,8 @@ module _ (W : Weighting) (keeps : Keeps W) (f : Float → Float) (s : ℕ) (y ε
   unfolding entered
   entered-sound h =
       let rising = lt (f nought) (f one) in
-      let w = whole-bracketed f y h in
-      let t = on (start (whole (f nought) (f one))) ((s, one) ∷ ((s, nought) ∷ ev)) in
+      let w = opening-bracketed f y h in
+      let t = on (start (opening (f nought) (f one))) ((s, one) ∷ ((s, nought) ∷ ev)) in
       let P : Placed → Type 0 = λ p. SoundAt f y ε rising limit (length ev + 2) p × (p .segment ≡ s) in
       branch P (near y (f nought) ε) (λ k. (record { bracketed = w; inside = nought-inside; says = inl (refl, k); count = omega arith }, refl))
       (λ far. branch P (near y (f one) ε) (λ k. (record { bracketed = w; inside = one-inside; says = inr (refl, far, k); count = omega arith }, refl))

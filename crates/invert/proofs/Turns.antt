@@ -21,7 +21,7 @@ use Rattle.invert.specs.declared.Inverted.the-variants.{OffCurve}
 use Rattle.invert.specs.Evaluations.{Evaluations}
 use Rattle.invert.specs.Round.{Weighting, midpoint, narrow, falsi, weighed, fraction, moved, Turn, found, on, settled, probed, turn}
 use Rattle.invert.specs.Rounds.{rounds}
-use Rattle.invert.specs.Segment.{encloses, near, whole, start, entered, placed, inSegmentBy}
+use Rattle.invert.specs.Segment.{encloses, near, opening, start, entered, placed, inSegmentBy}
 use Rattle.invert.specs.Answer.{answered, alone}
 use Rattle.invert.specs.Shown.{shown, toldAt}
 
@@ -96,10 +96,10 @@ module _ (W : Weighting) (f : Float → Float) (s : ℕ) (y ε : Float) (rising 
     led-spent i m st h e l ev k = let r = l ev k in let q : limit - i ≡ 0 = omega arith in rw (r .2, q, e, ← (r .1))
 
     -- the round i
-    module _ (i m : ℕ) (st : State) {by : Bool} {early : ℕ} {res : Turned} (h : i < limit) (l : Led W f s y ε rising limit first n i st m) (e-by : by ≡ (ltb i early && ltb (st .stuck) 3)) (e-early : early ≡ 3 * limit / 4)
+    module _ (i m : ℕ) (st : State) {by : Bool} {early : ℕ} {res : Turned} (h : i < limit) (l : Led W f s y ε rising limit first n i st m) (e-by : by ≡ (ltb i early && ltb (st .repeats) 3)) (e-early : early ≡ 3 * limit / 4)
         (e : (s : ℕ) (ev : Evaluations) → length ev ≡ m → res ≡ shown (turn W f s y ε rising by st ev)) where
       by-is : (ev : Evaluations) → length ev ≡ m → res ≡ shown (turn W f s y ε rising (falsi limit i st) st ev)
-      by-is ev k = e s ev k ∙ ap (λ (z : Bool). shown (turn W f s y ε rising z st ev)) (e-by ∙ ap (λ (z : ℕ). ltb i z && ltb (st .stuck) 3) e-early)
+      by-is ev k = e s ev k ∙ ap (λ (z : Bool). shown (turn W f s y ε rising z st ev)) (e-by ∙ ap (λ (z : ℕ). ltb i z && ltb (st .repeats) 3) e-early)
 
       pub led-on : {st' : State} {m' : ℕ} → res ≡ Next st' m' → Led W f s y ε rising limit first n (i + 1) st' m'
       led-on {st'} {m'} d ev k =
@@ -132,15 +132,15 @@ module _ (W : Weighting) (f : Float → Float) (s : ℕ) (y ε : Float) (limit n
     unfolding inSegmentBy
     taken-in = simp (← e0, ← e1, ← h)
 
-    pub left-edge : true ≡ near y v0 ε → toldAt s Edge nought (whole v0 v1) (n + 2) ≡ answered alone (inSegmentBy W f s y ε limit ev)
+    pub left-edge : true ≡ near y v0 ε → toldAt s Edge nought (opening v0 v1) (n + 2) ≡ answered alone (inSegmentBy W f s y ε limit ev)
     unfolding entered
     left-edge p = rw taken-in (simp (← p, two-more))
 
     module _ (p : false ≡ near y v0 ε) where
-      pub right-edge : true ≡ near y v1 ε → toldAt s Edge one (whole v0 v1) (n + 2) ≡ answered alone (inSegmentBy W f s y ε limit ev)
+      pub right-edge : true ≡ near y v1 ε → toldAt s Edge one (opening v0 v1) (n + 2) ≡ answered alone (inSegmentBy W f s y ε limit ev)
       unfolding entered
       right-edge q = rw taken-in (simp (← p, ← q, two-more))
 
-      pub by-rounds : (r : Inverted) → false ≡ near y v1 ε → ((t : Evaluations) → length t ≡ n + 2 → r ≡ answered alone (placed (rounds W f s y ε (lt v0 v1) limit limit 0 (on (start (whole v0 v1)) t)))) → r ≡ answered alone (inSegmentBy W f s y ε limit ev)
+      pub by-rounds : (r : Inverted) → false ≡ near y v1 ε → ((t : Evaluations) → length t ≡ n + 2 → r ≡ answered alone (placed (rounds W f s y ε (lt v0 v1) limit limit 0 (on (start (opening v0 v1)) t)))) → r ≡ answered alone (inSegmentBy W f s y ε limit ev)
       unfolding entered
       by-rounds r q u = rw taken-in (simp (← p, ← q) (u After two-more))

@@ -12,8 +12,8 @@ use Rattle.error.specs.declared.Refusal.{Refusal}
 use Rattle.error.specs.declared.Refusal.the-variants.{NotANumber, BadPrecision, NoRounds, LinearOutput, ShortBuffer, BadKnot, TurnsBack, OffCurve, BadLine}
 use Rattle.error.specs.declared.Verdict.{Verdict}
 use Rattle.error.specs.declared.Verdict.the-variants.{Passed, Failed}
-use Rattle.error.specs.Refusals.{Uses, rows, firstOf, first, andThen}
-use Rattle.error.proofs.First.{graft, stops, goes-on, passed}
+use Rattle.error.specs.Refusals.{Uses, rows, firstOf, first}
+use Rattle.error.proofs.First.{graft, stops, goes-on, passed, andThen}
 use Rattle.basis.specs.declared.Basis.{Basis}
 use Rattle.basis.specs.Basis.{stepOf, matrixOf}
 use Rattle.spline.specs.declared.Weights.{Weights}

@@ -38,11 +38,11 @@ halving y false b = record { lower = b .lower; upper = b .upper; v0 = b .v0; v1 
 -- ---- the fraction
 -- whether a round goes by regula falsi: its number, from 0, is below 3·limit/4 rounded down, and the same-side count below 3
 abbrev pub falsi : ℕ → ℕ → State → Bool
-falsi limit i st = ltb i (3 * limit / 4) && ltb (st .stuck) 3
+falsi limit i st = ltb i (3 * limit / 4) && ltb (st .repeats) 3
 
 -- in such a round, with a count above 0, the weighting comes first. Side 1 is the lower end
 unfoldable pub weighed : Weighting → Float → Bool → State → Bracket
-weighed W y by st = cond (by && ltb 0 (st .stuck)) (W y (eqb (st .side) 1) (st .bracket)) (st .bracket)
+weighed W y regula st = cond (regula && ltb 0 (st .repeats)) (W y (eqb (st .side) 1) (st .bracket)) (st .bracket)
 
 -- strictly between 0.01 and 0.99; a half stands for any other, and for NaN
 unfoldable pub kept : Float → Float
@@ -50,13 +50,13 @@ kept t = cond (lt hundredth t && lt t ninetyNineHundredths) t half
 
 -- (y − v0)/(v1 − v0) in a round by regula falsi; a half in any other
 unfoldable pub fraction : Float → Bool → Bracket → Float
-fraction y by b = cond by (kept (div binary64 (sub binary64 y (b .v0)) (sub binary64 (b .v1) (b .v0)))) half
+fraction y regula b = cond regula (kept (div binary64 (sub binary64 y (b .v0)) (sub binary64 (b .v1) (b .v0)))) half
 
 -- ---- the move
 -- the lower end moves to x, whose value is v, or else the upper; the count grows on a repeated side and is 0 otherwise
 unfoldable pub moved : Bool → Bracket → State → Float → Float → State
-moved true b st x v = record { bracket = record { lower = x; upper = b .upper; v0 = v; v1 = b .v1 }; side = 1; stuck = cond (eqb (st .side) 1) (suc (st .stuck)) 0 }
-moved false b st x v = record { bracket = record { lower = b .lower; upper = x; v0 = b .v0; v1 = v }; side = 2; stuck = cond (eqb (st .side) 2) (suc (st .stuck)) 0 }
+moved true b st x v = record { bracket = record { lower = x; upper = b .upper; v0 = v; v1 = b .v1 }; side = 1; repeats = cond (eqb (st .side) 1) (suc (st .repeats)) 0 }
+moved false b st x v = record { bracket = record { lower = b .lower; upper = x; v0 = b .v0; v1 = v }; side = 2; repeats = cond (eqb (st .side) 2) (suc (st .repeats)) 0 }
 
 -- ---- the round
 -- what it leaves: a ground, a local place and the bracket; or the next round's state
@@ -72,14 +72,14 @@ settled y ε rising b st x v ev =
 
 -- the segment is evaluated at the interpolated place
 unfoldable pub probed : Weighting → (Float → Float) → ℕ → Float → Float → Bool → Bool → State → Evaluations → Turn
-probed W f s y ε rising by st ev =
-    let b = weighed W y by st in
-    let x = lerpOf (b .lower) (b .upper) (fraction y by b) in
+probed W f s y ε rising regula st ev =
+    let b = weighed W y regula st in
+    let x = lerpOf (b .lower) (b .upper) (fraction y regula b) in
     let seen = see f s x ev in
     settled y ε rising b st x (seen .value) (seen .made)
 
 -- the width test comes first, and the midpoint is its answer
 unfoldable pub turn : Weighting → (Float → Float) → ℕ → Float → Float → Bool → Bool → State → Evaluations → Turn
-turn W f s y ε rising by st ev =
-    let r = probed W f s y ε rising by st ev in
+turn W f s y ε rising regula st ev =
+    let r = probed W f s y ε rising regula st ev in
     cond (narrow ε (st .bracket)) (found Width (midpoint (st .bracket)) (st .bracket) ev) r

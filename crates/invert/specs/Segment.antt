@@ -19,18 +19,18 @@ abbrev pub near : Float → Float → Float → Bool
 near y v ε = lt (magnitudeOf (sub binary64 y v)) (mul binary64 two ε)
 
 -- the bracket at first
-abbrev pub whole : Float → Float → Bracket
-whole v0 v1 = record { lower = nought; upper = one; v0 = v0; v1 = v1 }
+abbrev pub opening : Float → Float → Bracket
+opening v0 v1 = record { lower = nought; upper = one; v0 = v0; v1 = v1 }
 
 -- no side has moved, and none was repeated
 abbrev pub start : Bracket → State
-start b = record { bracket = b; side = 0; stuck = 0 }
+start b = record { bracket = b; side = 0; repeats = 0 }
 
 -- a segment whose end values v0 and v1 enclose y: local 0, or else local 1, or else the rounds. Rising means v0 < v1
 unfoldable pub entered : Weighting → (Float → Float) → ℕ → Float → Float → ℕ → Float → Float → Evaluations → Placed
 entered W f s y ε limit v0 v1 ev =
-    let r = rounds W f s y ε (lt v0 v1) limit limit 0 (on (start (whole v0 v1)) ev) in
-    cond (near y v0 ε) (stopped s Edge nought (whole v0 v1) ev) (cond (near y v1 ε) (stopped s Edge one (whole v0 v1) ev) r)
+    let r = rounds W f s y ε (lt v0 v1) limit limit 0 (on (start (opening v0 v1)) ev) in
+    cond (near y v0 ε) (stopped s Edge nought (opening v0 v1) ev) (cond (near y v1 ε) (stopped s Edge one (opening v0 v1) ev) r)
 
 -- what an inversion comes to: not on the segment or the curve, or a place
 pub data Outcome : Type 0 where

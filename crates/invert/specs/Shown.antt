@@ -24,9 +24,9 @@ shown (found g x b ev) = Done g x b (length ev)
 shown (on st ev) = Next st (length ev)
 
 -- how often the side was repeated, and the count, after a round
-abbrev pub stuckAfter : Turned → ℕ
-stuckAfter (Done g x b n) = 0
-stuckAfter (Next st n) = st .stuck
+abbrev pub repeatsAfter : Turned → ℕ
+repeatsAfter (Done g x b n) = 0
+repeatsAfter (Next st n) = st .repeats
 
 abbrev pub countAfter : Turned → ℕ
 countAfter (Done g x b n) = n
@@ -37,7 +37,7 @@ toldAt s g x b n = At (record { parameter = x; ground = g; segment = s; local = 
 
 -- r is what the definition gives, whatever the n evaluations before it were
 abbrev pub TurnIs : Weights → Float → Float → Bool → Bool → State → ℕ → Turned → Type 0
-TurnIs w y ε rising by st n r = (s : ℕ) (ev : Evaluations) → length ev ≡ n → r ≡ shown (turn halving (hornerOf w) s y ε rising by st ev)
+TurnIs w y ε rising regula st n r = (s : ℕ) (ev : Evaluations) → length ev ≡ n → r ≡ shown (turn halving (hornerOf w) s y ε rising regula st ev)
 
 abbrev pub RoundsIs : Weights → ℕ → Float → Float → Bool → Bracket → ℕ → ℕ → Inverted → Type 0
 RoundsIs w s y ε rising b limit n r = (ev : Evaluations) → length ev ≡ n → r ≡ answered alone (placed (rounds halving (hornerOf w) s y ε rising limit limit 0 (on (start b) ev)))

@@ -33,7 +33,7 @@ pub struct Bracket {
 pub struct State {
     pub bracket: Bracket,
     pub side: u8,
-    pub stuck: u32,
+    pub repeats: u32,
 }
 
 // What a round leaves: an answer, or the next round's state; with the count of evaluations.
@@ -92,13 +92,13 @@ fn rounds(
     let mut st = State {
         bracket: first,
         side: 0,
-        stuck: 0,
+        repeats: 0,
     };
     let mut i: u32 = 0;
     let mut count = n;
     while i < most {
-        let by = round::is_falsi(i, early, st.stuck);
-        let t = round::turn(w, y, precision, rising, by, st, count);
+        let regula = round::is_falsi(i, early, st.repeats);
+        let t = round::turn(w, y, precision, rising, regula, st, count);
         match t {
             Turned::Next(next, k) => {
                 st = next;

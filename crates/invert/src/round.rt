@@ -4,7 +4,7 @@ ghost use Prim.Native.Nat.{_≤_, _<_, _+_};
 ghost use lib.Dec.{ltb};
 ghost use mathlib.Core.Bool.{_&&_};
 ghost use Rattle.invert.specs.Round.{narrow, halving, weighed, fraction, moved};
-ghost use Rattle.invert.specs.Shown.{TurnIs, stuckAfter, countAfter};
+ghost use Rattle.invert.specs.Shown.{TurnIs, repeatsAfter, countAfter};
 use crate::Bracket;
 use crate::Ground;
 use crate::State;
@@ -44,12 +44,12 @@ pub fn halved(y: f64, lower: bool, b: Bracket) -> Bracket
     }
 }
 
-pub fn weighed(y: f64, by: bool, st: State) -> Bracket
-    ensures { λ r. ⌜ r ≡ weighed halving y by st ⌝ }
+pub fn weighed(y: f64, regula: bool, st: State) -> Bracket
+    ensures { λ r. ⌜ r ≡ weighed halving y regula st ⌝ }
 {
     let b = st.bracket;
-    if by {
-        if 0 < st.stuck {
+    if regula {
+        if 0 < st.repeats {
             return halved(y, st.side == 1, b);
         }
         return b;
@@ -58,10 +58,10 @@ pub fn weighed(y: f64, by: bool, st: State) -> Bracket
 }
 
 // One return for every half, so that the tests stay branches: the division is then made only where it is wanted.
-pub fn fraction(y: f64, by: bool, b: Bracket) -> f64
-    ensures { λ r. ⌜ r ≡ fraction y by b ⌝ }
+pub fn fraction(y: f64, regula: bool, b: Bracket) -> f64
+    ensures { λ r. ⌜ r ≡ fraction y regula b ⌝ }
 {
-    if by {
+    if regula {
         let t = (y - b.v0) / (b.v1 - b.v0);
         if 0.01 < t {
             if t < 0.99 {
@@ -73,8 +73,8 @@ pub fn fraction(y: f64, by: bool, b: Bracket) -> f64
 }
 
 pub fn moved(lower: bool, b: Bracket, st: State, x: f64, v: f64) -> State
-    requires { ⌜ st .stuck < 65536 ⌝ }
-    ensures { λ r. ⌜ (r ≡ moved lower b st x v) × (r .stuck ≤ st .stuck + 1) ⌝ }
+    requires { ⌜ st .repeats < 65536 ⌝ }
+    ensures { λ r. ⌜ (r ≡ moved lower b st x v) × (r .repeats ≤ st .repeats + 1) ⌝ }
 {
     if lower {
         let n = Bracket {
@@ -87,13 +87,13 @@ pub fn moved(lower: bool, b: Bracket, st: State, x: f64, v: f64) -> State
             State {
                 bracket: n,
                 side: 1,
-                stuck: st.stuck + 1,
+                repeats: st.repeats + 1,
             }
         } else {
             State {
                 bracket: n,
                 side: 1,
-                stuck: 0,
+                repeats: 0,
             }
         }
     } else {
@@ -107,35 +107,43 @@ pub fn moved(lower: bool, b: Bracket, st: State, x: f64, v: f64) -> State
             State {
                 bracket: n,
                 side: 2,
-                stuck: st.stuck + 1,
+                repeats: st.repeats + 1,
             }
         } else {
             State {
                 bracket: n,
                 side: 2,
-                stuck: 0,
+                repeats: 0,
             }
         }
     }
 }
 
-pub fn is_falsi(i: u32, early: u32, stuck: u32) -> bool
-    ensures { λ r. ⌜ r ≡ (ltb i early && ltb stuck 3) ⌝ }
+pub fn is_falsi(i: u32, early: u32, repeats: u32) -> bool
+    ensures { λ r. ⌜ r ≡ (ltb i early && ltb repeats 3) ⌝ }
 {
-    i < early && stuck < 3
+    i < early && repeats < 3
 }
 
 // n evaluations have been made before the round.
-pub fn turn(w: Weights, y: f64, precision: f64, rising: bool, by: bool, st: State, n: u32) -> Turned
-    requires { ⌜ (st .stuck < 65536) × (n < 2000000) ⌝ }
-    ensures { λ r. ⌜ (TurnIs w y precision rising by st n r) × (stuckAfter r ≤ st .stuck + 1) × (countAfter r ≤ n + 1) ⌝ }
+pub fn turn(
+    w: Weights,
+    y: f64,
+    precision: f64,
+    rising: bool,
+    regula: bool,
+    st: State,
+    n: u32,
+) -> Turned
+    requires { ⌜ (st .repeats < 65536) × (n < 2000000) ⌝ }
+    ensures { λ r. ⌜ (TurnIs w y precision rising regula st n r) × (repeatsAfter r ≤ st .repeats + 1) × (countAfter r ≤ n + 1) ⌝ }
 {
     let b = st.bracket;
     if is_narrow(precision, b) {
         return Turned::Done(Ground::Width, doubles::lerp(b.lower, b.upper, 0.5), b, n);
     }
-    let a = weighed(y, by, st);
-    let x = doubles::lerp(a.lower, a.upper, fraction(y, by, a));
+    let a = weighed(y, regula, st);
+    let x = doubles::lerp(a.lower, a.upper, fraction(y, regula, a));
     let v = spline::segment::horner(w, x);
     let next = moved((v < y) == rising, a, st, x, v);
     if doubles::magnitude(v - y) < precision {

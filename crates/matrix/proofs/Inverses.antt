@@ -7,10 +7,11 @@ use lib.Ieee.{Float, nan, inf, fin}
 use lib.Ieee.Fits.{and-l, and-r}
 use Rattle.basis.specs.declared.Basis.{Basis}
 use Rattle.basis.specs.declared.Basis.the-variants.{Bspline, Bezier, CatmullRom, Hermite, Linear, Power}
-use Rattle.basis.specs.Basis.{matrixOf}
+use Rattle.basis.specs.Basis.{matrixOf, isLinear}
 use Rattle.spline.proofs.Finite.{smallMatrix, small-matrix, Small}
-use Rattle.matrix.specs.Matrix.{Rows}
-use Rattle.matrix.specs.Elimination.{exists, isLinear, inverse, inverseOf, conversionOf}
+use Rattle.matrix.specs.Matrix.{Matrix}
+use Rattle.matrix.specs.Elimination.{inverse, inverseOf, conversionOf}
+use Rattle.matrix.specs.Shown.{exists}
 
 -- the elimination finds an inverse for each basis but Linear
 pub only-linear-has-none : (b : Basis) → exists (inverse (matrixOf b)) ≡ not (isLinear b)
@@ -56,7 +57,7 @@ abbrev cleanRow : List Float → Bool
 cleanRow [] = true
 cleanRow (x ∷ xs) = not (minusZero x) && cleanRow xs
 
-abbrev pub clean : Rows → Bool
+abbrev pub clean : Matrix → Bool
 clean [] = true
 clean (r ∷ rs) = cleanRow r && clean rs
 
@@ -65,7 +66,7 @@ unfolding inverseOf
 inverse-clean b = each (λ (b : Basis). clean (inverseOf b)) tt b
 
 -- ---- a conversion's matrix: no −0, and nothing above 2^3 in magnitude
-abbrev tame : Rows → Bool
+abbrev tame : Matrix → Bool
 tame m = clean m && smallMatrix 3 m
 
 tested : T (onAll (λ (from : Basis). onAll (λ (to : Basis). tame (conversionOf from to))))

@@ -11,15 +11,15 @@ use Rattle.basis.specs.Basis.{matrixOf}
 use Rattle.matrix.specs.declared.Inverse.{Inverse}
 use Rattle.matrix.specs.declared.Pivot.{Pivot}
 use Rattle.matrix.specs.declared.Pivot.the-variants.{Row, Missing}
-use Rattle.matrix.specs.Matrix.{Rows, row, entry, product}
-use Rattle.matrix.specs.Elimination.{Elimination, goes, no-inverse, isZero, widened, firstOf, pivotOf, swapped, divided, reduced, clearedRow, cleared, then, withPivot, columns, rightHalf, inverse, rowsOf, inverseOf, conversionOf}
+use Rattle.matrix.specs.Matrix.{Matrix, row, entry, product}
+use Rattle.matrix.specs.Elimination.{Elimination, goes, no-inverse, isZero, widened, firstNonzero, pivotOf, swapped, divided, reduced, clearedRow, cleared, then, withPivot, columns, rightHalf, inverse, rowsOf, inverseOf, conversionOf}
 use Rattle.matrix.specs.Shown.{shown, Found}
 
 pub listed : {A : Type 0} {a b c d a′ b′ c′ d′ : A} → a ≡ a′ → b ≡ b′ → c ≡ c′ → d ≡ d′ → a ∷ b ∷ c ∷ d ∷ [] ≡ a′ ∷ b′ ∷ c′ ∷ d′ ∷ []
 listed p q r s = cc
 
 -- ---- a row is cleared
-module _ (a : Rows) (i k : ℕ) where
+module _ (a : Matrix) (i k : ℕ) where
   pub own-row : k ≡ i → clearedRow a i k ≡ row a k
   unfolding clearedRow
   own-row e = simp (eq-eqb k i e)
@@ -47,25 +47,25 @@ from-end : (k : ℕ) → 4 ≤ k → from k ≡ []
 from-end k h = drop-of-length-le (0 ∷ 1 ∷ 2 ∷ 3 ∷ []) h
 
 -- ---- the pivot is looked for
-module _ (a : Rows) (i k : ℕ) where
-  pub passed-by : k < 4 → isZero (entry a k i) ≡ true → firstOf (from (k + 1)) a i ≡ firstOf (from k) a i
-  unfolding firstOf
-  passed-by h z = sym (ap (λ (ks : List ℕ). firstOf ks a i) (from-next k h) ∙ simp z)
+module _ (a : Matrix) (i k : ℕ) where
+  pub passed-by : k < 4 → isZero (entry a k i) ≡ true → firstNonzero (from (k + 1)) a i ≡ firstNonzero (from k) a i
+  unfolding firstNonzero
+  passed-by h z = sym (ap (λ (ks : List ℕ). firstNonzero ks a i) (from-next k h) ∙ simp z)
 
-  pub found : k < 4 → isZero (entry a k i) ≡ false → Row k ≡ firstOf (from k) a i
-  unfolding firstOf
-  found h z = sym (ap (λ (ks : List ℕ). firstOf ks a i) (from-next k h) ∙ simp z)
+  pub found : k < 4 → isZero (entry a k i) ≡ false → Row k ≡ firstNonzero (from k) a i
+  unfolding firstNonzero
+  found h z = sym (ap (λ (ks : List ℕ). firstNonzero ks a i) (from-next k h) ∙ simp z)
 
-  pub none-left : 4 ≤ k → Missing ≡ firstOf (from k) a i
-  unfolding firstOf
-  none-left h = ap (λ (ks : List ℕ). firstOf ks a i) (sym (from-end k h))
+  pub none-left : 4 ≤ k → Missing ≡ firstNonzero (from k) a i
+  unfolding firstNonzero
+  none-left h = ap (λ (ks : List ℕ). firstNonzero ks a i) (sym (from-end k h))
 
 -- ---- a column
-pub in-turn : (a s d r : Rows) (i k : ℕ) → s ≡ swapped a i k → d ≡ divided s i → r ≡ cleared d i → r ≡ cleared (divided (swapped a i k) i) i
-in-turn a s d r i k p q e = e ∙ ap (λ (x : Rows). cleared x i) (q ∙ ap (λ (x : Rows). divided x i) p)
+pub in-turn : (a s d r : Matrix) (i k : ℕ) → s ≡ swapped a i k → d ≡ divided s i → r ≡ cleared d i → r ≡ cleared (divided (swapped a i k) i) i
+in-turn a s d r i k p q e = e ∙ ap (λ (x : Matrix). cleared x i) (q ∙ ap (λ (x : Matrix). divided x i) p)
 
-module _ (a : Rows) (i : ℕ) where
-  pub goes-on : (b : Rows) (k : ℕ) → i < 4 → pivotOf a i ≡ Row k → b ≡ cleared (divided (swapped a i k) i) i → columns (from (i + 1)) b ≡ columns (from i) a
+module _ (a : Matrix) (i : ℕ) where
+  pub goes-on : (b : Matrix) (k : ℕ) → i < 4 → pivotOf a i ≡ Row k → b ≡ cleared (divided (swapped a i k) i) i → columns (from (i + 1)) b ≡ columns (from i) a
   unfolding columns
   goes-on b k h p e =
       sym
@@ -82,7 +82,7 @@ module _ (a : Rows) (i : ℕ) where
   all-done h = ap (λ (is : List ℕ). columns is a) (from-end i h)
 
 -- the answer from the last column
-pub answers : (m : Rows) (a : Rows) (e : Elimination) → a ≡ widened m → e ≡ columns (from 0) a → shown (then e (λ a. goes (rightHalf a))) ≡ shown (inverse m)
+pub answers : (m : Matrix) (a : Matrix) (e : Elimination) → a ≡ widened m → e ≡ columns (from 0) a → shown (then e (λ a. goes (rightHalf a))) ≡ shown (inverse m)
 unfolding inverse
 answers m a e p q = ap (λ (x : Elimination). shown (then x (λ a. goes (rightHalf a)))) (q ∙ ap (columns (from 0)) p)
 
@@ -90,10 +90,10 @@ pub found-below : (p : Pivot) (k : ℕ) → p ≡ Row k → Found p → k < 4
 found-below p k e h = subst Found e h
 
 -- ---- the inverse's four rows, put together again
-abbrev gathered : Inverse → Rows
+abbrev gathered : Inverse → Matrix
 gathered e = e .r0 ∷ e .r1 ∷ e .r2 ∷ e .r3 ∷ []
 
-four-rows : (m : Rows) → gathered (shown (inverse m)) ≡ rowsOf (inverse m)
+four-rows : (m : Matrix) → gathered (shown (inverse m)) ≡ rowsOf (inverse m)
 unfolding inverse
 four-rows m = go (columns (from 0) (widened m))
   where
@@ -101,10 +101,10 @@ four-rows m = go (columns (from 0) (widened m))
     go (goes a) = refl
     go no-inverse = refl
 
-pub inverse-rows : (b : Basis) (m : Rows) (e : Inverse) → m ≡ matrixOf b → e ≡ shown (inverse m) → gathered e ≡ inverseOf b
+pub inverse-rows : (b : Basis) (m : Matrix) (e : Inverse) → m ≡ matrixOf b → e ≡ shown (inverse m) → gathered e ≡ inverseOf b
 unfolding inverseOf
-inverse-rows b m e p q = ap gathered q ∙ four-rows m ∙ ap (λ (x : Rows). rowsOf (inverse x)) p
+inverse-rows b m e p q = ap gathered q ∙ four-rows m ∙ ap (λ (x : Matrix). rowsOf (inverse x)) p
 
-pub conversion : (from to : Basis) (i m r : Rows) → i ≡ inverseOf to → m ≡ matrixOf from → r ≡ product i m → r ≡ conversionOf from to
+pub conversion : (from to : Basis) (i m r : Matrix) → i ≡ inverseOf to → m ≡ matrixOf from → r ≡ product i m → r ≡ conversionOf from to
 unfolding conversionOf
-conversion from to i m r p q e = e ∙ ap (λ (x : Rows). product x m) p ∙ ap (product (inverseOf to)) q
+conversion from to i m r p q e = e ∙ ap (λ (x : Matrix). product x m) p ∙ ap (product (inverseOf to)) q

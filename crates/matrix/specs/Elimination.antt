@@ -1,17 +1,16 @@
 -- Gauss-Jordan elimination on four rows of eight doubles, columns in order. Definitions only.
 use mathlib.Core.List.{List, [], _∷_, _++_}
-use mathlib.Core.Bool.{Bool, true, false, cond, _||_}
+use mathlib.Core.Bool.{Bool, cond, _||_}
 use Prim.Native.Nat.{ℕ, _+_}
 use lib.Dec.{eqb}
 use lib.ListN.{drop, set}
 use lib.Ieee.{Float, binary64, sub, mul, div, eq}
 use Rattle.basis.specs.declared.Basis.{Basis}
-use Rattle.basis.specs.declared.Basis.the-variants.{Bspline, Bezier, CatmullRom, Hermite, Linear, Power}
 use Rattle.basis.specs.Basis.{matrixOf}
 use Rattle.doubles.specs.Numbers.{nought, one}
 use Rattle.matrix.specs.declared.Pivot.{Pivot}
 use Rattle.matrix.specs.declared.Pivot.the-variants.{Row, Missing}
-use Rattle.matrix.specs.Matrix.{Rows, at, row, entry, four, product}
+use Rattle.matrix.specs.Matrix.{Matrix, at, row, entry, four, product}
 
 -- a zero of either sign
 abbrev pub isZero : Float → Bool
@@ -21,25 +20,25 @@ abbrev pub eight : (ℕ → Float) → List Float
 eight f = four f ++ four (λ j. f (4 + j))
 
 -- the matrix with the identity beside it
-abbrev pub widened : Rows → Rows
+abbrev pub widened : Matrix → Matrix
 widened m = four (λ i. four (entry m i) ++ four (λ j. cond (eqb i j) one nought))
 
 -- the first of the rows ks whose entry in column i is not zero
-unfoldable pub firstOf : List ℕ → Rows → ℕ → Pivot
+unfoldable pub firstNonzero : List ℕ → Matrix → ℕ → Pivot
 unfolding eq
-firstOf [] a i = Missing
-firstOf (k ∷ ks) a i = cond (isZero (entry a k i)) (firstOf ks a i) (Row k)
+firstNonzero [] a i = Missing
+firstNonzero (k ∷ ks) a i = cond (isZero (entry a k i)) (firstNonzero ks a i) (Row k)
 
 -- row i itself, and where its entry is zero the first row below whose entry is not
-abbrev pub pivotOf : Rows → ℕ → Pivot
-pivotOf a i = firstOf (drop i (0 ∷ 1 ∷ 2 ∷ 3 ∷ [])) a i
+abbrev pub pivotOf : Matrix → ℕ → Pivot
+pivotOf a i = firstNonzero (drop i (0 ∷ 1 ∷ 2 ∷ 3 ∷ [])) a i
 
 -- rows i and k change places
-abbrev pub swapped : Rows → ℕ → ℕ → Rows
+abbrev pub swapped : Matrix → ℕ → ℕ → Matrix
 swapped a i k = set (set a i (row a k)) k (row a i)
 
 -- row i is divided by its entry in column i
-abbrev pub divided : Rows → ℕ → Rows
+abbrev pub divided : Matrix → ℕ → Matrix
 divided a i = set a i (eight (λ j. div binary64 (entry a i j) (entry a i i)))
 
 -- r less f times p
@@ -47,67 +46,55 @@ abbrev pub reduced : List Float → Float → List Float → List Float
 reduced r f p = eight (λ j. sub binary64 (at r j) (mul binary64 f (at p j)))
 
 -- every other row whose entry in column i is not zero loses that entry times row i
-unfoldable pub clearedRow : Rows → ℕ → ℕ → List Float
+unfoldable pub clearedRow : Matrix → ℕ → ℕ → List Float
 unfolding sub mul eq
 clearedRow a i k = cond (eqb k i || isZero (entry a k i)) (row a k) (reduced (row a k) (entry a k i) (row a i))
 
-unfoldable pub cleared : Rows → ℕ → Rows
+unfoldable pub cleared : Matrix → ℕ → Matrix
 unfolding clearedRow
 cleared a i = four (clearedRow a i)
 
 -- the elimination goes on with these rows, or there is no inverse
 pub data Elimination : Type 0 where
-  goes : Rows → Elimination
+  goes : Matrix → Elimination
   no-inverse : Elimination
 
-abbrev pub then : Elimination → (Rows → Elimination) → Elimination
+abbrev pub then : Elimination → (Matrix → Elimination) → Elimination
 then (goes a) f = f a
 then no-inverse f = no-inverse
 
-abbrev pub withPivot : Rows → ℕ → Pivot → Elimination
+abbrev pub withPivot : Matrix → ℕ → Pivot → Elimination
 withPivot a i (Row k) = goes (cleared (divided (swapped a i k) i) i)
 withPivot a i Missing = no-inverse
 
-abbrev pub eliminated : ℕ → Rows → Elimination
+abbrev pub eliminated : ℕ → Matrix → Elimination
 eliminated i a = withPivot a i (pivotOf a i)
 
-unfoldable pub columns : List ℕ → Rows → Elimination
-unfolding firstOf cleared div
+unfoldable pub columns : List ℕ → Matrix → Elimination
+unfolding firstNonzero cleared div
 columns [] a = goes a
 columns (i ∷ is) a = then (eliminated i a) (columns is)
 
 -- what stands beside the identity in the end
-abbrev pub rightHalf : Rows → Rows
+abbrev pub rightHalf : Matrix → Matrix
 rightHalf a = four (λ i. four (λ j. entry a i (4 + j)))
 
 -- columns in order
-unfoldable pub inverse : Rows → Elimination
+unfoldable pub inverse : Matrix → Elimination
 unfolding columns
 inverse m = then (columns (0 ∷ 1 ∷ 2 ∷ 3 ∷ []) (widened m)) (λ a. goes (rightHalf a))
 
 -- the rows of an inverse; zeros where there is none
-abbrev pub rowsOf : Elimination → Rows
+abbrev pub rowsOf : Elimination → Matrix
 rowsOf (goes a) = a
 rowsOf no-inverse = four (λ i. four (λ j. nought))
 
-abbrev pub exists : Elimination → Bool
-exists (goes a) = true
-exists no-inverse = false
-
-abbrev pub isLinear : Basis → Bool
-isLinear Bspline = false
-isLinear Bezier = false
-isLinear CatmullRom = false
-isLinear Hermite = false
-isLinear Linear = true
-isLinear Power = false
-
 -- the inverse of a basis's matrix: the one definition of it
-unfoldable pub inverseOf : Basis → Rows
+unfoldable pub inverseOf : Basis → Matrix
 unfolding inverse matrixOf
 inverseOf b = rowsOf (inverse (matrixOf b))
 
 -- the inverse of the output's matrix, times the input's matrix
-unfoldable pub conversionOf : Basis → Basis → Rows
+unfoldable pub conversionOf : Basis → Basis → Matrix
 unfolding inverseOf matrixOf product
 conversionOf from to = product (inverseOf to) (matrixOf from)

@@ -8,16 +8,16 @@ use lib.Ieee.{Float}
 use Rattle.basis.specs.declared.Basis.{Basis}
 use Rattle.spline.specs.declared.Evaluated.{Evaluated}
 use Rattle.spline.specs.declared.Evaluated.the-variants as E
-use Rattle.spline.specs.Evaluation.{splineOf, splineSegmentOf}
+use Rattle.spline.specs.Evaluation.{evaluatedNumber, splineOf, splineSegmentOf}
 use Rattle.invert.specs.declared.Inverted.{Inverted}
 use Rattle.invert.specs.declared.Inverted.the-variants as I
 use Rattle.invert.specs.Answer.{numberTold, inverseSegmentOf, defaultLimit, defaultPrecision}
 use Rattle.inverse.specs.Inverse.{inverseOf}
 use Rattle.convert.specs.Conversion.{Conversion, gives, refuses, convertedOf, convertedSegmentOf}
-use Rattle.convert.specs.Buffer.{answerOf, bufferOf}
+use Rattle.convert.specs.Buffer.{convertedNumber, answerOf, bufferOf}
 use Rattle.simmerstoat.specs.declared.Chosen.{Chosen}
 use Rattle.simmerstoat.specs.declared.Chosen.the-variants.{Known, Unknown}
-use Rattle.simmerstoat.specs.Replies.{chosenOf, noBasis, chosen, valueReply, valueLeft, placeLeft, wholeLeft, conversionReply, lengthLeft}
+use Rattle.simmerstoat.specs.Replies.{chosenOf, noBasis, chosen, valueLeft, placeLeft, wholeLeft, lengthLeft}
 use Rattle.simmerstoat.proofs.simmerstoat_is_len_ok.Reads as is_len_ok
 use Rattle.simmerstoat.proofs.simmerstoat_spline.Reads as spline
 use Rattle.simmerstoat.proofs.simmerstoat_spline_segment.Reads as spline_segment
@@ -61,11 +61,11 @@ convert-spline-asks-nothing κs a = tt
 abbrev NotZero : ℕ → Type 0
 NotZero n = n ≡ 0 → ⊥
 
-value-kept : (c : Chosen) (f : Basis → Evaluated) (old : Float) → NotZero (chosen c noBasis (λ b. valueReply (f b))) → chosen c old (λ b. valueLeft (f b) old) ≡ old
+value-kept : (c : Chosen) (f : Basis → Evaluated) (old : Float) → NotZero (chosen c noBasis (λ b. evaluatedNumber (f b))) → chosen c old (λ b. valueLeft (f b) old) ≡ old
 value-kept Unknown f old h = refl
 value-kept (Known b) f old h = go (f b) h
   where
-    go : (v : Evaluated) → NotZero (valueReply v) → valueLeft v old ≡ old
+    go : (v : Evaluated) → NotZero (evaluatedNumber v) → valueLeft v old ≡ old
     go (E.Value x) h = absurd (h refl)
     go (E.Refused r) h = refl
 
@@ -122,22 +122,22 @@ spline-inverse-segment-with-writes-nothing κs a z e p h =
 
 -- of a conversion: the buffer, and the length
 out-kept : (f t : Chosen) (g : Basis → Basis → Conversion) (out : List Float)
-    → NotZero (chosen f noBasis (λ b. chosen t noBasis (λ c. conversionReply (answerOf (g b c))))) → chosen f out (λ b. chosen t out (λ c. bufferOf (g b c) out)) ≡ out
+    → NotZero (chosen f noBasis (λ b. chosen t noBasis (λ c. convertedNumber (answerOf (g b c))))) → chosen f out (λ b. chosen t out (λ c. bufferOf (g b c) out)) ≡ out
 out-kept Unknown t g out h = refl
 out-kept (Known b) Unknown g out h = refl
 out-kept (Known b) (Known c) g out h = go (g b c) h
   where
-    go : (x : Conversion) → NotZero (conversionReply (answerOf x)) → bufferOf x out ≡ out
+    go : (x : Conversion) → NotZero (convertedNumber (answerOf x)) → bufferOf x out ≡ out
     go (gives l) h = absurd (h refl)
     go (refuses r) h = refl
 
 length-kept : (f t : Chosen) (g : Basis → Basis → Conversion) (old : ℕ)
-    → NotZero (chosen f noBasis (λ b. chosen t noBasis (λ c. conversionReply (answerOf (g b c))))) → chosen f old (λ b. chosen t old (λ c. lengthLeft (answerOf (g b c)) old)) ≡ old
+    → NotZero (chosen f noBasis (λ b. chosen t noBasis (λ c. convertedNumber (answerOf (g b c))))) → chosen f old (λ b. chosen t old (λ c. lengthLeft (answerOf (g b c)) old)) ≡ old
 length-kept Unknown t g old h = refl
 length-kept (Known b) Unknown g old h = refl
 length-kept (Known b) (Known c) g old h = go (g b c) h
   where
-    go : (x : Conversion) → NotZero (conversionReply (answerOf x)) → lengthLeft (answerOf x) old ≡ old
+    go : (x : Conversion) → NotZero (convertedNumber (answerOf x)) → lengthLeft (answerOf x) old ≡ old
     go (gives l) h = absurd (h refl)
     go (refuses r) h = refl
 

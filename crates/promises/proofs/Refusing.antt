@@ -36,7 +36,7 @@ use Rattle.inverse.proofs.spline_inverse.Reads as spline_inverse
 use Rattle.convert.specs.declared.Converted.{Converted}
 use Rattle.convert.specs.declared.Converted.the-variants as C
 use Rattle.convert.specs.Output.{segmentOutput, splineOutput}
-use Rattle.convert.specs.Conversion.{Conversion, gives, refuses, unless, segmentUses, convertedSegmentOf, splineUses as conversionUses, convertedOf}
+use Rattle.convert.specs.Conversion.{Conversion, gives, refuses, unless, convertSegmentUses, convertedSegmentOf, convertUses, convertedOf}
 use Rattle.convert.specs.Buffer.{answerOf, bufferOf}
 use Rattle.convert.proofs.convert_segment.Reads as convert_segment
 use Rattle.convert.proofs.convert_spline.Reads as convert_spline
@@ -109,13 +109,13 @@ segment-place-refused b y cv limit ε r =
 pub place-refused : (b : Basis) (y : Float) (ks : List Float) (check : Bool) (limit : ℕ) (ε : Float) (r : Refusal) → Exactly (inverseOf b y ks check limit ε ≡ I.Refused r) (First (inverseUses b y ks check limit ε) rows r)
 place-refused b y ks check limit ε r = (inverse-refused-only b y ks check limit ε r, inverse-refused-where b y ks check limit ε r)
 
-pub segment-conversion-refused : (from to : Basis) (cv : List Float) (room : ℕ) (r : Refusal) → Exactly (answerOf (convertedSegmentOf from to cv room) ≡ C.Refused r) (First (segmentUses to cv room) rows r)
+pub segment-conversion-refused : (from to : Basis) (cv : List Float) (room : ℕ) (r : Refusal) → Exactly (answerOf (convertedSegmentOf from to cv room) ≡ C.Refused r) (First (convertSegmentUses to cv room) rows r)
 unfolding convertedSegmentOf
-segment-conversion-refused from to cv room r = two-ways (by-answer (first (segmentUses to cv room)) (segmentOutput from to cv) r) (by-first (segmentUses to cv room) r)
+segment-conversion-refused from to cv room r = two-ways (by-answer (first (convertSegmentUses to cv room)) (segmentOutput from to cv) r) (by-first (convertSegmentUses to cv room) r)
 
-pub conversion-refused : (from to : Basis) (ks : List Float) (room : ℕ) (r : Refusal) → Exactly (answerOf (convertedOf from to ks room) ≡ C.Refused r) (First (conversionUses from to ks room) rows r)
+pub conversion-refused : (from to : Basis) (ks : List Float) (room : ℕ) (r : Refusal) → Exactly (answerOf (convertedOf from to ks room) ≡ C.Refused r) (First (convertUses from to ks room) rows r)
 unfolding convertedOf
-conversion-refused from to ks room r = two-ways (by-answer (first (conversionUses from to ks room)) (splineOutput from to ks) r) (by-first (conversionUses from to ks room) r)
+conversion-refused from to ks room r = two-ways (by-answer (first (convertUses from to ks room)) (splineOutput from to ks) r) (by-first (convertUses from to ks room) r)
 
 -- ---- and so do the calls
 carried : {Z : Type 0} {z d t : Z} {Q : Type 0} → z ≡ d → Exactly (d ≡ t) Q → Exactly (z ≡ t) Q
@@ -136,11 +136,11 @@ pub spline-inverse-refuses : Keeps spline_inverse_with.Learnt
 spline-inverse-refuses κs a z e p r = carried p (place-refused (a .0) (a .1 .0) (now (a .1 .1 .0)) (a .1 .1 .1 .0) (a .1 .1 .1 .1 .0) (a .1 .1 .1 .1 .1 .0) r)
 
 pub convert-segment-refuses : Keeps convert_segment.Learnt
-    (λ κs a z e. (r : Refusal) → Exactly (z ≡ C.Refused r) (First (segmentUses (a .1 .0) (now (a .1 .1 .0)) (length (now (a .1 .1 .1 .0)))) rows r))
+    (λ κs a z e. (r : Refusal) → Exactly (z ≡ C.Refused r) (First (convertSegmentUses (a .1 .0) (now (a .1 .1 .0)) (length (now (a .1 .1 .1 .0)))) rows r))
 convert-segment-refuses κs a z e p r = carried (p .0) (segment-conversion-refused (a .0) (a .1 .0) (now (a .1 .1 .0)) (length (now (a .1 .1 .1 .0))) r)
 
 pub convert-spline-refuses : Keeps convert_spline.Learnt
-    (λ κs a z e. (r : Refusal) → Exactly (z ≡ C.Refused r) (First (conversionUses (a .0) (a .1 .0) (now (a .1 .1 .0)) (length (now (a .1 .1 .1 .0)))) rows r))
+    (λ κs a z e. (r : Refusal) → Exactly (z ≡ C.Refused r) (First (convertUses (a .0) (a .1 .0) (now (a .1 .1 .0)) (length (now (a .1 .1 .1 .0)))) rows r))
 convert-spline-refuses κs a z e p r = carried (p .0) (conversion-refused (a .0) (a .1 .0) (now (a .1 .1 .0)) (length (now (a .1 .1 .1 .0))) r)
 
 -- ---- a refusal writes nothing

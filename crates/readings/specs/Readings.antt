@@ -1,37 +1,27 @@
--- The readings: one table, and one statement, `readings`, that the definitions give what it tells.
-use mathlib.Core.Path.{_≡_, refl}
+-- The readings: one table of what is asked and what is told. proofs/Readings.antt has the one statement that the definitions give it. Definitions only.
+use mathlib.Core.Path.{_≡_}
 use mathlib.Core.Bool.{Bool, true, false}
 use mathlib.Core.List.{List, [], _∷_, _++_, map, reverse}
 use Prim.Native.Nat.{ℕ, zero, suc, _*_}
-use lib.Count.{leadingZeros}
 use lib.IntN.{pos}
-use lib.Ieee.{Float, binary64, ofBits, ofInt, round, add, sub, mul, div, lt, le, eq, neg, isNan}
+use lib.Ieee.{Float, binary64, ofBits, ofInt, round}
 use Rattle.error.specs.declared.Verdict.{Verdict}
 use Rattle.error.specs.declared.Verdict.the-variants.{Passed, Failed}
 use Rattle.error.specs.Refusals.{numberOf, first}
 use Rattle.basis.specs.declared.Basis.{Basis}
 use Rattle.basis.specs.declared.Basis.the-variants.{Bspline, Bezier, CatmullRom, Hermite, Linear, Power}
-use Rattle.basis.specs.Basis.{matrixOf}
-use Rattle.doubles.specs.Numbers.{nought, one, half, magnitudeOf, clamp}
-use Rattle.doubles.specs.Lerp.{lerpOf}
-use Rattle.doubles.specs.Whole.{wholeUpTo}
+use Rattle.doubles.specs.Numbers.{nought, one, half}
 use Rattle.spline.specs.declared.Evaluated.{Evaluated}
 use Rattle.spline.specs.declared.Evaluated.the-variants as E
-use Rattle.spline.specs.Rows.{curveLength, inRange, allInRange}
-use Rattle.spline.specs.Curve.{curveAt}
+use Rattle.spline.specs.Rows.{curveLength}
 use Rattle.spline.specs.Evaluation.{splineOf}
 use Rattle.invert.specs.declared.Ground.{Ground}
 use Rattle.invert.specs.declared.Ground.the-variants.{End, Edge, Value}
 use Rattle.invert.specs.declared.Inverted.{Inverted}
 use Rattle.invert.specs.declared.Inverted.the-variants as I
-use Rattle.invert.specs.Answer.{defaultLimit, defaultPrecision, precise}
-use Rattle.invert.specs.Round.{narrow, halving, weighed, kept, fraction, moved, settled, probed, turn}
-use Rattle.invert.specs.Rounds.{rounds}
-use Rattle.invert.specs.Segment.{entered, inSegmentBy}
-use Rattle.search.specs.Bound.{bitsOf}
-use Rattle.search.specs.Search.{tries, last, halve, find}
-use Rattle.inverse.specs.Order.{ordered}
-use Rattle.inverse.specs.Curve.{parameterOf, located, evaluations}
+use Rattle.invert.specs.Answer.{defaultLimit, defaultPrecision}
+use Rattle.invert.specs.Round.{halving}
+use Rattle.search.specs.Search.{tries, last}
 use Rattle.inverse.specs.Inverse.{inverseOf, inverseEvaluations}
 use Rattle.convert.specs.Conversion.{Conversion, gives, refuses, convertedOf}
 
@@ -78,7 +68,7 @@ pub data Asked : Type 0 where
 pub data Reading : Type 0 where
   tells : Asked → Told → Reading
 
-abbrev answer : Asked → Told
+abbrev pub answer : Asked → Told
 answer (knots-of b n) = ofVerdict (first (curveLength b n))
 answer (at b ks x) = ofEvaluated (splineOf b x ks)
 answer (place-of b ks y check ε) = ofInverted (inverseOf b y ks check defaultLimit ε)
@@ -92,22 +82,17 @@ Hold (tells a t ∷ rs) = (answer a ≡ t) × Hold rs
 
 -- ---- doubles
 -- −0.4, 0.4, 0.9 and 1.9, by their bits
-abbrev minusFourTenths : Float
+abbrev pub minusFourTenths : Float
 minusFourTenths = ofBits binary64 0xbfd9_9999_9999_999a
 
-abbrev fourTenths : Float
+abbrev pub fourTenths : Float
 fourTenths = ofBits binary64 0x3fd9_9999_9999_999a
 
-abbrev nineTenths : Float
+abbrev pub nineTenths : Float
 nineTenths = ofBits binary64 0x3fec_cccc_cccc_cccd
 
-abbrev nineteenTenths : Float
+abbrev pub nineteenTenths : Float
 nineteenTenths = ofBits binary64 0x3ffe_6666_6666_6666
-
--- each is the double nearest to its decimal
-pub decimals : (minusFourTenths ≡ round binary64 true 4 10) × (fourTenths ≡ round binary64 false 4 10) × (nineTenths ≡ round binary64 false 9 10) × (nineteenTenths ≡ round binary64 false 19 10)
-unfolding ofBits round
-decimals = (refl, refl, refl, refl)
 
 abbrev whole : ℕ → Float
 whole n = ofInt binary64 (pos n)
@@ -125,18 +110,18 @@ bound = ofBits binary64 0x4270_0000_0000_0000
 abbrev beyond : Float
 beyond = ofBits binary64 0x4270_0000_0000_0001
 
-copies : ℕ → Float → List Float
+unfoldable copies : ℕ → Float → List Float
 copies zero x = []
 copies (suc n) x = x ∷ copies n x
 
 -- 6·i, 6·(i + 1), and so on
-sixes : ℕ → ℕ → List Float
+unfoldable sixes : ℕ → ℕ → List Float
 sixes i zero = []
 sixes i (suc n) = whole (6 * i) ∷ sixes (suc i) n
 
 -- ---- the table, in groups
 -- lengths
-pub lengths : List Reading
+unfoldable pub lengths : List Reading
 lengths =
     tells (knots-of Bezier 4) accepted
     ∷ tells (knots-of Bezier 7) accepted
@@ -148,7 +133,7 @@ lengths =
     ∷ []
 
 -- a value, and lengths and knots at their bounds
-pub values : List Reading
+unfoldable pub values : List Reading
 unfolding copies
 values =
     tells (at CatmullRom (minusFourTenths ∷ nought ∷ fourTenths ∷ half ∷ nineTenths ∷ one ∷ nineteenTenths ∷ []) quarter) (value (fourTenths))
@@ -162,7 +147,7 @@ values =
     ∷ []
 
 -- the most knots, and one more
-pub longest : List Reading
+unfoldable pub longest : List Reading
 unfolding copies
 longest =
     tells (at Linear (copies 4096 one) half) (value one)
@@ -170,7 +155,7 @@ longest =
     ∷ []
 
 -- places by value, edge and end, and the order check
-pub places : List Reading
+unfoldable pub places : List Reading
 places =
     tells (place-of Linear (nought ∷ nought ∷ half ∷ half ∷ []) quarter true defaultPrecision) (place half Value 5)
     ∷ tells (place-of Linear (nought ∷ nought ∷ one ∷ one ∷ []) eighth true eighth) (place nought Edge 4)
@@ -181,7 +166,7 @@ places =
     ∷ []
 
 -- a target that no segment encloses: 13 segments by halving, with the last tries at segments 0 and 1; 12 in order
-pub halvings : List Reading
+unfoldable pub halvings : List Reading
 unfolding sixes
 halvings =
     tells (place-of Bspline (nought ∷ sixes 0 15) half true defaultPrecision) (off 10)
@@ -190,7 +175,7 @@ halvings =
     ∷ []
 
 -- conversions; the last loses a slope at its seam
-pub conversions : List Reading
+unfoldable pub conversions : List Reading
 conversions =
     tells (turned Bezier Power (nought ∷ nought ∷ nought ∷ one ∷ [])) (knots (one ∷ nought ∷ nought ∷ nought ∷ []))
     ∷ tells (turned Linear Power (whole 9 ∷ one ∷ whole 3 ∷ whole 9 ∷ [])) (knots (nought ∷ nought ∷ whole 2 ∷ one ∷ []))
@@ -199,35 +184,3 @@ conversions =
 
 abbrev pub table : List Reading
 table = lengths ++ (values ++ (longest ++ (places ++ (halvings ++ conversions))))
-
--- ---- the statement
-lengths-hold : Hold lengths
-unfolding lengths
-lengths-hold = (refl, (refl, (refl, (refl, (refl, (refl, (refl, tt)))))))
-
-values-hold : Hold values
-unfolding values splineOf inRange allInRange curveAt wholeUpTo clamp matrixOf ofBits ofInt round add sub mul lt le eq neg isNan
-values-hold = (refl, (refl, (refl, (refl, (refl, (refl, (refl, (refl, tt))))))))
-
-longest-hold : Hold longest
-unfolding longest splineOf inRange allInRange curveAt wholeUpTo clamp matrixOf ofBits ofInt round add sub mul lt le eq neg isNan
-longest-hold = (refl, (refl, tt))
-
-places-hold : Hold places
-unfolding places inverseOf located find tries last halve bitsOf inSegmentBy entered rounds turn probed settled moved fraction kept weighed halving narrow ordered precise parameterOf inRange allInRange magnitudeOf lerpOf matrixOf ofBits ofInt round add sub mul div lt le eq neg isNan leadingZeros
-places-hold = (refl, (refl, (refl, (refl, (refl, (refl, tt))))))
-
-halvings-hold : Hold halvings
-unfolding halvings inverseOf inverseEvaluations located evaluations find tries last halve bitsOf inSegmentBy entered rounds turn probed settled moved fraction kept weighed halving narrow ordered precise parameterOf inRange allInRange magnitudeOf lerpOf matrixOf ofBits ofInt round add sub mul div lt le eq neg isNan leadingZeros
-halvings-hold = (refl, (refl, (refl, tt)))
-
-conversions-hold : Hold conversions
-unfolding conversions convertedOf inRange allInRange matrixOf ofBits ofInt round add sub mul div lt le eq neg isNan
-conversions-hold = (refl, (refl, (refl, tt)))
-
-both : (rs qs : List Reading) → Hold rs → Hold qs → Hold (rs ++ qs)
-both [] qs h k = k
-both (tells a t ∷ rs) qs h k = (h .0, both rs qs (h .1) k)
-
-pub readings : Hold table
-readings = both lengths _ lengths-hold (both values _ values-hold (both longest _ longest-hold (both places _ places-hold (both halvings _ halvings-hold conversions-hold))))

@@ -3,7 +3,6 @@ use mathlib.Core.List.{List, [], _∷_, map}
 use Prim.Native.Nat.{ℕ}
 use lib.ListN.{getD, set}
 use lib.Ieee.{Float}
-use Rattle.error.specs.Refusals.{numberOf}
 use Rattle.basis.specs.declared.Basis.{Basis}
 use Rattle.basis.specs.declared.Basis.the-variants.{Bspline, Bezier, CatmullRom, Hermite, Linear, Power}
 use Rattle.spline.specs.declared.Evaluated.{Evaluated}
@@ -34,10 +33,6 @@ chosen (Known b) d f = f b
 chosen Unknown d f = d
 
 -- ---- evaluation: 0 and the value, or the refusal's number and what stood there
-abbrev pub valueReply : Evaluated → ℕ
-valueReply (Value v) = 0
-valueReply (Refused r) = numberOf r
-
 abbrev pub valueLeft : Evaluated → Float → Float
 valueLeft (Value v) old = v
 valueLeft (Refused r) old = old
@@ -61,10 +56,6 @@ wholeLeft (OffCurve n) old = set old 2 n
 wholeLeft (NotInverted r) old = old
 
 -- ---- conversion: 0 and the length, or the refusal's number and what stood there
-abbrev pub conversionReply : Converted → ℕ
-conversionReply (Written n) = 0
-conversionReply (NotConverted r) = numberOf r
-
 abbrev pub lengthLeft : Converted → ℕ → ℕ
 lengthLeft (Written n) old = n
 lengthLeft (NotConverted r) old = old

@@ -3,12 +3,12 @@ ghost use mathlib.Core.Path.{_≡_};
 ghost use mathlib.Core.Bool.{cond};
 ghost use lib.ListN.{length};
 ghost use Rattle.basis.specs.Basis.{lengthOk};
-ghost use Rattle.spline.specs.Evaluation.{splineOf, splineSegmentOf};
+ghost use Rattle.spline.specs.Evaluation.{evaluatedNumber, splineOf, splineSegmentOf};
 ghost use Rattle.invert.specs.Answer.{inverseSegmentOf, numberTold, defaultLimit, defaultPrecision};
 ghost use Rattle.inverse.specs.Inverse.{inverseOf};
 ghost use Rattle.convert.specs.Conversion.{convertedOf, convertedSegmentOf};
-ghost use Rattle.convert.specs.Buffer.{answerOf, bufferOf};
-ghost use Rattle.simmerstoat.specs.Replies.{chosenOf, noBasis, chosen, valueReply, valueLeft, groundNumber, placeLeft, wholeLeft, conversionReply, lengthLeft};
+ghost use Rattle.convert.specs.Buffer.{convertedNumber, answerOf, bufferOf};
+ghost use Rattle.simmerstoat.specs.Replies.{chosenOf, noBasis, chosen, valueLeft, groundNumber, placeLeft, wholeLeft, lengthLeft};
 use basis::Basis;
 use convert::Converted;
 use error::Refusal;
@@ -62,7 +62,7 @@ pub extern "C" fn simmerstoat_is_len_ok(basis: u8, n: usize) -> u8
 
 // A value is written and answered by 0; a refusal writes nothing.
 fn value_told(e: Evaluated, value: &mut f64) -> u8
-    ensures { λ r. ⌜ (r ≡ valueReply e) × (now (value .exit) ≡ valueLeft e (now (value .entry))) ⌝ }
+    ensures { λ r. ⌜ (r ≡ evaluatedNumber e) × (now (value .exit) ≡ valueLeft e (now (value .entry))) ⌝ }
 {
     match e {
         Evaluated::Value(v) => {
@@ -76,7 +76,7 @@ fn value_told(e: Evaluated, value: &mut f64) -> u8
 // A curve's value.
 #[no_mangle]
 pub extern "C" fn simmerstoat_spline(basis: u8, x: f64, knots: &[f64], value: &mut f64) -> u8
-    ensures { λ r. ⌜ r ≡ chosen (chosenOf basis) noBasis (λ b. valueReply (splineOf b x (now (knots .entry)))) ⌝ }
+    ensures { λ r. ⌜ r ≡ chosen (chosenOf basis) noBasis (λ b. evaluatedNumber (splineOf b x (now (knots .entry)))) ⌝ }
     ensures { λ _. ⌜ now (value .exit) ≡ chosen (chosenOf basis) (now (value .entry)) (λ b. valueLeft (splineOf b x (now (knots .entry))) (now (value .entry))) ⌝ }
 {
     let c = basis_of(basis);
@@ -89,7 +89,7 @@ pub extern "C" fn simmerstoat_spline(basis: u8, x: f64, knots: &[f64], value: &m
 // One segment's value.
 #[no_mangle]
 pub extern "C" fn simmerstoat_spline_segment(basis: u8, x: f64, cv: &[f64], value: &mut f64) -> u8
-    ensures { λ r. ⌜ r ≡ chosen (chosenOf basis) noBasis (λ b. valueReply (splineSegmentOf b x (now (cv .entry)))) ⌝ }
+    ensures { λ r. ⌜ r ≡ chosen (chosenOf basis) noBasis (λ b. evaluatedNumber (splineSegmentOf b x (now (cv .entry)))) ⌝ }
     ensures { λ _. ⌜ now (value .exit) ≡ chosen (chosenOf basis) (now (value .entry)) (λ b. valueLeft (splineSegmentOf b x (now (cv .entry))) (now (value .entry))) ⌝ }
 {
     let c = basis_of(basis);
@@ -214,7 +214,7 @@ pub extern "C" fn simmerstoat_spline_inverse_segment_with(
 
 // The length is written and answered by 0; a refusal writes nothing.
 fn length_told(a: Converted, written: &mut usize) -> u8
-    ensures { λ r. ⌜ (r ≡ conversionReply a) × (now (written .exit) ≡ lengthLeft a (now (written .entry))) ⌝ }
+    ensures { λ r. ⌜ (r ≡ convertedNumber a) × (now (written .exit) ≡ lengthLeft a (now (written .entry))) ⌝ }
 {
     match a {
         Converted::Written(n) => {
@@ -226,7 +226,7 @@ fn length_told(a: Converted, written: &mut usize) -> u8
 }
 
 fn conversion_reply(a: Converted) -> u8
-    ensures { λ r. ⌜ r ≡ conversionReply a ⌝ }
+    ensures { λ r. ⌜ r ≡ convertedNumber a ⌝ }
 {
     match a {
         Converted::Written(_) => 0,
@@ -237,7 +237,7 @@ fn conversion_reply(a: Converted) -> u8
 // One segment's conversion, into the first four places of out.
 #[no_mangle]
 pub extern "C" fn simmerstoat_convert_segment(from: u8, to: u8, cv: &[f64], out: &mut [f64]) -> u8
-    ensures { λ r. ⌜ r ≡ chosen (chosenOf from) noBasis (λ f. chosen (chosenOf to) noBasis (λ t. conversionReply (answerOf (convertedSegmentOf f t (now (cv .entry)) (length (now (out .entry))))))) ⌝ }
+    ensures { λ r. ⌜ r ≡ chosen (chosenOf from) noBasis (λ f. chosen (chosenOf to) noBasis (λ t. convertedNumber (answerOf (convertedSegmentOf f t (now (cv .entry)) (length (now (out .entry))))))) ⌝ }
     ensures { λ _. ⌜ now (out .exit) ≡ chosen (chosenOf from) (now (out .entry)) (λ f. chosen (chosenOf to) (now (out .entry)) (λ t. bufferOf (convertedSegmentOf f t (now (cv .entry)) (length (now (out .entry)))) (now (out .entry)))) ⌝ }
 {
     let c = basis_of(from);
@@ -259,7 +259,7 @@ pub extern "C" fn simmerstoat_convert_spline(
     out: &mut [f64],
     written: &mut usize,
 ) -> u8
-    ensures { λ r. ⌜ r ≡ chosen (chosenOf from) noBasis (λ f. chosen (chosenOf to) noBasis (λ t. conversionReply (answerOf (convertedOf f t (now (knots .entry)) (length (now (out .entry))))))) ⌝ }
+    ensures { λ r. ⌜ r ≡ chosen (chosenOf from) noBasis (λ f. chosen (chosenOf to) noBasis (λ t. convertedNumber (answerOf (convertedOf f t (now (knots .entry)) (length (now (out .entry))))))) ⌝ }
     ensures { λ _. ⌜ now (written .exit) ≡ chosen (chosenOf from) (now (written .entry)) (λ f. chosen (chosenOf to) (now (written .entry)) (λ t. lengthLeft (answerOf (convertedOf f t (now (knots .entry)) (length (now (out .entry))))) (now (written .entry)))) ⌝ }
     ensures { λ _. ⌜ now (out .exit) ≡ chosen (chosenOf from) (now (out .entry)) (λ f. chosen (chosenOf to) (now (out .entry)) (λ t. bufferOf (convertedOf f t (now (knots .entry)) (length (now (out .entry)))) (now (out .entry)))) ⌝ }
 {

@@ -12,7 +12,8 @@ use Rattle.basis.specs.Basis.{stepOf, matrixOf}
 use Rattle.doubles.specs.Numbers.{clamp}
 use Rattle.doubles.specs.Whole.{double, wholeUpTo}
 use Rattle.spline.specs.Segment.{weightsOf, hornerOf, segmentValue}
-use Rattle.spline.specs.Curve.{Spotted, curveAt, curveValue}
+use Rattle.spline.specs.Curve.{curveValue}
+use Rattle.spline.specs.Shown.{Spotted, curveAt}
 use Rattle.spline.specs.declared.Weights.{Weights}
 
 -- the part from i on
@@ -46,4 +47,5 @@ by-basis-segment b c m cv t e k h f =
 
 -- the value for a basis that is known
 pub by-basis : (b c : Basis) (m : List (List Float)) (x : Float) (ks : List Float) {r : Float} → b ≡ c → m ≡ matrixOf c → r ≡ curveAt m (stepOf c) x ks → r ≡ curveValue b x ks
+unfolding curveAt curveValue
 by-basis b c m x ks e k h = h ∙ (ap (λ (n : List (List Float)). curveAt n (stepOf c) x ks) k ∙ ap (λ (d : Basis). curveValue d x ks) (sym e))

@@ -22,7 +22,7 @@ use Rattle.doubles.proofs.LocalPart.{InOne, clamp-in, local-in}
 use Rattle.doubles.proofs.WholePart.{whole-le}
 use Rattle.spline.specs.declared.Evaluated.the-variants.{Value, Refused}
 use Rattle.spline.specs.Segment.{segmentSteps}
-use Rattle.spline.specs.Curve.{scaled, segmentAt, localAt, curveAt, curveValue}
+use Rattle.spline.specs.Curve.{scaled, segmentAt, localAt, curveValue}
 use Rattle.spline.specs.Evaluation.{splineUses, splineSegmentUses, evaluated, splineOf, splineSegmentOf}
 use Rattle.spline.proofs.Parts.{inside, few}
 use Rattle.spline.proofs.Verdicts.{Sound, curve-sound, segment-sound}
@@ -47,7 +47,7 @@ module _ (b : Basis) (x : Float) (ks : List Float) (s : Sound b x ks) where
   local = let f = few (length ks) (stepOf b) (s .few) in local-in-one (segmentsOf b (length ks)) x (omega arith) (omega (arith, f)) (subst (λ (t : Bool). T (not t)) (sym (s .number)) tt)
 
   pub curve-finite : Within 49 (curveValue b x ks) × Finite (segmentSteps (matrixOf b) (drop (segmentAt (segmentsOf b (length ks)) x * stepOf b) ks) (localAt (segmentsOf b (length ks)) x))
-  unfolding curveAt
+  unfolding curveValue
   curve-finite = segment-finite b (drop (segmentAt (segmentsOf b (length ks)) x * stepOf b) ks) (localAt (segmentsOf b (length ks)) x) (knots-within ks (segmentAt (segmentsOf b (length ks)) x * stepOf b) (subst T (sym (s .tame)) tt) at) (local .low) (local .high)
 
 -- every value told is finite

@@ -1,12 +1,13 @@
 -- The two calls of evaluation: what each refuses, and what it answers. Definitions only.
 use mathlib.Core.Bool.{not, _&&_}
 use mathlib.Core.List.{List, [], _∷_, _++_}
+use Prim.Native.Nat.{ℕ}
 use lib.ListN.{length}
 use lib.Ieee.{Float, le, isNan}
 use Rattle.error.specs.declared.Refusal.the-variants.{NotANumber, BadKnot}
 use Rattle.error.specs.declared.Verdict.{Verdict}
 use Rattle.error.specs.declared.Verdict.the-variants.{Passed, Failed}
-use Rattle.error.specs.Refusals.{Uses, first}
+use Rattle.error.specs.Refusals.{numberOf, Uses, first}
 use Rattle.basis.specs.declared.Basis.{Basis}
 use Rattle.basis.specs.Basis.{matrixOf}
 use Rattle.doubles.specs.Numbers.{nought, one}
@@ -15,6 +16,11 @@ use Rattle.spline.specs.declared.Evaluated.the-variants.{Value, Refused}
 use Rattle.spline.specs.Segment.{segmentValue}
 use Rattle.spline.specs.Rows.{curveLength, segmentLength, allInRange}
 use Rattle.spline.specs.Curve.{curveValue}
+
+-- the number that an answer tells: the refusal's; 0 for a value
+abbrev pub evaluatedNumber : Evaluated → ℕ
+evaluatedNumber (Value v) = 0
+evaluatedNumber (Refused r) = numberOf r
 
 abbrev pub evaluated : Verdict → Float → Evaluated
 evaluated Passed v = Value v

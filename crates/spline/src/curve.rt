@@ -2,7 +2,8 @@
 ghost use mathlib.Core.Path.{_≡_};
 ghost use Prim.Native.Nat.{_≤_, _<_};
 ghost use lib.ListN.{length};
-ghost use Rattle.spline.specs.Curve.{Spotted, curveAt, curveValue};
+ghost use Rattle.spline.specs.Curve.{curveValue};
+ghost use Rattle.spline.specs.Shown.{Spotted, curveAt};
 use basis::Basis;
 
 // A segment, and the local place in it.

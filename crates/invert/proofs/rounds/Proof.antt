@@ -6,13 +6,13 @@ use lib.Ieee.{ofBits}
 use Rattle.spline.specs.Segment.{hornerOf}
 use Rattle.invert.specs.Round.{halving}
 use Rattle.invert.specs.Segment.{start}
-use Rattle.invert.specs.Shown.{countAfter, stuckAfter}
+use Rattle.invert.specs.Shown.{countAfter, repeatsAfter}
 use Rattle.invert.proofs.Turns.{Led, led-start, led-on, led-done, led-spent}
 use Rattle.invert.proofs.rounds.Statement.{statement}
 use Rattle.invert.proofs.rounds.Tie as tie
 
 abbrev Inv-loop : tie.InvT-loop
-Inv-loop w s y precision rising limit n most early st₀ i₀ count₀ st i count = (most ≡ limit) × (early ≡ 3 * limit / 4) × (i ≤ limit) × (st .stuck ≤ i) × (count ≤ n + i) × Led halving (hornerOf w) s y precision rising limit st₀ n i st count
+Inv-loop w s y precision rising limit n most early st₀ i₀ count₀ st i count = (most ≡ limit) × (early ≡ 3 * limit / 4) × (i ≤ limit) × (st .repeats ≤ i) × (count ≤ n + i) × Led halving (hornerOf w) s y precision rising limit st₀ n i st count
 
 abbrev μ-loop : tie.MeasureT-loop
 μ-loop w s y precision rising limit n most early st₀ i₀ count₀ st i count = limit - i
@@ -50,7 +50,7 @@ loop-less c = omega arith
 loop-again : tie.Need-loop-again Inv-loop μ-loop
 loop-again c =
     let h : countAfter (c .before .before .before .turn .result) ≤ c .before .before .before .before .before .before .loop .count + 1 = c .before .before .before .turn .ensures .2 in
-    let g : stuckAfter (c .before .before .before .turn .result) ≤ c .before .before .before .before .before .before .loop .st .stuck + 1 = c .before .before .before .turn .ensures .1 in
+    let g : repeatsAfter (c .before .before .before .turn .result) ≤ c .before .before .before .before .before .before .loop .st .repeats + 1 = c .before .before .before .turn .ensures .1 in
     (omega arith, c .before .before .before .before .before .before .loop .inv .1, omega arith, omega (arith, rw (c .before .t .given .1) at g), omega (arith, rw (c .before .t .given .1) at h), led-on halving (hornerOf (c .before .before .before .before .before .before .before .args .w)) (c .before .before .before .before .before .before .before .args .s) (c .before .before .before .before .before .before .before .args .y) (c .before .before .before .before .before .before .before .args .precision) (c .before .before .before .before .before .before .before .args .rising) (c .before .before .before .before .before .before .before .args .limit) (start (c .before .before .before .before .before .before .before .args .first)) (c .before .before .before .before .before .before .before .args .n) (c .before .before .before .before .before .before .loop .i) (c .before .before .before .before .before .before .loop .count) (c .before .before .before .before .before .before .loop .st) (omega arith) (c .before .before .before .before .before .before .loop .inv .5) (c .before .before .before .before .is-falsi .ensures) (c .before .before .before .before .before .before .loop .inv .1) (c .before .before .before .turn .ensures .0) (c .before .t .given .1))
 
 lerp-requires : tie.Need-lerp-requires Inv-loop μ-loop

@@ -3,13 +3,13 @@ use lib.Ieee.{ofBits}
 use mathlib.Core.Path.{_≡_, refl, _∙_}
 use Prim.Native.Nat.{_≤_, _-_}
 use native.Mathlib.Omega.{arith}
-use Rattle.matrix.specs.Elimination.{firstOf}
+use Rattle.matrix.specs.Elimination.{firstNonzero}
 use Rattle.matrix.proofs.Steps.{from, passed-by, found, none-left}
 use Rattle.matrix.proofs.pivot_row.Statement.{statement}
 use Rattle.matrix.proofs.pivot_row.Tie as tie
 
 abbrev Inv-loop : tie.InvT-loop
-Inv-loop i a k₀ k = (k ≤ 4) × (firstOf (from k) a i ≡ firstOf (from i) a i)
+Inv-loop i a k₀ k = (k ≤ 4) × (firstNonzero (from k) a i ≡ firstNonzero (from i) a i)
 
 abbrev μ-loop : tie.MeasureT-loop
 μ-loop i a k₀ k = 4 - k
