@@ -24,7 +24,7 @@ use Rattle.invert.specs.declared.State.{State}
 use Rattle.invert.specs.Evaluations.{Evaluations}
 use Rattle.invert.specs.Round.{Weighting, halving, narrow, weighed, fraction, falsi, Turn, found, on, turn, probed, settled}
 use Rattle.invert.specs.Rounds.{Placed, rounds}
-use Rattle.invert.specs.Segment.{encloses, near, start, whole, entered, Outcome, off, placed, evaluationsOf, inSegmentBy}
+use Rattle.invert.specs.Segment.{encloses, near, start, opening, entered, Outcome, off, placed, evaluationsOf, inSegmentBy}
 use Rattle.invert.specs.Answer.{answered, inverted}
 use Rattle.search.specs.Bound.{bitsOf}
 use Rattle.search.specs.Search.{before, tries, last, halve, find}
@@ -78,7 +78,7 @@ unfolding inSegmentBy entered
 segment-rounded W f s y ε limit ev =
     let l : Evaluations = (s, one) ∷ ((s, nought) ∷ ev) in
     let rising = lt (f nought) (f one) in
-    let t = on (start (whole (f nought) (f one))) l in
+    let t = on (start (opening (f nought) (f one))) l in
     let P : Placed → Type 0 = λ p. IsSpent (p .ground) → (e : Evaluations) × Then (p .segment) e limit (p .made) in
     branch (Rounded limit) (encloses (f nought) (f one) y)
     (λ _. branch P (near y (f nought) ε) (λ _ q. absurd q)
