@@ -1,5 +1,4 @@
--- What a conversion leaves in the lent places, and a knot that finds a place or none.
--- Assumes nothing.
+-- What a conversion leaves in the lent places, and a knot that finds a place or none. Assumes nothing.
 use mathlib.Core.Path.{_≡_, sym, ap, _∙_}
 use mathlib.Core.List.{List}
 use Prim.Native.Nat.{ℕ, _+_, _≤_, _<_}
@@ -14,13 +13,13 @@ use Rattle.convert.specs.Conversion.{Conversion, gives, refuses}
 use Rattle.convert.specs.Buffer.{answerOf, bufferOf}
 use Rattle.error.specs.declared.Refusal.{Refusal}
 use Rattle.error.specs.declared.Refusal.the-variants.{TooMany}
+use Rattle.error.proofs.First.{never}
 use Rattle.record.specs.declared.Record.the-variants.{Knot}
 use Rattle.reply.specs.Reply.{silence, refused, curve}
 use Rattle.answer.specs.Answer.{places, on, curveReply, replyTo, afterOf}
-use Rattle.answer.proofs.Records.{never, knot-silent, knot-refused}
+use Rattle.answer.proofs.Records.{knot-silent, knot-refused}
 
 -- ---- a conversion into o, which became o′
-
 -- it wrote n knots
 pub turn-written : (c : Basis) (t : Conversion) (n : ℕ) (o o′ : List Float)
     → Written n ≡ answerOf t → o′ ≡ bufferOf t o → length o′ ≡ places
@@ -37,7 +36,6 @@ turn-refused c (gives l) r e = never (cc)
 turn-refused c (refuses s) r e = let k : r ≡ s = cc in ap refused k
 
 -- ---- a knot, where n stand in the table
-
 module _ (b : Basis) (n : ℕ) (x : Float) (table : List Float) (full : length table ≡ places) where
   pub knot-taken : n < places
       → (on b (take (n + 1) (set table n x)) ≡ afterOf (on b (take n table)) (Knot x)) × (silence ≡ replyTo (on b (take n table)) (Knot x))

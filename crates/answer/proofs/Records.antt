@@ -1,10 +1,8 @@
--- What the records do: which are silent, which are refused, and what a refused one leaves alone.
--- Assumes nothing.
+-- What the records do: which are silent, which are refused, and what a refused one leaves alone. Assumes nothing.
 use mathlib.Core.Path.{_≡_, refl, ap}
 use mathlib.Core.Bool.{Bool, true, false, cond}
 use mathlib.Core.List.{List, [], _∷_, _++_}
-use Prim.Native.Nat.{ℕ, _≤_, _<_}
-use native.Mathlib.Omega.{arith}
+use Prim.Native.Nat.{_≤_, _<_}
 use borrow.Author.Tests.{lt-ltb, le-ltb}
 use lib.Dec.{T, ltb}
 use lib.ListN.{length}
@@ -14,6 +12,7 @@ use Rattle.basis.specs.declared.Basis.{Basis}
 use Rattle.convert.specs.Conversion.{Conversion, gives, refuses, convertedOf}
 use Rattle.error.specs.declared.Refusal.{Refusal}
 use Rattle.error.specs.declared.Refusal.the-variants.{TooMany}
+use Rattle.error.proofs.First.{never}
 use Rattle.invert.specs.declared.Inverted.{Inverted}
 use Rattle.invert.specs.declared.Inverted.the-variants as I
 use Rattle.record.specs.declared.Record.{Record}
@@ -24,10 +23,6 @@ use Rattle.spline.specs.declared.Evaluated.{Evaluated}
 use Rattle.spline.specs.declared.Evaluated.the-variants as E
 use Rattle.spline.proofs.Values.{spline-finite}
 use Rattle.answer.specs.Answer.{places, Curve, none, on, valueReply, foundOf, placeReply, curveReply, replyTo, afterOf}
-
--- two replies, or two cases of one, are never the same
-pub never : {A : Type 0} → _≡_ {A = ℕ} 0 1 → A
-never e = absurd (omega arith)
 
 -- a refused record changes neither basis nor knots
 pub refused-changes-nothing : (c : Curve) (r : Record) (e : Refusal) → replyTo c r ≡ refused e → afterOf c r ≡ c
@@ -68,7 +63,6 @@ unfolding replyTo afterOf
 knot-refused b ks x h = (rw (le-ltb (length ks) places h) refl, rw (le-ltb (length ks) places h) refl)
 
 -- ---- what is told is finite, so its bits are told exactly
-
 value-of : (e : Evaluated) (v : Float) → valueReply e ≡ value v → e ≡ E.Value v
 value-of (E.Value x) v h = let k : x ≡ v = cc in ap (λ (z : Float). E.Value z) k
 value-of (E.Refused r) v h = never (cc)

@@ -1,6 +1,6 @@
 -- Every double that a conversion writes is finite, for all pairs of bases. Assumes nothing.
-use mathlib.Core.Path.{_≡_, sym, subst}
-use mathlib.Core.List.{List, _++_}
+use mathlib.Core.Path.{_≡_, subst}
+use mathlib.Core.List.{List}
 use Prim.Native.Nat.{ℕ, zero, suc, _+_, _-_, _*_, _/_, _≤_, _<_}
 use native.Mathlib.Omega.{arith}
 use lib.Dec.{T, lit≤}
@@ -10,9 +10,10 @@ use lib.Ieee.Scale.{finite}
 use Rattle.error.specs.Refusals.{first}
 use Rattle.basis.specs.declared.Basis.{Basis}
 use Rattle.basis.specs.Basis.{stepOf}
+use Rattle.doubles.proofs.Tests.{holds}
 use Rattle.doubles.proofs.Bounds.{within-finite}
 use Rattle.spline.specs.Rows.{allInRange}
-use Rattle.spline.proofs.Finite.{Four, Small, Finite, none, more, row-finite, knots-within}
+use Rattle.spline.proofs.Finite.{Four, Small, Finite, none, more, joined, row-finite, knots-within}
 use Rattle.spline.proofs.Parts.{inside}
 use Rattle.matrix.specs.Matrix.{Matrix, row, applied}
 use Rattle.matrix.specs.Elimination.{conversionOf}
@@ -23,10 +24,6 @@ use Rattle.convert.proofs.Kept.{given}
 use Rattle.convert.proofs.Verdicts.{segment-passed, spline-passed}
 
 -- ---- lists of finite doubles
-joined : {xs ys : List Float} → Finite xs → Finite ys → Finite (xs ++ ys)
-joined none q = q
-joined (more w p) q = more w (joined p q)
-
 dropped : (n : ℕ) {xs : List Float} → Finite xs → Finite (drop n xs)
 dropped zero p = p
 dropped (suc n) none = none
@@ -58,7 +55,7 @@ unfolding convertedSegmentOf segmentOutput
 segment-finite from to cv room l e =
     let g = given (first (convertSegmentUses to cv room)) e in
     let p = segment-passed to cv room (g .0) in
-    subst Finite (g .1) (applied-finite (conversionOf from to) cv (conversion-small from to) (knots-within cv 0 (subst T (sym (p .1 .in-range)) tt) (omega arith)))
+    subst Finite (g .1) (applied-finite (conversionOf from to) cv (conversion-small from to) (knots-within cv 0 (holds (p .1 .in-range)) (omega arith)))
 
 pub spline-finite : (from to : Basis) (ks : List Float) (room : ℕ) (l : List Float) → convertedOf from to ks room ≡ gives l → Finite l
 unfolding convertedOf splineOutput
@@ -67,7 +64,7 @@ spline-finite from to ks room l e =
     let p = spline-passed from to ks room (g .0) in
     let k = (length ks - 4) / stepOf from in
     let fit : (i : ℕ) → i ≤ k + 1 - 1 → i * stepOf from + 4 ≤ length ks = λ i h. reach i (inside i (stepOf from) (length ks - 4) (omega arith)) (p .0 .least) in
-    subst Finite (g .1) (windows-finite (conversionOf from to) (stepOf from) (stepOf to) ks (k + 1 - 1) (conversion-small from to) (subst T (sym (p .1 .in-range)) tt) fit)
+    subst Finite (g .1) (windows-finite (conversionOf from to) (stepOf from) (stepOf to) ks (k + 1 - 1) (conversion-small from to) (holds (p .1 .in-range)) fit)
   where
     reach : (i : ℕ) → i * stepOf from ≤ length ks - 4 → 4 ≤ length ks → i * stepOf from + 4 ≤ length ks
     reach i h g = omega arith

@@ -8,23 +8,19 @@ use lib.Dec.{lit≤}
 use lib.ListN.{length, getD, drop}
 use lib.Seq.{getD-append-add, getD-drop}
 use lib.Ieee.{Float, nan}
-use Rattle.error.specs.declared.Refusal.{Refusal}
 use Rattle.error.specs.declared.Verdict.{Verdict}
 use Rattle.error.specs.declared.Verdict.the-variants.{Passed, Failed}
 use Rattle.error.specs.Refusals.{first}
+use Rattle.error.proofs.First.{never}
 use Rattle.basis.specs.declared.Basis.{Basis}
 use Rattle.basis.specs.declared.Basis.the-variants.{Bspline, Bezier, CatmullRom, Hermite, Linear, Power}
 use Rattle.basis.specs.Basis.{stepOf, segmentsOf}
 use Rattle.matrix.specs.Elimination.{conversionOf}
 use Rattle.convert.specs.Output.{segmentOutput, splineOutput, outputLength}
-use Rattle.convert.specs.Conversion.{Conversion, gives, refuses, unless, convertSegmentUses, convertUses, convertedSegmentOf, convertedOf}
+use Rattle.convert.specs.Conversion.{gives, unless, convertSegmentUses, convertUses, convertedSegmentOf, convertedOf}
 use Rattle.convert.specs.Buffer.{bufferOf}
 use Rattle.convert.proofs.Verdicts.{segment-passed, spline-passed}
 use Rattle.convert.proofs.Writing.{windows-length}
-
--- a refusal leaves the buffer as it was
-pub refusal-keeps : {t : Conversion} {r : Refusal} (out : List Float) → t ≡ refuses r → bufferOf t out ≡ out
-refusal-keeps out e = ap (λ (x : Conversion). bufferOf x out) e
 
 -- places beyond the doubles given stay
 pub beyond-stays : (l out : List Float) (i : ℕ) → length l ≤ i → getD (bufferOf (gives l) out) i nan ≡ getD out i nan
@@ -39,7 +35,7 @@ beyond-stays l out i h =
 -- where doubles are given, nothing is refused
 pub given : (v : Verdict) {l r : List Float} → unless v l ≡ gives r → (v ≡ Passed) × (l ≡ r)
 given Passed e = (cc, cc)
-given (Failed q) e = let z : _≡_ {A = ℕ} 0 1 = cc in absurd (omega arith)
+given (Failed q) e = never (cc)
 
 four-at-most : (b : Basis) → stepOf b ≤ 4
 four-at-most Bspline = lit≤ tt

@@ -18,6 +18,7 @@ use Rattle.basis.specs.declared.Basis.{Basis}
 use Rattle.basis.specs.Basis.{stepOf, isLinear}
 use Rattle.spline.specs.Rows.{curveLength, segmentLength, allInRange}
 use Rattle.spline.proofs.Parts.{few}
+use Rattle.spline.proofs.Verdicts.{Length}
 use Rattle.convert.specs.Output.{outputLength}
 use Rattle.convert.specs.Conversion.{outputUses, convertSegmentUses, convertUses}
 
@@ -37,15 +38,6 @@ module _ (from to : Basis) (ks : List Float) (room : ℕ) {l : Verdict} (e : l �
   spline-goes-on k n h = goes-on (convertUses from to ks room) e k (h ∙ ap (λ (x : ℕ). first (outputUses to ks x room)) n)
 
 -- ---- where no row applies
-pub record Length (n : ℕ) : Type 0 where
-  pub least : 4 ≤ n
-  pub most : n ≤ 4096
-
-pub length-passed : (b : Basis) (n : ℕ) → first (curveLength b n) ≡ Passed → Length n
-length-passed b n e =
-    let p = passed rows (curveLength b n) e in
-    record { least = ltb-false n 4 (p .0); most = ltb-false 4096 n (p .1 .1 .0) }
-
 -- an output basis with an inverse, room, and knots in range
 pub record Room (to : Basis) (ks : List Float) (need room : ℕ) : Type 0 where
   pub invertible : isLinear to ≡ false

@@ -1,19 +1,21 @@
 -- How large a result can get. `Within a x`: x is finite, and at most 2 ^ a in magnitude. Rounding keeps such a bound, of either sign, since 2 ^ a is a value of the format.
 -- So a product is within the sum of the two exponents, and a sum within one more. Assumes nothing.
 use mathlib.Core.Path.{_≡_, sym, ap, _∙_, subst}
-use mathlib.Core.Bool.{Bool, true, false, not, _&&_, _||_, cond, Bool·beq}
-use Prim.Native.Nat.{ℕ, suc, _+_, _-_, _*_, _^_, _≤_, _<_, zero-le}
-use native.Mathlib.Nat.{le-trans, le-of-eq, le-of-lt, lt-of-le-of-lt, mul-one, one-mul, zero-mul, mul-comm, mul-assoc, mul-right-comm, mul-mul-mul-comm, mul-le-mul-right, mul-le-mul, le-of-mul-le-mul-right, mul-pos, add-mul, add-le-add, two-pow-succ}
+use mathlib.Core.Bool.{Bool, true, false, not, _&&_, cond, Bool·beq}
+use Prim.Native.Nat.{ℕ, suc, _+_, _-_, _*_, _^_, _≤_, _<_}
+use native.Mathlib.Nat.{le-trans, le-of-eq, lt-of-le-of-lt, mul-one, one-mul, mul-comm, mul-assoc, mul-right-comm, mul-mul-mul-comm, mul-le-mul-right, mul-le-mul, le-of-mul-le-mul-right, mul-pos, add-mul, add-le-add, two-pow-succ}
 use native.Mathlib.Omega.{arith}
 use lib.IntN.{pos}
-use lib.Dec.{T, ltb, eqb, ltb→lt, nltb→le, eqb→eq, lit<, lit≤}
+use lib.Dec.{T, ltb, lit<, lit≤}
 use lib.Pow.{pow-add, pow-pos, pow-mono, pow-lt}
-use lib.Ieee.{Float, nan, inf, fin, Format, binary64, prec, emax, low, up, down, unlike, round, sum, add, mul, le, ofInt, isNan}
-use lib.Ieee.Fits.{and-l, round-is, two, down-pos}
+use lib.Ieee.{Float, nan, inf, fin, Format, binary64, prec, emax, low, up, down, unlike, round, sum, add, mul, lt, le, eq, ofInt, isNan}
+use lib.Ieee.Fits.{round-is, two, down-pos}
 use lib.Ieee.Exact.{HasValue, units-val}
 use lib.Ieee.Order.{drop, kept}
 use lib.Ieee.Scale.{grid, overflow, finite}
 use Rattle.doubles.specs.Numbers.{nought, one, clamp}
+use Rattle.doubles.proofs.Tests.{branch}
+use Rattle.doubles.proofs.Order.{at-most, at-least, le-trans-float, not-lt→le}
 use Rattle.doubles.proofs.Rounding.{grid-le}
 
 abbrev pub Size : ℕ → Float → Type 0
@@ -30,7 +32,7 @@ size-widen a b nan h w = w
 size-widen a b (inf s) h w = w
 size-widen a b (fin s m e) h w = le-trans w (mul-le-mul-right (down e) (pow-mono h))
 
-pub widen : {a : ℕ} (b : ℕ) {x : Float} → a ≤ b → Within a x → Within b x
+widen : {a : ℕ} (b : ℕ) {x : Float} → a ≤ b → Within a x → Within b x
 widen {a} b {x} h w = record { held = size-widen a b x h (w .held) }
 
 size-finite : (a : ℕ) (x : Float) → Size a x → T (finite x)
@@ -115,20 +117,6 @@ pub plus : (c : ℕ) {a b : ℕ} {x y : Float} → a ≤ c → b ≤ c → c < 1
 plus c {a} {b} {x} {y} p q A v w = record { held = add-size binary64 c x y A (widen c p v .held) (widen c q w .held) }
 
 -- ---- a bound from comparisons
-pub at-most : (a b : ℕ) (t : Bool) → T (ltb a b || (eqb a b && t)) → a ≤ b
-at-most a b t h = go (ltb a b) (ltb→lt a b) h
-  where
-    go : (p : Bool) → (T p → a < b) → T (p || (eqb a b && t)) → a ≤ b
-    go true l h = le-of-lt (l tt)
-    go false l h = le-of-eq (eqb→eq a b (and-l (eqb a b) t h))
-
-at-least : (a b : ℕ) (t : Bool) → T (ltb b a || (eqb a b && t)) → b ≤ a
-at-least a b t h = go (ltb b a) (ltb→lt b a) h
-  where
-    go : (p : Bool) → (T p → b < a) → T (p || (eqb a b && t)) → b ≤ a
-    go true l h = le-of-lt (l tt)
-    go false l h = le-of-eq (sym (eqb→eq a b (and-l (eqb a b) t h)))
-
 -- from -2 ^ a to 2 ^ a
 between : (a : ℕ) (x : Float) → T (le (fin true 1 (pos a)) x) → T (le x (fin false 1 (pos a))) → Size a x
 unfolding le
@@ -141,38 +129,36 @@ between a (fin false m e) l h = simp (mul-one, one-mul) at (at-most (m * up e * 
 pub between-within : (a : ℕ) (x : Float) → T (le (fin true 1 (pos a)) x) → T (le x (fin false 1 (pos a))) → Within a x
 between-within a x l h = record { held = between a x l h }
 
--- from 0 to 2 ^ a
-from-zero : (a : ℕ) (x : Float) → T (le nought x) → T (le x (fin false 1 (pos a))) → Size a x
+minus-one-below : T (le (fin true 1 (pos 0)) nought)
 unfolding le
-from-zero a nan l h = h
-from-zero a (inf true) l h = l
-from-zero a (inf false) l h = h
-from-zero a (fin true m e) l h = le-trans (le-of-eq (sym (simp (mul-one) at (eqb→eq (0 * 1 * down e) (m * up e * 1) (and-l (eqb (0 * 1 * down e) (m * up e * 1)) _ l))))) (le-trans (le-of-eq (simp (zero-mul))) zero-le)
-from-zero a (fin false m e) l h = simp (mul-one, one-mul) at (at-most (m * up e * 1) (1 * 2 ^ a * down e) true h)
+minus-one-below = tt
 
 pub unit-within : (t : Float) → T (le nought t) → T (le t one) → Within 0 t
-unit-within t l h = record { held = from-zero 0 t l h }
+unit-within t l h = between-within 0 t (le-trans-float (fin true 1 (pos 0)) nought t minus-one-below l) h
 
-clamp-size : (x : Float) → T (not (isNan x)) → Size 0 (clamp x)
+-- ---- from 0 to 1
+pub record InOne (x : Float) : Type 0 where
+  pub low : T (le nought x)
+  pub high : T (le x one)
+
+pub in-nought : InOne nought
+unfolding le lt eq
+in-nought = record { low = tt; high = tt }
+
+in-one : InOne one
+unfolding le lt eq
+in-one = record { low = tt; high = tt }
+
+pub clamp-in : (x : Float) → T (not (isNan x)) → InOne (clamp x)
 unfolding clamp isNan
-clamp-size nan n = absurd n
-clamp-size (inf true) n = lit≤ tt
-clamp-size (inf false) n = lit≤ tt
-clamp-size (fin true m e) n = go (ltb 0 (m * up e * 1 + 0 * 1 * down e)) (nltb→le 0 (m * up e * 1 + 0 * 1 * down e))
-  where
-    go : (b : Bool) → (T (not b) → m * up e * 1 + 0 * 1 * down e ≤ 0) → Size 0 (cond b nought (fin true m e))
-    go true h = lit≤ tt
-    go false h = omega (arith, h tt)
-clamp-size (fin false m e) n = go (ltb (m * up e * 1) (0 * 1 * down e)) (ltb (1 * 1 * down e) (m * up e * 1)) (nltb→le (1 * 1 * down e) (m * up e * 1))
-  where
-    go : (b c : Bool) → (T (not c) → m * up e * 1 ≤ 1 * 1 * down e) → Size 0 (cond b nought (cond c one (fin false m e)))
-    go true c h = lit≤ tt
-    go false true h = lit≤ tt
-    go false false h = omega (arith, h tt)
+clamp-in x n =
+    branch InOne (lt x nought) (λ h. in-nought)
+    (λ h. branch InOne (lt one x) (λ k. in-one) (λ k. record { low = not-lt→le x nought n tt h; high = not-lt→le one x tt n k }))
 
 pub clamp-within : (x : Float) → T (not (isNan x)) → Within 0 (clamp x)
-clamp-within x n = record { held = clamp-size x n }
+clamp-within x n = let c = clamp-in x n in unit-within (clamp x) (c .low) (c .high)
 
+-- ---- whole numbers
 pub whole-within : (n : ℕ) → n ≤ 4096 → Within 12 (ofInt binary64 (pos n))
 unfolding ofInt
 whole-within n h = record { held = round-size binary64 false n 1 12 (lit< tt) (lit≤ tt) (omega arith) }

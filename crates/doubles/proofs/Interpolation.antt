@@ -21,8 +21,8 @@ use Rattle.doubles.proofs.Rounding.{le-or-lt, grid-le, full, grid-short
 use Rattle.doubles.proofs.Units.{clear, Units, units-of, add-at, sub-at, mul-at, clear-of, in-order}
 
 -- ---- d is x units rounded, and p is d·a/b rounded, with 100·a ≤ 99·b: then p is at most x units
-hundredth : (q a b : ℕ) → 99 ≤ q → 100 * a ≤ 99 * b → suc q * a ≤ q * b
-hundredth q a b Q h =
+one-more-fits : (q a b : ℕ) → 99 ≤ q → 100 * a ≤ 99 * b → suc q * a ≤ q * b
+one-more-fits q a b Q h =
     le-of-mul-le-mul-right
     (le-trans (le-of-eq (mul-assoc (suc q) a 100))
     (le-trans (mul-le-mul-left (suc q) (le-trans (le-of-eq (mul-comm a 100)) h))
@@ -56,7 +56,7 @@ part f x a b B h =
           let big : 99 ≤ q = le-trans (many f) (full p w P (omega arith)) in
           let D : d ≤ suc q * 2 ^ k = mul-le-mul-right (2 ^ k) (le-trans (nearest-le (n / (c * 2 ^ k)) (compare (n % (c * 2 ^ k) * 2) (c * 2 ^ k))) (le-of-eq (ap suc (sym (div-div-eq-div-mul n c (2 ^ k)))))) in
           let A : d * a ≤ q * 2 ^ k * b =
-          le-trans (mul-le-mul-right a D) (le-trans (le-of-eq (mul-right-comm (suc q) (2 ^ k) a)) (le-trans (mul-le-mul-right (2 ^ k) (hundredth q a b big h)) (le-of-eq (mul-right-comm q b (2 ^ k))))) in
+          le-trans (mul-le-mul-right a D) (le-trans (le-of-eq (mul-right-comm (suc q) (2 ^ k) a)) (le-trans (mul-le-mul-right (2 ^ k) (one-more-fits q a b big h)) (le-of-eq (mul-right-comm q b (2 ^ k))))) in
           le-trans (grid-le f (d * a) (c * b) q k (mul-pos (pow-pos l) B) (kept-lt p w) (le-trans (mul-le-mul-right c A) (le-of-eq (swap (q * 2 ^ k) b c)))) (le-trans (div-mul-le-self w (2 ^ k)) (le-of-eq e))
     ]
   where

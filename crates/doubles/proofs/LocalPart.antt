@@ -2,45 +2,24 @@
 use mathlib.Core.Path.{_≡_, refl, sym, ap, _∙_, subst}
 use mathlib.Core.Bool.{Bool, true, false, not, true≢false}
 use Prim.Native.Nat.{ℕ, zero, suc, _+_, _-_, _*_, _^_, _≤_, _<_}
-use native.Mathlib.Nat.{le-trans, le-of-eq, mul-one, one-mul, zero-mul, mul-le-mul, mul-comm, mul-assoc, mul-right-comm, mul-pos, add-mul, le-of-mul-le-mul-right}
+use native.Mathlib.Nat.{le-trans, le-of-eq, mul-one, one-mul, zero-mul, mul-le-mul, mul-comm, mul-assoc, mul-pos, add-mul}
 use native.Mathlib.Numerals.{add-one}
 use native.Mathlib.Omega.{arith}
 use lib.IntN.{ℤ, pos}
-use lib.Dec.{T, lit<, lit≤}
+use lib.Dec.{T, T-not, not-T, lit<, lit≤}
 use lib.Pow.{pow-pos}
 use lib.Ieee.{Float, nan, inf, fin, binary64, low, up, down, round, neg, sum, add, sub, mul, le, lt, eq, ofInt, isNan, fits}
 use lib.Ieee.Fits.{down-pos, mul-fits}
 use lib.Ieee.Exact.{HasValue, round-exact}
-use lib.Ieee.Back.{round-whole}
 use lib.Ieee.Order.{round-mono}
 use lib.Ieee.Scale.{finite}
-use Rattle.doubles.specs.Numbers.{nought, one, clamp}
+use Rattle.doubles.specs.Numbers.{nought, one}
 use Rattle.doubles.specs.Whole.{double, wholeUpTo}
-use Rattle.doubles.proofs.Order.{branch, le-trans-float, lt→le, not-lt→le, zeros-le, zero-of}
-use Rattle.doubles.proofs.Bounds.{times, within-finite, at-most, unit-within, whole-within}
-use Rattle.doubles.proofs.Units.{units-of, sub-at, in-order}
-use Rattle.doubles.proofs.WholePart.{clash, refuted, double-mono, whole-le, skipped}
-
-gone : (a c : ℕ) → 0 < c → a * c ≡ 0 → a ≡ 0
-gone a c C e = let h : a ≤ 0 = le-of-mul-le-mul-right (le-of-eq (e ∙ sym (zero-mul c))) C in omega arith
-
-pub record InOne (x : Float) : Type 0 where
-  pub low : T (le nought x)
-  pub high : T (le x one)
-
-in-nought : InOne nought
-unfolding le lt eq
-in-nought = record { low = tt; high = tt }
-
-in-one : InOne one
-unfolding le lt eq
-in-one = record { low = tt; high = tt }
-
-pub clamp-in : (x : Float) → T (not (isNan x)) → InOne (clamp x)
-unfolding clamp isNan
-clamp-in x n =
-    branch InOne (lt x nought) (λ h. in-nought)
-    (λ h. branch InOne (lt one x) (λ k. in-one) (λ k. record { low = not-lt→le x nought n tt h; high = not-lt→le one x tt n k }))
+use Rattle.doubles.proofs.Tests.{branch}
+use Rattle.doubles.proofs.Order.{at-most, gone, le-trans-float, lt→le, not-lt→le, zeros-le, zero-of}
+use Rattle.doubles.proofs.Bounds.{InOne, in-nought, times, within-finite, unit-within, whole-within}
+use Rattle.doubles.proofs.Units.{units-of, whole-value, whole-at, sub-at, in-order}
+use Rattle.doubles.proofs.WholePart.{double-mono, whole-le, skipped}
 
 -- ---- zeros of either sign
 record Level (x : Float) : Type 0 where
@@ -68,10 +47,6 @@ unfolding ofInt
 between a c k C h = (round-mono binary64 0 1 a c (lit< tt) C (simp zero-mul (omega arith)), round-mono binary64 a c k 1 C (lit< tt) (simp mul-one h))
 
 -- ---- the product
-double-value : (k : ℕ) → k ≤ 4096 → HasValue (double k) false k 1
-unfolding ofInt
-double-value k h = round-whole binary64 false k (le-trans h (lit≤ tt))
-
 product-le : (a b c d k : ℕ) → a ≤ c → b * 1 ≡ k * d → a * b ≤ k * (c * d)
 product-le a b c d k h e = le-trans (mul-le-mul h (le-of-eq (sym (mul-one b) ∙ e))) (le-of-eq (sym (mul-assoc c k d) ∙ (ap (λ (z : ℕ). z * d) (mul-comm c k) ∙ mul-assoc k c d)))
 
@@ -99,7 +74,7 @@ whole-low zero y h = h
 whole-low (suc m) y h = branch (λ (n : ℕ). T (le (double n) y)) (le (double (suc m)) y) (λ t. t) (λ t. whole-low m y h)
 
 le-of-not : (x y : Float) → T (not (isNan x)) → T (not (isNan y)) → T (not (le x y)) → T (le y x)
-le-of-not x y p q h = not-lt→le x y p q (refuted (lt x y) (λ l. clash (le x y) (lt→le x y l) h))
+le-of-not x y p q h = not-lt→le x y p q (not-T (lt x y) (λ l. T-not (le x y) h (lt→le x y l)))
 
 le-number : (x y : Float) → T (le x y) → T (not (isNan x))
 unfolding le lt eq isNan
@@ -114,18 +89,13 @@ whole-high (suc m) y n h =
     branch (λ (k : ℕ). T (le y (double (k + 1)))) (le (double (suc m)) y) (λ t. h)
     (λ t. whole-high m y n (rw (add-one m) (le-of-not (double (suc m)) y (le-number (double (suc m)) (double (suc m)) (double-mono (le-of-eq refl))) n t)))
 
-scale-up : (x : Float) (a c : ℕ) → HasValue x false a 1 → HasValue x false (a * c) c
-scale-up nan a c v = v
-scale-up (inf s) a c v = v
-scale-up (fin s m e) a c v = (v .0, ap (λ (z : ℕ). z * c) (sym (mul-one (m * up e)) ∙ v .1) ∙ mul-right-comm a (down e) c)
-
 -- the whole part of a zero is 0
 none-below : (m : ℕ) (y : Float) → T (le y nought) → wholeUpTo m y ≡ 0
 unfolding wholeUpTo ofInt le
-none-below m y h = skipped m 0 y (omega arith) (refuted (le (double 1) y) (λ t. one-above (le-trans-float (double 1) y nought t h)))
+none-below m y h = skipped m 0 y (omega arith) (not-T (le (double 1) y) (λ t. one-above (le-trans-float (double 1) y nought t h)))
   where
     one-above : T (le one nought) → ⊥
-    one-above h = clash (le one nought) h tt
+    one-above h = T-not (le one nought) tt h
 
 minus-zero : (m : ℕ) (e : ℤ) → m * up e ≡ 0 → InOne (sub binary64 (fin true m e) (double 0))
 unfolding sub add neg sum ofInt
@@ -150,8 +120,8 @@ split (fin false m e) k K M f g l h =
     let L = 2 ^ low binary64 in
     let U = units-of binary64 p f tt in
     let few : s ≤ k - 1 = whole-le (k - 1) p in
-    let dv : HasValue (double s) false (s * L) L = scale-up (double s) s L (double-value s (omega arith)) in
-    let dw : HasValue (double (s + 1)) false ((s + 1) * L) L = scale-up (double (s + 1)) (s + 1) L (double-value (s + 1) (omega arith)) in
+    let dv : HasValue (double s) false (s * L) L = whole-at s (omega arith) in
+    let dw : HasValue (double (s + 1)) false ((s + 1) * L) L = whole-at (s + 1) (omega arith) in
     let a : s * L ≤ U .h = in-order binary64 (double s) p (s * L) (U .h) dv (U .is) (whole-low (k - 1) p l) in
     let e1 : k - 1 + 1 ≡ k = omega arith in
     let b : U .h ≤ (s + 1) * L = in-order binary64 p (double (s + 1)) (U .h) ((s + 1) * L) (U .is) dw (whole-high (k - 1) p (le-number p (double k) h) (rw e1 h)) in
@@ -160,5 +130,5 @@ split (fin false m e) k K M f g l h =
 -- a number from 0 to 1 times k, less the whole part below k
 pub local-in : (k : ℕ) (x : Float) → 0 < k → k ≤ 4096 → InOne x → InOne (sub binary64 (mul binary64 x (double k)) (double (wholeUpTo (k - 1) (mul binary64 x (double k)))))
 local-in k x K M u =
-    let v = product x (double k) k (double-value k M) u in
+    let v = product x (double k) k (whole-value k M) u in
     split (mul binary64 x (double k)) k K M (mul-fits binary64 x (double k)) (within-finite (times {a = 0} {b = 12} (lit≤ tt) (unit-within x (u .low) (u .high)) (whole-within k M))) (v .0) (v .1)

@@ -1,33 +1,25 @@
 -- The order of floats, of either sign: transitive, total but for nan. Assumes nothing.
-use mathlib.Core.Path.{_≡_, refl, sym, ap, _∙_, subst, subst₂}
+use mathlib.Core.Path.{_≡_, sym, ap, _∙_, subst, subst₂}
 use mathlib.Core.Logic.{inl, inr}
-use mathlib.Core.Bool.{Bool, true, false, not, cond, _&&_, _||_}
+use mathlib.Core.Bool.{Bool, true, false, not, _&&_, _||_}
 use Prim.Native.Nat.{ℕ, _+_, _*_, _≤_, _<_}
 use native.Mathlib.Nat.{le-trans, le-of-eq, le-of-lt, eq-or-lt-of-le, mul-le-mul-right, le-of-mul-le-mul-right, mul-right-comm, mul-one, zero-mul}
 use native.Mathlib.Omega.{arith}
 use lib.IntN.{ℤ, pos}
-use lib.Dec.{T, ltb, eqb, ltb→lt, nltb→le, lt→ltb, eqb→eq}
+use lib.Dec.{T, not-T, ltb, eqb, ltb→lt, nltb→le, lt→ltb, eqb→eq}
 use lib.Ieee.{Float, nan, inf, fin, up, down, below, level, lt, le, eq, ne, isNan}
+use lib.Ieee.Bits.{is-false}
 use lib.Ieee.Compare.{differs-from-itself, nan-differs}
 use lib.Ieee.Fits.{and-l, and-r, and-i, eq→eqb, down-pos}
+use Rattle.doubles.proofs.Tests.{fails, or-elim, or-l, or-r}
 
-pub or-elim : {C : Type 0} (p q : Bool) → (T p → C) → (T q → C) → T (p || q) → C
-or-elim true q f g h = f tt
-or-elim false q f g h = g h
+pub at-most : (a b : ℕ) (t : Bool) → T (ltb a b || (eqb a b && t)) → a ≤ b
+at-most a b t h = or-elim (ltb a b) (eqb a b && t) (λ p. le-of-lt (ltb→lt a b p)) (λ q. le-of-eq (eqb→eq a b (and-l (eqb a b) t q))) h
 
-pub or-l : (p q : Bool) → T p → T (p || q)
-or-l true q h = tt
-or-l false q h = absurd h
+pub at-least : (a b : ℕ) (t : Bool) → T (ltb b a || (eqb a b && t)) → b ≤ a
+at-least a b t h = or-elim (ltb b a) (eqb a b && t) (λ p. le-of-lt (ltb→lt b a p)) (λ q. le-of-eq (sym (eqb→eq a b (and-l (eqb a b) t q)))) h
 
-pub or-r : (p q : Bool) → T q → T (p || q)
-or-r true q h = tt
-or-r false q h = h
-
--- a goal about a `cond`, by what its test says
-pub branch : {A : Type 0} (P : A → Type 0) (b : Bool) {x z : A} → (T b → P x) → (T (not b) → P z) → P (cond b x z)
-branch P true h k = h tt
-branch P false h k = k tt
-
+-- ---- the order of two signed numbers
 -- ±a ≤ ±b
 abbrev Le : Bool → ℕ → Bool → ℕ → Type 0
 Le false a false b = a ≤ b
@@ -36,12 +28,12 @@ Le true a false b = Unit
 Le true a true b = b ≤ a
 
 Le-of : (s : Bool) (a : ℕ) (t : Bool) (b : ℕ) → T (below s a t b || level s a t b) → Le s a t b
-Le-of false a false b h = or-elim (ltb a b) (eqb a b && true) (λ p. le-of-lt (ltb→lt a b p)) (λ q. le-of-eq (eqb→eq a b (and-l (eqb a b) true q))) h
+Le-of false a false b h = at-most a b true h
 Le-of false a true b h =
     let z : a ≡ 0 = eqb→eq a 0 (and-r (eqb a b) (eqb a 0) h) in
     (z, sym (eqb→eq a b (and-l (eqb a b) (eqb a 0) h)) ∙ z)
 Le-of true a false b h = tt
-Le-of true a true b h = or-elim (ltb b a) (eqb a b && true) (λ p. le-of-lt (ltb→lt b a p)) (λ q. le-of-eq (sym (eqb→eq a b (and-l (eqb a b) true q)))) h
+Le-of true a true b h = at-least a b true h
 
 of-Le : (s : Bool) (a : ℕ) (t : Bool) (b : ℕ) → Le s a t b → T (below s a t b || level s a t b)
 of-Le false a false b h = elim (eq-or-lt-of-le h) [ inl e ↦ or-r (ltb a b) (eqb a b && true) (and-i (eqb a b) true (eq→eqb e) tt) | inr l ↦ or-l (ltb a b) (eqb a b && true) (lt→ltb a b l) ]
@@ -59,7 +51,7 @@ Le-scale false a true b c h = (ap (λ (z : ℕ). z * c) (h .0) ∙ zero-mul c, a
 Le-scale true a false b c h = tt
 Le-scale true a true b c h = mul-le-mul-right c h
 
-gone : (a c : ℕ) → 0 < c → a * c ≡ 0 → a ≡ 0
+pub gone : (a c : ℕ) → 0 < c → a * c ≡ 0 → a ≡ 0
 gone a c C e = let h : a ≤ 0 = le-of-mul-le-mul-right (le-of-eq (e ∙ sym (zero-mul c))) C in omega arith
 
 Le-unscale : (s : Bool) (a : ℕ) (t : Bool) (b c : ℕ) → 0 < c → Le s (a * c) t (b * c) → Le s a t b
@@ -78,6 +70,7 @@ Le-trans true a false b true c h k = omega arith
 Le-trans true a true b false c h k = tt
 Le-trans true a true b true c h k = le-trans k h
 
+-- ---- the order of floats
 pub le-trans-float : (x y z : Float) → T (le x y) → T (le y z) → T (le x z)
 unfolding le lt eq
 le-trans-float nan y z h k = absurd h
@@ -159,28 +152,21 @@ lt-le-absurd (fin s m e) (inf true) h k = h
 lt-le-absurd (fin s m e) (inf false) h k = k
 lt-le-absurd (fin s m e) (fin t n d) h k = strict s (m * up e * down d) t (n * up d * down e) h (Le-of t (n * up d * down e) s (m * up e * down d) k)
 
--- a number equals itself
-pub no-nan : (x : Float) → T (not (ne x x)) → T (not (isNan x))
-unfolding ne isNan
-no-nan nan h = h
-no-nan (inf s) h = tt
-no-nan (fin s m e) h = tt
-
-untrue : (b : Bool) → (T b → ⊥) → b ≡ false
-untrue true h = absurd (h tt)
-untrue false h = refl
-
+-- ---- nan alone differs from itself
 number : (x : Float) → x ≡ nan → T (not (isNan x)) → ⊥
 unfolding isNan
 number x e h = subst (λ (z : Float). T (not (isNan z))) e h
 
--- and nan alone differs from itself
 pub ne-itself : (x : Float) → ne x x ≡ isNan x
 unfolding isNan
 ne-itself nan = nan-differs
-ne-itself (inf s) = untrue (ne (inf s) (inf s)) (λ h. let e : inf s ≡ nan = differs-from-itself (inf s) h in number (inf s) e tt)
-ne-itself (fin s m d) = untrue (ne (fin s m d) (fin s m d)) (λ h. let e : fin s m d ≡ nan = differs-from-itself (fin s m d) h in number (fin s m d) e tt)
+ne-itself (inf s) = is-false (ne (inf s) (inf s)) (not-T (ne (inf s) (inf s)) (λ h. let e : inf s ≡ nan = differs-from-itself (inf s) h in number (inf s) e tt))
+ne-itself (fin s m d) = is-false (ne (fin s m d) (fin s m d)) (not-T (ne (fin s m d) (fin s m d)) (λ h. let e : fin s m d ≡ nan = differs-from-itself (fin s m d) h in number (fin s m d) e tt))
 
+pub no-nan : (x : Float) → ne x x ≡ false → T (not (isNan x))
+no-nan x e = fails (sym (ne-itself x) ∙ e)
+
+-- ---- zeros
 -- zeros of either sign are level, and below every other number that is not negative
 pub zeros-le : (s t : Bool) (m n : ℕ) (e d : ℤ) → m * up e ≡ 0 → n * up d ≡ 0 → T (le (fin s m e) (fin t n d))
 unfolding le lt eq

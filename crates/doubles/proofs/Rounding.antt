@@ -22,7 +22,7 @@ le-or-lt a b = go (leb a b) (leb→le a b) (nleb→lt a b)
     go false h k = inr (k tt)
 
 -- a whole number rounds to itself
-pub closest-whole : (n : ℕ) → closest n 1 ≡ n
+closest-whole : (n : ℕ) → closest n 1 ≡ n
 closest-whole n = rw (mod-one, div-one)
 
 spare : (z p j : ℕ) → z ≤ p + j → z - p ≤ j

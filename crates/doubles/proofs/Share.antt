@@ -1,8 +1,8 @@
 -- (s + x) × (1/k), each operation rounded, lies in 0 to 1, for whole numbers s < k up to 4093 and x in 0 to 1. Assumes nothing.
-use mathlib.Core.Path.{_≡_, refl, sym, ap, _∙_}
+use mathlib.Core.Path.{_≡_, refl}
 use mathlib.Core.Bool.{true, false}
 use Prim.Native.Nat.{ℕ, suc, _+_, _*_, _^_, _≤_, _<_}
-use native.Mathlib.Nat.{le-trans, le-of-eq, lt-of-le-of-lt, mul-one, mul-assoc, mul-comm, mul-right-comm, mul-left-comm, mul-le-mul-right, mul-le-mul-left, mul-pos, suc-mul}
+use native.Mathlib.Nat.{le-trans, le-of-eq, lt-of-le-of-lt, mul-assoc, mul-comm, mul-left-comm, mul-le-mul-right, mul-le-mul-left, mul-pos, suc-mul}
 use native.Mathlib.Omega.{arith}
 use lib.IntN.{pos}
 use lib.Dec.{T, leb→le, lit≤, lit<}
@@ -10,25 +10,14 @@ use lib.Pow.{pow-pos}
 use lib.Ieee.{Float, nan, inf, fin, binary64, low, up, down, add, mul, div, lt, le, ofInt, round}
 use lib.Ieee.Fits.{down-pos}
 use lib.Ieee.Exact.{HasValue}
-use lib.Ieee.Back.{round-whole}
 use lib.Ieee.Order.{round-mono}
 use lib.Ieee.Scale.{grid, overflow, round-val, round-under}
 use Rattle.doubles.specs.Numbers.{nought, one}
 use Rattle.doubles.proofs.Rounding.{Short, grid-short-le}
 use Rattle.doubles.proofs.Bounds.{Within, within-finite, round-size}
-use Rattle.doubles.proofs.Units.{clear, InUnit, units-of, add-at, mul-at, clear-of, in-order, nought-le}
+use Rattle.doubles.proofs.Units.{clear, InUnit, units-of, whole-at, add-at, mul-at, clear-of, in-order, nought-le}
 use Rattle.doubles.proofs.Order.{le-trans-float}
 use Rattle.doubles.proofs.Reciprocal.{fair, is-fair}
-
--- a value in other units
-scaled : (x : Float) (n c : ℕ) → HasValue x false n 1 → HasValue x false (n * c) c
-scaled nan n c v = v
-scaled (inf s) n c v = v
-scaled (fin s m e) n c v = (v .0, ap (λ (z : ℕ). z * c) (sym (mul-one (m * up e)) ∙ v .1) ∙ mul-right-comm n (down e) c)
-
-whole-at : (n : ℕ) → n ≤ 4096 → HasValue (ofInt binary64 (pos n)) false (n * 2 ^ low binary64) (2 ^ low binary64)
-unfolding ofInt
-whole-at n h = scaled (round binary64 false n 1) n (2 ^ low binary64) (round-whole binary64 false n (le-trans h (lit≤ tt)))
 
 room : (s k c u : ℕ) → s < k → u ≤ c → s * c + u ≤ k * c
 room s k c u h l =

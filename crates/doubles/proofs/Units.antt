@@ -8,16 +8,17 @@ use native.Mathlib.Omega.{arith}
 use lib.IntN.{ℤ, pos, negsuc}
 use lib.Dec.{T, ltb, leb, eqb, ltb→lt, leb→le, lit≤, lit<}
 use lib.Pow.{pow-add, pow-pos, pow-lt}
-use lib.Ieee.{Float, nan, inf, fin, Format, binary64, prec, emax, low, up, down, round, sum, add, sub, mul, lt, le, fits}
+use lib.Ieee.{Float, nan, inf, fin, Format, binary64, prec, emax, low, up, down, round, sum, add, sub, mul, lt, le, ofInt, fits}
 use lib.Ieee.Digits.{back}
 use lib.Ieee.Fits.{and-l, and-r, down-pos}
 use lib.Ieee.Exact.{HasValue}
+use lib.Ieee.Back.{round-whole}
 use lib.Ieee.Order.{transfer, le-of-values}
 use lib.Ieee.Scale.{grid, overflow, round-same, round-val}
 use Rattle.doubles.specs.Numbers.{nought, one, trillionth, magnitudeOf}
 use Rattle.doubles.proofs.Rounding.{le-or-lt, Short, grid-short-le}
-use Rattle.doubles.proofs.Bounds.{at-most}
-use Rattle.doubles.proofs.Order.{branch, lt-le-absurd}
+use Rattle.doubles.proofs.Tests.{branch}
+use Rattle.doubles.proofs.Order.{at-most, lt-le-absurd}
 
 abbrev pub clear : Float → Bool
 clear nan = false
@@ -147,6 +148,20 @@ in-order f (fin false m e) (fin false n d) a b v w h =
     le-of-mul-le-mul-right
     (transfer a b (2 ^ low f) (2 ^ low f) (m * up e) (n * up d) (down e) (down d) (down-pos e) (down-pos d) (sym (v .1)) (sym (w .1)) (at-most (m * up e * down d) (n * up d * down e) true h))
     (pow-pos (low f))
+
+-- ---- whole numbers
+-- a value in other units
+scale-up : (x : Float) (n c : ℕ) → HasValue x false n 1 → HasValue x false (n * c) c
+scale-up nan n c v = v
+scale-up (inf s) n c v = v
+scale-up (fin s m e) n c v = (v .0, ap (λ (z : ℕ). z * c) (sym (mul-one (m * up e)) ∙ v .1) ∙ mul-right-comm n (down e) c)
+
+pub whole-value : (n : ℕ) → n ≤ 4096 → HasValue (ofInt binary64 (pos n)) false n 1
+unfolding ofInt
+whole-value n h = round-whole binary64 false n (le-trans h (lit≤ tt))
+
+pub whole-at : (n : ℕ) → n ≤ 4096 → HasValue (ofInt binary64 (pos n)) false (n * 2 ^ low binary64) (2 ^ low binary64)
+whole-at n h = scale-up (ofInt binary64 (pos n)) n (2 ^ low binary64) (whole-value n h)
 
 -- ---- laws that callers use
 -- a double from 0 to 1 with the sign clear

@@ -4,10 +4,10 @@ use mathlib.Core.List.{[], _∷_}
 use mathlib.Core.Bool.{true, false}
 use Prim.Native.Nat.{ℕ, _+_, _-_, _/_}
 use native.Mathlib.Nat.{div-one}
-use native.Mathlib.Omega.{arith}
 use lib.ListN.{length}
 use lib.Ieee.{Float}
 use types.Run.{OneOf, miss}
+use Rattle.error.proofs.First.{never}
 use Rattle.basis.specs.declared.Basis.{Basis}
 use Rattle.basis.specs.Basis.{stepOf, segmentsOf}
 use Rattle.doubles.specs.Numbers.{nought, one}
@@ -36,7 +36,7 @@ module _ (P : ℕ → Float → Float) where
 
   pub with-parameter : (o : Outcome) (p : Place) {x : Float} → At p ≡ answered alone o → x ≡ P (p .segment) (p .local)
       → At (record { parameter = x; ground = p .ground; segment = p .segment; local = p .local; lower = p .lower; upper = p .upper; count = p .count }) ≡ answered P o
-  with-parameter (off ev) p e h = let z : _≡_ {A = ℕ} 0 1 = cc in absurd (omega arith)
+  with-parameter (off ev) p e h = never (cc)
   with-parameter (placed q) p e h =
       let s : p ≡ record { parameter = q .local; ground = q .ground; segment = q .segment; local = q .local; lower = q .lower; upper = q .upper; count = length (q .made) } = cc in
       rw (h, s)

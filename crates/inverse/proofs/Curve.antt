@@ -5,18 +5,16 @@ use mathlib.Core.List.{List}
 use Prim.Native.Nat.{ℕ, _+_, _-_, _*_, _/_, _≤_, _<_}
 use native.Mathlib.Nat.{add-mul, one-mul}
 use native.Mathlib.Omega.{arith}
-use lib.Dec.{T}
-use lib.ListN.{length, drop}
+use lib.ListN.{length}
 use lib.Ieee.{Float, isNan}
 use Rattle.basis.specs.declared.Basis.{Basis}
 use Rattle.basis.specs.Basis.{stepOf, segmentsOf}
-use Rattle.doubles.proofs.Bounds.{within-number}
-use Rattle.doubles.proofs.Units.{nought-le}
+use Rattle.doubles.proofs.Tests.{holds, fails}
 use Rattle.spline.specs.Segment.{segmentOf}
 use Rattle.spline.specs.Rows.{allInRange}
 use Rattle.spline.proofs.Parts.{inside, few}
-use Rattle.spline.proofs.Finite.{knots-within, segment-finite}
 use Rattle.invert.proofs.Enclosing.{Numbers}
+use Rattle.invert.proofs.Call.{segment-numbers}
 
 module _ (b : Basis) (n : ℕ) where
   pub segments-some : 0 < segmentsOf b n
@@ -32,7 +30,4 @@ module _ (b : Basis) (n : ℕ) where
   segment-fits s h l = omega (arith, inside s (stepOf b) (n - 4) (omega arith))
 
 pub curve-numbers : (b : Basis) (y : Float) (ks : List Float) → 4 ≤ length ks → isNan y ≡ false → allInRange ks ≡ true → (s : ℕ) → s < segmentsOf b (length ks) → Numbers (segmentOf b ks s) y
-curve-numbers b y ks long n t s l =
-    let r : T (allInRange ks) = rw t tt in
-    let k = knots-within ks (s * stepOf b) r (segment-fits b (length ks) s long l) in
-    record { target = rw n tt; values = λ x u. within-number (segment-finite b (drop (s * stepOf b) ks) x k (nought-le x (u .sign)) (u .top) .0) }
+curve-numbers b y ks long n t s l = segment-numbers b ks s y (holds t) (segment-fits b (length ks) s long l) (fails n)

@@ -1,20 +1,18 @@
 -- The premise on starts and ends, above 12 segments: a curve that meets it, and one that shows why it is asked. Assumes nothing.
-use mathlib.Core.Path.{_≡_, refl, subst}
-use mathlib.Core.Logic.{inl, inr}
-use mathlib.Core.Bool.{Bool, true, false, _&&_}
+use mathlib.Core.Path.{_≡_, refl}
+use mathlib.Core.Bool.{true, false}
 use mathlib.Core.List.{List, [], _∷_}
-use Prim.Native.Nat.{ℕ, zero, suc, _*_, _<_}
-use native.Mathlib.Nat.{eq-or-lt-of-le}
+use Prim.Native.Nat.{ℕ, zero, suc, _*_}
 use native.Mathlib.Omega.{arith}
 use lib.Dec.{T}
 use lib.IntN.{pos}
 use lib.Ieee.{Float, binary64, ofInt, ofBits, round, add, sub, mul, div, lt, le, eq, ne, neg, isNan}
-use lib.Ieee.Fits.{and-l, and-r}
 use lib.Count.{leadingZeros}
 use Rattle.basis.specs.declared.Basis.the-variants.{Bspline, Power}
 use Rattle.basis.specs.Basis.{frac, row, matrixOf}
 use Rattle.doubles.specs.Numbers.{nought, one, half, magnitudeOf}
 use Rattle.doubles.specs.Lerp.{lerpOf}
+use Rattle.doubles.proofs.Tests.{each, each-at}
 use Rattle.spline.specs.Segment.{segmentOf}
 use Rattle.spline.specs.Rows.{inRange, allInRange}
 use Rattle.invert.specs.declared.Inverted.the-variants.{OffCurve}
@@ -28,19 +26,6 @@ use Rattle.search.proofs.Found.{Holds, Straight}
 use Rattle.inverse.specs.Order.{ordered}
 use Rattle.inverse.specs.Curve.{parameterOf, located}
 use Rattle.inverse.specs.Inverse.{inverseOf}
-
--- ---- a test at every number below n
-each : (ℕ → Bool) → ℕ → Bool
-each t zero = true
-each t (suc n) = t n && each t n
-
-each-at : (t : ℕ → Bool) (n i : ℕ) → T (each t n) → i < n → T (t i)
-unfolding each
-each-at t zero i h l = absurd (omega arith)
-each-at t (suc n) i h l = elim (eq-or-lt-of-le {n = suc i} {m = suc n} l) [
-  | inl e ↦ let q : n ≡ i = omega arith in subst (λ (j : ℕ). T (t j)) q (and-l (t n) (each t n) h)
-  | inr m ↦ each-at t n i (and-r (t n) (each t n) h) (omega arith)
-]
 
 -- 6·a, 6·(a + 1), and so on
 sixes : ℕ → ℕ → List Float

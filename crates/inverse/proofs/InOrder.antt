@@ -46,7 +46,7 @@ module _ (b : Basis) (y : Float) (ks : List Float) (check : Bool) (limit : ℕ) 
       let u = enters-sound (segmentOf b ks) y ε limit k (curve-numbers b y ks (a .long) (a .number) (a .in-range)) s (t .0) l H in
       simp (is-false (atLow (knotEnds b ks) y) (q .0), is-false (atHigh (knotEnds b ks) y) (q .1)) (placed-in s _ (u .0) (t .2 ∙ u .1) (u .2 .1))
 
-  -- h
+  -- so of the call
   pub inverse-first-entered : Pass b y ks check limit ε → Quiet b y ks check limit ε → k ≤ 12 → (s : ℕ) → s < k → T (Holds (segmentOf b ks) y k s) → Nothing (segmentOf b ks) y k 0 s → In s (inverseOf b y ks check limit ε)
   unfolding inverseOf
   inverse-first-entered v q f s l H N = rw v (located-first v q f s l H N)

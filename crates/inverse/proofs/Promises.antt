@@ -78,7 +78,7 @@ module _ (b : Basis) (y : Float) (ks : List Float) (check : Bool) (limit : ℕ) 
   some : 0 < k
   some = segments-some b (length ks)
 
-  -- ---- a: the list of evaluations
+  -- ---- the list of evaluations
   -- the count is its length
   pub inverse-count : countTold (inverseOf b y ks check limit ε) ≡ length (inverseEvaluations b y ks check limit ε)
   unfolding inverseOf inverseEvaluations
@@ -108,21 +108,21 @@ module _ (b : Basis) (y : Float) (ks : List Float) (check : Bool) (limit : ℕ) 
   pub many-bound : 12 < k → boundOf k limit ≡ limit + 2 * bitsOf k + 6
   many-bound h = rw (lt-leb k 12 h)
 
-  -- ---- b: parameter, local place and both bracket ends lie in 0 to 1, lower not above upper
+  -- ---- parameter, local place and both bracket ends lie in 0 to 1, lower not above upper
   pub inverse-proper : AtPlace Proper (inverseOf b y ks check limit ε)
   inverse-proper = by-verdict (AtPlace Proper) (λ r. tt) (λ a. place-proper (knotEnds b ks) [] (segmentOf b ks) k y ε limit some (fits a) (numbers a))
 
-  -- ---- c: where a segment was entered, its values at the two bracket ends enclose the target, and so do those at its own ends
+  -- ---- where a segment was entered, its values at the two bracket ends enclose the target, and so do those at its own ends
   pub inverse-enclosed : AtPlace (λ p. Enclosed (knotEnds b ks) [] (segmentOf b ks) k y ε limit (p .ground) p) (inverseOf b y ks check limit ε)
   inverse-enclosed =
       by-verdict (AtPlace (λ p. Enclosed (knotEnds b ks) [] (segmentOf b ks) k y ε limit (p .ground) p)) (λ r. tt) (λ a. place-enclosed (knotEnds b ks) [] (segmentOf b ks) k y ε limit some (fits a) (numbers a))
 
-  -- ---- d: what the ground says
+  -- ---- what the ground says
   pub inverse-ground : AtPlace (λ p. GroundSays (knotEnds b ks) [] (segmentOf b ks) k y ε limit (p .ground) p) (inverseOf b y ks check limit ε)
   inverse-ground =
       by-verdict (AtPlace (λ p. GroundSays (knotEnds b ks) [] (segmentOf b ks) k y ε limit (p .ground) p)) (λ r. tt) (λ a. ground-says (knotEnds b ks) [] (segmentOf b ks) k y ε limit some (fits a) (numbers a))
 
-  -- ---- e: where some segment's ends enclose the target, and the end rule is silent, a segment is entered and not refused
+  -- ---- where some segment's ends enclose the target, and the end rule is silent, a segment is entered and not refused
   pub inverse-entered : Pass → Quiet → Premise
       → (s : ℕ) → s < k → T (Holds (segmentOf b ks) y k s) → (p : Place) × (inverseOf b y ks check limit ε ≡ At p)
   unfolding inverseOf
@@ -130,7 +130,7 @@ module _ (b : Basis) (y : Float) (ks : List Float) (check : Bool) (limit : ℕ) 
       let a = admitted b y ks check limit ε v in
       rw v (place-where (knotEnds b ks) [] (segmentOf b ks) k y ε limit some (fits a) (numbers a) q S s l H)
 
-  -- ---- f: refusal 11 only where no row applies, the end rule is silent and no segment's ends enclose the target
+  -- ---- refusal 11 only where no row applies, the end rule is silent and no segment's ends enclose the target
   pub inverse-off-only : IfOff (Pass × Quiet × (Premise → Nowhere)) (inverseOf b y ks check limit ε)
   unfolding inverseOf
   inverse-off-only = go (first (inverseUses b y ks check limit ε)) refl

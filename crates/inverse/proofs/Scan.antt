@@ -1,6 +1,6 @@
 -- The one scan of the order check: it passes exactly where all knots are in range and in order. Assumes nothing.
 use mathlib.Core.Path.{_≡_, refl, sym, ap, _∙_}
-use mathlib.Core.Bool.{Bool, true, false, not, _&&_}
+use mathlib.Core.Bool.{Bool, true, false, not, _&&_, and-assoc, and-true, Bool·not-not}
 use mathlib.Core.List.{List, [], _∷_}
 use Prim.Native.Nat.{ℕ, suc, _+_, _<_}
 use native.Mathlib.Omega.{arith}
@@ -16,14 +16,6 @@ use Rattle.inverse.specs.Order.{ordered}
 use Rattle.inverse.specs.Scan.{follows, kept}
 
 -- ---- the loop
-and-assoc : (a b c : Bool) → ((a && b) && c) ≡ (a && (b && c))
-and-assoc true b c = refl
-and-assoc false b c = refl
-
-and-true : (a : Bool) → (a && true) ≡ a
-and-true true = refl
-and-true false = refl
-
 next : (ks : List Float) (i : ℕ) → i < length ks → drop i ks ≡ getD ks i nan ∷ drop (i + 1) ks
 next ks i h = let q : suc i ≡ i + 1 = omega arith in drop-cons ks i nan h ∙ ap (λ (n : ℕ). getD ks i nan ∷ drop n ks) q
 
@@ -126,20 +118,13 @@ same-test true false f g = absurd (f tt)
 same-test false true f g = absurd (g tt)
 same-test false false f g = refl
 
-not-not : (a : Bool) → T (not (not a)) → T a
-not-not true h = tt
-not-not false h = h
-
-to-not-not : (a : Bool) → T a → T (not (not a))
-to-not-not true h = tt
-to-not-not false h = absurd h
-
 pub all-sound : (rising : Bool) (x z : Float) (r : List Float) → T (inRange x) → T (inRange z) → T (inRange (getD (z ∷ r) (length r) nan))
     → kept rising (z ∷ r) ≡ (allInRange (x ∷ (z ∷ r)) && not (not (ordered rising (z ∷ r))))
 unfolding allInRange
 all-sound rising x z r p q l =
     let A = allInRange (x ∷ (z ∷ r)) in
     let O = ordered rising (z ∷ r) in
-    same-test (kept rising (z ∷ r)) (A && not (not O))
-    (λ h. and-i A (not (not O)) (and-i (inRange x) (allInRange (z ∷ r)) p (kept-range rising z r q l h)) (to-not-not O (kept-ordered rising (z ∷ r) h)))
-    (λ h. ordered-kept rising (z ∷ r) (and-r (inRange x) (allInRange (z ∷ r)) (and-l A (not (not O)) h)) (not-not O (and-r A (not (not O)) h)))
+    same-test (kept rising (z ∷ r)) (A && O)
+    (λ h. and-i A O (and-i (inRange x) (allInRange (z ∷ r)) p (kept-range rising z r q l h)) (kept-ordered rising (z ∷ r) h))
+    (λ h. ordered-kept rising (z ∷ r) (and-r (inRange x) (allInRange (z ∷ r)) (and-l A O h)) (and-r A O h))
+    ∙ ap (λ (t : Bool). A && t) (sym (Bool·not-not O))

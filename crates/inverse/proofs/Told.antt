@@ -8,8 +8,7 @@ use lib.Dec.{T, leb, lit<}
 use lib.ListN.{length}
 use lib.Ieee.{Float, lt}
 use Rattle.doubles.specs.Numbers.{nought, one}
-use Rattle.doubles.proofs.Order.{branch}
-use Rattle.doubles.proofs.Units.{nought-in, one-in}
+use Rattle.doubles.proofs.Tests.{branch}
 use Rattle.invert.specs.declared.Place.{Place}
 use Rattle.invert.specs.declared.Inverted.{Inverted}
 use Rattle.invert.specs.declared.Inverted.the-variants.{OffCurve, At}
@@ -19,8 +18,8 @@ use Rattle.invert.specs.Answer.{answered}
 use Rattle.invert.proofs.Enclosing.{Numbers, Sound}
 use Rattle.search.specs.Bound.{bitsOf, boundOf}
 use Rattle.search.specs.Search.{find}
-use Rattle.search.proofs.Found.{Holds, Nothing, Straight, Result, missed, got, probes, find-says}
-use Rattle.search.proofs.Sound.{SoundIn, enters-sound}
+use Rattle.search.proofs.Found.{Holds, Nothing, Straight, Result, missed, got, probes}
+use Rattle.search.proofs.Sound.{SoundIn, find-sound}
 use Rattle.inverse.specs.declared.Ends.{Ends}
 use Rattle.inverse.specs.EndRule.{atLow, atHigh}
 use Rattle.inverse.specs.Curve.{parameterOf, ended, located}
@@ -62,9 +61,7 @@ module _ (e : Ends) (ev : Evaluations) (g : ℕ → Float → Float) (k : ℕ) (
   Found = Result g y k (SoundIn g y ε limit) (length ev + probes (leb k 12) k) (Supposed e ev g k y ε limit → Nothing g y k 0 k)
 
   searched : Found (find g y ε limit (e .rising) k ev)
-  searched =
-      find-says g y ε limit k (SoundIn g y ε limit) (enters-sound g y ε limit k numbers) (numbers 0 some .target) (λ s l. (numbers s l .values nought nought-in, numbers s l .values one one-in))
-      (e .rising) ev (lt-of-le-of-lt fits (lit< tt))
+  searched = find-sound g y ε limit k some (lt-of-le-of-lt fits (lit< tt)) numbers (e .rising) ev
 
   -- the search's evaluations, two more for the entered segment's repeated ends, and its rounds
   room : (n : ℕ) → n ≤ length ev + probes (leb k 12) k + 2 → n + limit ≤ most e ev g k y ε limit

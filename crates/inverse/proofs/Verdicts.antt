@@ -1,11 +1,10 @@
 -- The verdict of a curve's inversion, by the tests as the code makes them, and what a passed one says. Assumes nothing.
-use mathlib.Core.Path.{_≡_, refl, sym, ap, _∙_, subst}
-use mathlib.Core.Bool.{Bool, true, false, not, _&&_}
+use mathlib.Core.Path.{_≡_, refl, sym, ap, _∙_}
+use mathlib.Core.Bool.{Bool, true, false, not, _&&_, and-false}
 use mathlib.Core.List.{List, [], _∷_}
 use Prim.Native.Nat.{ℕ, zero, suc, _-_, _≤_, _<_}
 use native.Mathlib.Omega.{arith}
 use borrow.Author.Tests.{ltb-false, not-false}
-use lib.Dec.{T}
 use lib.ListN.{length, getD, drop}
 use lib.Ieee.{Float, nan, isNan}
 use Rattle.error.specs.declared.Refusal.{Refusal}
@@ -13,15 +12,16 @@ use Rattle.error.specs.declared.Refusal.the-variants.{BadKnot, TurnsBack}
 use Rattle.error.specs.declared.Verdict.{Verdict}
 use Rattle.error.specs.declared.Verdict.the-variants.{Passed, Failed}
 use Rattle.error.specs.Refusals.{Uses, rows, first}
-use Rattle.error.proofs.First.{stops, goes-on, passed}
+use Rattle.error.proofs.First.{stops-in, goes-past, stops, goes-on, passed}
 use Rattle.basis.specs.declared.Basis.{Basis}
 use Rattle.basis.specs.Basis.{segmentsOf}
+use Rattle.doubles.proofs.Tests.{holds, fails}
 use Rattle.spline.specs.Segment.{segmentOf}
 use Rattle.spline.specs.Rows.{inRange, allInRange, curveLength}
 use Rattle.invert.specs.declared.Inverted.{Inverted}
 use Rattle.invert.specs.declared.Inverted.the-variants.{Refused}
 use Rattle.invert.specs.Answer.{asked}
-use Rattle.invert.proofs.Verdicts.{askedRows, lastRows, stops-in, goes-past}
+use Rattle.invert.proofs.Verdicts.{askedRows, lastRows}
 use Rattle.inverse.specs.Order.{rises, turnsBack}
 use Rattle.inverse.specs.EndRule.{knotEnds}
 use Rattle.inverse.specs.Curve.{located}
@@ -30,25 +30,18 @@ use Rattle.inverse.specs.Scan.{kept}
 use Rattle.inverse.proofs.Scan.{all-sound}
 
 -- ---- all in range and in order, by one scan
-true-so : {a : Bool} → a ≡ true → T a
-true-so e = rw e tt
-
 pub sound-in : (ks : List Float) → 4 ≤ length ks → inRange (getD ks 0 nan) ≡ true → inRange (getD ks 1 nan) ≡ true → inRange (getD ks (length ks - 1) nan) ≡ true → kept (rises ks) (drop 1 ks) ≡ (allInRange ks && not (turnsBack ks))
 sound-in [] h a b c = absurd (omega arith)
 sound-in (x ∷ []) h a b c = absurd (omega arith)
 sound-in (x ∷ (z ∷ r)) h a b c =
     let q : length (x ∷ (z ∷ r)) - 1 ≡ suc (length r) = omega arith in
-    all-sound (rises (x ∷ (z ∷ r))) x z r (true-so a) (true-so b) (true-so (sym (ap (λ (i : ℕ). inRange (getD (x ∷ (z ∷ r)) i nan)) q) ∙ c))
+    all-sound (rises (x ∷ (z ∷ r))) x z r (holds a) (holds b) (holds (sym (ap (λ (i : ℕ). inRange (getD (x ∷ (z ∷ r)) i nan)) q) ∙ c))
 
 one-out : (ks : List Float) (i : ℕ) → i < length ks → inRange (getD ks i nan) ≡ false → allInRange ks ≡ false
 unfolding allInRange
 one-out [] i h e = absurd (omega arith)
 one-out (x ∷ xs) zero h e = rw e
-one-out (x ∷ xs) (suc i) h e = let q = one-out xs i (omega arith) e in rw q (both-false (inRange x))
-  where
-    both-false : (a : Bool) → (a && false) ≡ false
-    both-false true = refl
-    both-false false = refl
+one-out (x ∷ xs) (suc i) h e = let q = one-out xs i (omega arith) e in rw q (and-false (inRange x))
 
 pub sound-out : (ks : List Float) (i : ℕ) → i < length ks → inRange (getD ks i nan) ≡ false → false ≡ (allInRange ks && not (turnsBack ks))
 sound-out ks i h e = rw (one-out ks i h e)
@@ -64,17 +57,17 @@ module _ (a t check : Bool) where
       go : (a t check : Bool) → (a && not t) ≡ true → Passed ≡ first (knotRows a t check)
       go true false true e = refl
       go true false false e = refl
-      go true true check e = absurd (subst T (sym e) tt)
-      go false t check e = absurd (subst T (sym e) tt)
+      go true true check e = absurd (holds e)
+      go false t check e = absurd (holds e)
 
   pub knots-turn : check ≡ true → (a && not t) ≡ false → a ≡ true → Failed TurnsBack ≡ first (knotRows a t check)
   knots-turn c = go a t check c
     where
       go : (a t check : Bool) → check ≡ true → (a && not t) ≡ false → a ≡ true → Failed TurnsBack ≡ first (knotRows a t check)
       go true true true c e h = refl
-      go true true false c e h = absurd (subst T (sym c) tt)
-      go true false check c e h = absurd (subst T e tt)
-      go false t check c e h = absurd (subst T (sym h) tt)
+      go true true false c e h = absurd (holds c)
+      go true false check c e h = absurd (fails e)
+      go false t check c e h = absurd (holds h)
 
   pub knots-bad : a ≡ false → Failed BadKnot ≡ first (knotRows a t check)
   knots-bad h = rw h
@@ -96,9 +89,6 @@ module _ (b : Basis) (y : Float) (ks : List Float) (check : Bool) (limit : ℕ) 
 
     pub by-knots : {w : Verdict} → a ≡ Passed → w ≡ first (knotRows (allInRange ks) (turnsBack ks) check) → w ≡ first uses
     by-knots p d = goes-on uses e k (goes-past askedRows lastRows uses e-a p d)
-
-pub long-enough : (b : Basis) (n : ℕ) {l : Verdict} → l ≡ first (curveLength b n) → l ≡ Passed → 4 ≤ n
-long-enough b n e p = ltb-false n 4 (passed rows (curveLength b n) (sym e ∙ p) .0)
 
 -- ---- what a passed verdict says
 pub record Admitted (b : Basis) (y : Float) (ks : List Float) (check : Bool) : Type 0 where

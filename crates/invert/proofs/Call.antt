@@ -1,6 +1,6 @@
 -- What one segment's call owes on every input, from what the inversion of a segment owes. Assumes nothing.
 use mathlib.Core.Path.{_≡_, refl, sym, ap, _∙_, subst}
-use mathlib.Core.Bool.{Bool, true, false, not, cond}
+use mathlib.Core.Bool.{not, cond}
 use mathlib.Core.List.{List, []}
 use Prim.Native.Nat.{ℕ, _+_, _*_, _≤_}
 use native.Mathlib.Nat.{zero-mul}
@@ -14,7 +14,7 @@ use Rattle.error.specs.Refusals.{first}
 use Rattle.basis.specs.declared.Basis.{Basis}
 use Rattle.basis.specs.Basis.{stepOf}
 use Rattle.doubles.specs.Numbers.{nought, one}
-use Rattle.doubles.proofs.Order.{branch}
+use Rattle.doubles.proofs.Tests.{holds, fails, branch}
 use Rattle.doubles.proofs.Bounds.{within-number}
 use Rattle.doubles.proofs.Units.{nought-le}
 use Rattle.spline.specs.Segment.{segmentOf}
@@ -36,12 +36,6 @@ use Rattle.invert.proofs.Verdicts.{passes}
 pub segment-numbers : (b : Basis) (ks : List Float) (s : ℕ) (y : Float) → T (allInRange ks) → s * stepOf b + 4 ≤ length ks → T (not (isNan y)) → Numbers (segmentOf b ks s) y
 segment-numbers b ks s y good long n =
     record { target = n; values = λ x u. within-number (segment-finite b _ x (knots-within ks (s * stepOf b) good long) (nought-le x (u .sign)) (u .top) .0) }
-
-true-T : (b : Bool) → b ≡ true → T b
-true-T b e = subst (λ (z : Bool). T z) (sym e) tt
-
-false-T : (b : Bool) → b ≡ false → T (not b)
-false-T b e = subst (λ (z : Bool). T (not z)) (sym e) tt
 
 -- ---- what the answer owes where no row applies
 module _ (f : Float → Float) (y ε : Float) (limit : ℕ) where
@@ -77,7 +71,7 @@ module _ (b : Basis) (y : Float) (cv : List Float) (limit : ℕ) (ε : Float) wh
   said e =
       let p = passes y cv limit ε e in
       let long : 0 * stepOf b + 4 ≤ length cv = omega (arith, zero-mul (stepOf b), p .four) in
-      segment-says halving halving-keeps (segmentOf b cv 0) 0 y ε limit [] (segment-numbers b cv 0 y (true-T (allInRange cv) (p .in-range)) long (false-T (isNan y) (p .number)))
+      segment-says halving halving-keeps (segmentOf b cv 0) 0 y ε limit [] (segment-numbers b cv 0 y (holds (p .in-range)) long (fails (p .number)))
 
   answers : Passed-all → inverseSegmentOf b y cv limit ε ≡ answered alone (inSegment (segmentOf b cv 0) 0 y ε limit [])
   unfolding inverseSegmentOf

@@ -2,12 +2,12 @@
 -- For any weighting. Assumes nothing.
 use mathlib.Core.Path.{_≡_, refl, ap, _∙_}
 use mathlib.Core.List.{_∷_}
-use mathlib.Core.Bool.{Bool, true, false, cond}
+use mathlib.Core.Bool.{Bool}
 use Prim.Native.Nat.{ℕ, zero, suc}
 use lib.Ieee.{Float, binary64, sub, lt}
 use Rattle.doubles.specs.Numbers.{nought, one, magnitudeOf}
 use Rattle.doubles.specs.Lerp.{lerpOf}
-use Rattle.doubles.proofs.Order.{branch}
+use Rattle.doubles.proofs.Tests.{branch, alike}
 use Rattle.invert.specs.declared.Bracket.{Bracket}
 use Rattle.invert.specs.declared.State.{State}
 use Rattle.invert.specs.Evaluations.{Evaluations}
@@ -15,16 +15,12 @@ use Rattle.invert.specs.Agreed.{Agreed}
 use Rattle.invert.specs.Round.{Weighting, narrow, falsi, weighed, fraction, Turn, found, on, settled, probed, turn}
 use Rattle.invert.specs.Rounds.{Placed, rounds}
 use Rattle.invert.specs.Segment.{encloses, near, opening, start, entered, Outcome, placed, evaluationsOf, inSegmentBy}
+use Rattle.invert.proofs.Ends.{both}
 
 -- what a round has seen
 abbrev seenBy : Turn → Evaluations
 seenBy (found g x b ev) = ev
 seenBy (on st ev) = ev
-
--- two choices by one test
-alike : {A : Type 0} (P : A → Type 0) (t : Bool) {x z x' z' : A} → (P x → x ≡ x') → (P z → z ≡ z') → P (cond t x z) → cond t x z ≡ cond t x' z'
-alike P true e e' p = e p
-alike P false e e' p = e' p
 
 settled-sees : (y ε : Float) (rising : Bool) (b : Bracket) (st : State) (x v : Float) (ev : Evaluations) → seenBy (settled y ε rising b st x v ev) ≡ ev
 unfolding settled
@@ -37,23 +33,23 @@ module _ (g h : ℕ → Float → Float) (W : Weighting) (s : ℕ) (y ε : Float
 
   -- the place of a round's evaluation
   abbrev probe : Bool → State → Float
-  probe by st = let b = weighed W y by st in lerpOf (b .lower) (b .upper) (fraction y by b)
+  probe regula st = let b = weighed W y regula st in lerpOf (b .lower) (b .upper) (fraction y regula b)
 
-  probed-agreed : (rising by : Bool) (st : State) (ev : Evaluations) → Same (probed W (g s) s y ε rising by st ev) → Agreed g h ((s, probe by st) ∷ ev)
+  probed-agreed : (rising regula : Bool) (st : State) (ev : Evaluations) → Same (probed W (g s) s y ε rising regula st ev) → Agreed g h ((s, probe regula st) ∷ ev)
   unfolding probed
-  probed-agreed rising by st ev a = rw (settled-sees y ε rising (weighed W y by st) st (probe by st) (g s (probe by st)) ((s, probe by st) ∷ ev)) at a
+  probed-agreed rising regula st ev a = rw (settled-sees y ε rising (weighed W y regula st) st (probe regula st) (g s (probe regula st)) ((s, probe regula st) ∷ ev)) at a
 
-  probed-same : (rising by : Bool) (st : State) (ev : Evaluations) → Same (probed W (g s) s y ε rising by st ev) → probed W (g s) s y ε rising by st ev ≡ probed W (h s) s y ε rising by st ev
+  probed-same : (rising regula : Bool) (st : State) (ev : Evaluations) → Same (probed W (g s) s y ε rising regula st ev) → probed W (g s) s y ε rising regula st ev ≡ probed W (h s) s y ε rising regula st ev
   unfolding probed
-  probed-same rising by st ev a = ap (λ (v : Float). settled y ε rising (weighed W y by st) st (probe by st) v ((s, probe by st) ∷ ev)) (probed-agreed rising by st ev a .0)
+  probed-same rising regula st ev a = ap (λ (v : Float). settled y ε rising (weighed W y regula st) st (probe regula st) v ((s, probe regula st) ∷ ev)) (probed-agreed rising regula st ev a .0)
 
-  turn-grows : (rising by : Bool) (st : State) (ev : Evaluations) → Same (turn W (g s) s y ε rising by st ev) → Agreed g h ev
+  turn-grows : (rising regula : Bool) (st : State) (ev : Evaluations) → Same (turn W (g s) s y ε rising regula st ev) → Agreed g h ev
   unfolding turn
-  turn-grows rising by st ev = branch (λ (t : Turn). Same t → Agreed g h ev) (narrow ε (st .bracket)) (λ _ a. a) (λ _ a. probed-agreed rising by st ev a .1)
+  turn-grows rising regula st ev = branch (λ (t : Turn). Same t → Agreed g h ev) (narrow ε (st .bracket)) (λ _ a. a) (λ _ a. probed-agreed rising regula st ev a .1)
 
-  turn-same : (rising by : Bool) (st : State) (ev : Evaluations) → Same (turn W (g s) s y ε rising by st ev) → turn W (g s) s y ε rising by st ev ≡ turn W (h s) s y ε rising by st ev
+  turn-same : (rising regula : Bool) (st : State) (ev : Evaluations) → Same (turn W (g s) s y ε rising regula st ev) → turn W (g s) s y ε rising regula st ev ≡ turn W (h s) s y ε rising regula st ev
   unfolding turn
-  turn-same rising by st ev a = alike Same (narrow ε (st .bracket)) (λ _. refl) (probed-same rising by st ev) a
+  turn-same rising regula st ev a = alike Same (narrow ε (st .bracket)) (λ _. refl) (probed-same rising regula st ev) a
 
   -- ---- the rounds
   module _ (rising : Bool) (limit : ℕ) where
@@ -88,12 +84,9 @@ module _ (g h : ℕ → Float → Float) (W : Weighting) (s : ℕ) (y ε : Float
     unfolding entered
     entered-same v0 v1 ev a = alike Alike (near y v0 ε) (λ _. refl) (alike Alike (near y v1 ε) (λ _. refl) (rounds-same (lt v0 v1) limit limit 0 (on (start (opening v0 v1)) ev))) a
 
-    abbrev After : Evaluations → Evaluations
-    After ev = (s, one) ∷ ((s, nought) ∷ ev)
-
-    ends-agreed : (ev : Evaluations) → Agreed g h (evaluationsOf (inSegmentBy W (g s) s y ε limit ev)) → Agreed g h (After ev)
+    ends-agreed : (ev : Evaluations) → Agreed g h (evaluationsOf (inSegmentBy W (g s) s y ε limit ev)) → Agreed g h (both s ev)
     unfolding inSegmentBy
-    ends-agreed ev = branch (λ (o : Outcome). Agreed g h (evaluationsOf o) → Agreed g h (After ev)) (encloses (g s nought) (g s one) y) (λ _ a. entered-grows (g s nought) (g s one) (After ev) a) (λ _ a. a)
+    ends-agreed ev = branch (λ (o : Outcome). Agreed g h (evaluationsOf o) → Agreed g h (both s ev)) (encloses (g s nought) (g s one) y) (λ _ a. entered-grows (g s nought) (g s one) (both s ev) a) (λ _ a. a)
 
     pub segment-grows : (ev : Evaluations) → Agreed g h (evaluationsOf (inSegmentBy W (g s) s y ε limit ev)) → Agreed g h ev
     segment-grows ev a = ends-agreed ev a .1 .1
@@ -102,4 +95,4 @@ module _ (g h : ℕ → Float → Float) (W : Weighting) (s : ℕ) (y ε : Float
     unfolding inSegmentBy
     segment-same ev a =
         let e = ends-agreed ev a in
-        rw (← (e .0), ← (e .1 .0)) (alike (λ (o : Outcome). Agreed g h (evaluationsOf o)) (encloses (g s nought) (g s one) y) (λ b. ap placed (entered-same (g s nought) (g s one) (After ev) b)) (λ _. refl) a)
+        rw (← (e .0), ← (e .1 .0)) (alike (λ (o : Outcome). Agreed g h (evaluationsOf o)) (encloses (g s nought) (g s one) y) (λ b. ap placed (entered-same (g s nought) (g s one) (both s ev) b)) (λ _. refl) a)

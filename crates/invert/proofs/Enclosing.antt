@@ -11,7 +11,8 @@ use lib.Ieee.{Float, nan, inf, fin, binary64, sub, mul, lt, le, isNan}
 use lib.Ieee.Fits.{and-l, and-r, sub-fits}
 use Rattle.doubles.specs.Numbers.{nought, one, half, hundredth, ninetyNineHundredths, trillionth, magnitudeOf}
 use Rattle.doubles.specs.Lerp.{lerpOf}
-use Rattle.doubles.proofs.Order.{branch, lt→le, not-lt→le, le-trans-float, lt-le-absurd}
+use Rattle.doubles.proofs.Tests.{branch}
+use Rattle.doubles.proofs.Order.{lt→le, not-lt→le, le-trans-float, lt-le-absurd}
 use Rattle.doubles.proofs.Units.{clear, InUnit, le-refl-clear, magnitude-clear, sub-clear, trillionth-le}
 use Rattle.doubles.proofs.Interpolation.{Inside, lerp-inside}
 use Rattle.invert.specs.declared.Ground.{Ground}
@@ -63,9 +64,9 @@ kept-part t =
     let b = lt t ninetyNineHundredths in
     branch Part (a && b) (λ h. record { sign = clear-between t (and-l a b h) (and-r a b h); under = and-r a b h }) (λ _. half-part)
 
-fraction-part : (y : Float) (by : Bool) (b : Bracket) → Part (fraction y by b)
+fraction-part : (y : Float) (regula : Bool) (b : Bracket) → Part (fraction y regula b)
 unfolding fraction
-fraction-part y by b = branch Part by (λ _. kept-part _) (λ _. half-part)
+fraction-part y regula b = branch Part regula (λ _. kept-part _) (λ _. half-part)
 
 -- ---- the width
 under-greater : (w t ε : Float) → T (le t w) → T (lt w (greater ε t)) → T (lt w ε)
@@ -126,10 +127,10 @@ module _ (W : Weighting) (keeps : Keeps W) (f : Float → Float) (s : ℕ) (y ε
   Fine i (found g x b ev) = Sound f y ε rising limit base g x (b .lower) (b .upper) (length ev)
   Fine i (on st ev) = Bracketed f y rising (st .bracket .lower) (st .bracket .upper) × (length ev ≡ base + i)
 
-  weighed-bracketed : (by : Bool) (st : State) → Bracketed f y rising (st .bracket .lower) (st .bracket .upper) → Bracketed f y rising (weighed W y by st .lower) (weighed W y by st .upper)
+  weighed-bracketed : (regula : Bool) (st : State) → Bracketed f y rising (st .bracket .lower) (st .bracket .upper) → Bracketed f y rising (weighed W y regula st .lower) (weighed W y regula st .upper)
   unfolding weighed
-  weighed-bracketed by st h =
-      branch (λ (b : Bracket). Bracketed f y rising (b .lower) (b .upper)) (by && ltb 0 (st .repeats))
+  weighed-bracketed regula st h =
+      branch (λ (b : Bracket). Bracketed f y rising (b .lower) (b .upper)) (regula && ltb 0 (st .repeats))
       (λ _. subst₂ (λ (l u : Float). Bracketed f y rising l u) (sym (keeps .keeps-lower y (eqb (st .side) 1) (st .bracket))) (sym (keeps .keeps-upper y (eqb (st .side) 1) (st .bracket))) h)
       (λ _. h)
 
@@ -157,13 +158,13 @@ module _ (W : Weighting) (keeps : Keeps W) (f : Float → Float) (s : ℕ) (y ε
   pub midpoint-inside : (b : Bracket) → Bracketed f y rising (b .lower) (b .upper) → Inside (b .lower) (b .upper) (midpoint b)
   midpoint-inside b h = lerped (b .lower) (b .upper) half h half-part
 
-  pub turn-fine : (i : ℕ) (by : Bool) (st : State) (ev : Evaluations) → suc i ≤ limit → Bracketed f y rising (st .bracket .lower) (st .bracket .upper) → length ev ≡ base + i
-      → Fine (suc i) (turn W f s y ε rising by st ev)
+  pub turn-fine : (i : ℕ) (regula : Bool) (st : State) (ev : Evaluations) → suc i ≤ limit → Bracketed f y rising (st .bracket .lower) (st .bracket .upper) → length ev ≡ base + i
+      → Fine (suc i) (turn W f s y ε rising regula st ev)
   unfolding turn probed
-  turn-fine i by st ev I h c =
+  turn-fine i regula st ev I h c =
       branch (Fine (suc i)) (narrow ε (st .bracket))
       (λ k. record { bracketed = h; inside = midpoint-inside (st .bracket) h; says = narrow-width ε (st .bracket) (h .lower-in) (h .upper-in) (h .order) k; count = omega arith })
       (λ _.
-      let b = weighed W y by st in
-      let r = weighed-bracketed by st h in
-      settled-fine i b st (lerpOf (b .lower) (b .upper) (fraction y by b)) _ I r (lerped (b .lower) (b .upper) (fraction y by b) r (fraction-part y by b)) (omega arith))
+      let b = weighed W y regula st in
+      let r = weighed-bracketed regula st h in
+      settled-fine i b st (lerpOf (b .lower) (b .upper) (fraction y regula b)) _ I r (lerped (b .lower) (b .upper) (fraction y regula b) r (fraction-part y regula b)) (omega arith))

@@ -1,3 +1,4 @@
+pub mod Ends
 pub mod Turns
 pub mod Weighting
 pub mod Enclosing

@@ -2,22 +2,23 @@
 -- that is a number on 0 to 1. Assumes nothing.
 use mathlib.Core.Path.{_≡_, refl}
 use mathlib.Core.Logic.{inl, inr}
-use mathlib.Core.List.{_∷_}
 use mathlib.Core.Bool.{Bool, true, false, not, cond, _&&_}
-use Prim.Native.Nat.{ℕ, zero, suc, _+_, _≤_}
+use Prim.Native.Nat.{ℕ, zero, suc, _+_}
 use native.Mathlib.Omega.{arith}
 use lib.Dec.{T}
 use lib.ListN.{length}
 use lib.Ieee.{Float, lt, le, fits, isNan}
 use lib.Ieee.Fits.{and-l, and-r, and-i}
 use Rattle.doubles.specs.Numbers.{nought, one}
-use Rattle.doubles.proofs.Order.{branch, lt→le, not-lt→le, le-trans-float}
+use Rattle.doubles.proofs.Tests.{branch}
+use Rattle.doubles.proofs.Order.{lt→le, not-lt→le, le-trans-float}
 use Rattle.doubles.proofs.Units.{nought-in, one-in}
 use Rattle.doubles.proofs.Interpolation.{Inside}
 use Rattle.invert.specs.Evaluations.{Evaluations}
 use Rattle.invert.specs.Round.{Weighting, falsi, Turn, found, on, turn}
 use Rattle.invert.specs.Rounds.{Placed, rounds}
-use Rattle.invert.specs.Segment.{encloses, near, opening, start, entered, Outcome, off, placed, evaluationsOf, inSegmentBy}
+use Rattle.invert.specs.Segment.{encloses, near, opening, start, entered, Outcome, off, placed, inSegmentBy}
+use Rattle.invert.proofs.Ends.{both}
 use Rattle.invert.proofs.Weighting.{Keeps}
 use Rattle.invert.proofs.Enclosing.{Numbers, Bracketed, Sound, Fine, midpoint-inside, turn-fine}
 
@@ -61,18 +62,18 @@ one-inside : Inside nought one one
 unfolding le lt fits
 one-inside = record { sign = tt; held = tt; above = tt; below = tt }
 
--- the values at the two ends of a bracket enclose the target, as the test of a segment's ends has it
-between : (rising : Bool) (v0 v1 y : Float) → T (not (isNan v0)) → T (not (isNan v1)) → T (cond rising (le v0 y) (le y v0)) → T (cond rising (le y v1) (le v1 y)) → T (encloses v0 v1 y)
-between true v0 v1 y m n a b =
+-- a value not past the target and one not before it enclose it, as the test of a segment's ends has it
+pub encloses-of : (rising : Bool) (v0 v1 y : Float) → T (not (isNan v0)) → T (not (isNan v1)) → T (cond rising (le v0 y) (le y v0)) → T (cond rising (le y v1) (le v1 y)) → T (encloses v0 v1 y)
+encloses-of true v0 v1 y m n a b =
     branch (λ (t : Bool). T t) (lt v0 v1) (λ _. and-i (le v0 y) (le y v1) a b)
     (λ k. let o = not-lt→le v0 v1 m n k in and-i (le v1 y) (le y v0) (le-trans-float v1 v0 y o a) (le-trans-float y v1 v0 b o))
-between false v0 v1 y m n a b =
+encloses-of false v0 v1 y m n a b =
     branch (λ (t : Bool). T t) (lt v0 v1)
     (λ k. let o = lt→le v0 v1 k in and-i (le v0 y) (le y v1) (le-trans-float v0 v1 y o b) (le-trans-float y v0 v1 a o))
     (λ _. and-i (le v1 y) (le y v0) b a)
 
 pub bracket-encloses : (f : Float → Float) (y : Float) (rising : Bool) {lower upper : Float} → Numbers f y → Bracketed f y rising lower upper → T (encloses (f lower) (f upper) y)
-bracket-encloses f y rising {lower} {upper} n h = between rising (f lower) (f upper) y (n .values lower (h .lower-in)) (n .values upper (h .upper-in)) (h .at-lower) (h .at-upper)
+bracket-encloses f y rising {lower} {upper} n h = encloses-of rising (f lower) (f upper) y (n .values lower (h .lower-in)) (n .values upper (h .upper-in)) (h .at-lower) (h .at-upper)
 
 -- ---- the segment
 -- what the outcome tells, ev being the evaluations before it
@@ -81,12 +82,12 @@ SegmentSays f s y ε limit ev (off t) = T (not (encloses (f nought) (f one) y)) 
 SegmentSays f s y ε limit ev (placed p) = T (encloses (f nought) (f one) y) × SoundAt f y ε (lt (f nought) (f one)) limit (length ev + 2) p × (p .segment ≡ s)
 
 module _ (W : Weighting) (keeps : Keeps W) (f : Float → Float) (s : ℕ) (y ε : Float) (limit : ℕ) (ev : Evaluations) (numbers : Numbers f y) where
-  entered-sound : T (encloses (f nought) (f one) y) → let p = entered W f s y ε limit (f nought) (f one) ((s, one) ∷ ((s, nought) ∷ ev)) in SoundAt f y ε (lt (f nought) (f one)) limit (length ev + 2) p × (p .segment ≡ s)
+  entered-sound : T (encloses (f nought) (f one) y) → let p = entered W f s y ε limit (f nought) (f one) (both s ev) in SoundAt f y ε (lt (f nought) (f one)) limit (length ev + 2) p × (p .segment ≡ s)
   unfolding entered
   entered-sound h =
       let rising = lt (f nought) (f one) in
       let w = opening-bracketed f y h in
-      let t = on (start (opening (f nought) (f one))) ((s, one) ∷ ((s, nought) ∷ ev)) in
+      let t = on (start (opening (f nought) (f one))) (both s ev) in
       let P : Placed → Type 0 = λ p. SoundAt f y ε rising limit (length ev + 2) p × (p .segment ≡ s) in
       branch P (near y (f nought) ε) (λ k. (record { bracketed = w; inside = nought-inside; says = inl (refl, k); count = omega arith }, refl))
       (λ far. branch P (near y (f one) ε) (λ k. (record { bracketed = w; inside = one-inside; says = inr (refl, far, k); count = omega arith }, refl))
@@ -111,11 +112,3 @@ is-off false p ev = refl
 pub segment-off : (W : Weighting) (f : Float → Float) (s : ℕ) (y ε : Float) (limit : ℕ) (ev : Evaluations) → isOff (inSegmentBy W f s y ε limit ev) ≡ not (encloses (f nought) (f one) y)
 unfolding inSegmentBy
 segment-off W f s y ε limit ev = is-off (encloses (f nought) (f one) y) _ _
-
--- at most limit + 2 evaluations are made
-at-most : (f : Float → Float) (s : ℕ) (y ε : Float) (limit : ℕ) (ev : Evaluations) (o : Outcome) → SegmentSays f s y ε limit ev o → length (evaluationsOf o) ≤ length ev + (limit + 2)
-at-most f s y ε limit ev (off t) h = omega arith
-at-most f s y ε limit ev (placed p) h = omega (arith, h .1 .count)
-
-pub segment-count : (W : Weighting) → Keeps W → (f : Float → Float) (s : ℕ) (y ε : Float) (limit : ℕ) (ev : Evaluations) → Numbers f y → length (evaluationsOf (inSegmentBy W f s y ε limit ev)) ≤ length ev + (limit + 2)
-segment-count W keeps f s y ε limit ev numbers = at-most f s y ε limit ev (inSegmentBy W f s y ε limit ev) (segment-says W keeps f s y ε limit ev numbers)

@@ -8,6 +8,7 @@ use native.Mathlib.Omega.{arith}
 use lib.Dec.{ltb}
 use lib.ListN.{length}
 use lib.Ieee.{Float, binary64, sub, lt}
+use Rattle.error.proofs.First.{never}
 use Rattle.doubles.specs.Numbers.{nought, one, magnitudeOf}
 use Rattle.doubles.specs.Lerp.{lerpOf}
 use Rattle.invert.specs.declared.Ground.{Ground}
@@ -24,6 +25,7 @@ use Rattle.invert.specs.Rounds.{rounds}
 use Rattle.invert.specs.Segment.{encloses, near, opening, start, entered, placed, inSegmentBy}
 use Rattle.invert.specs.Answer.{answered, alone}
 use Rattle.invert.specs.Shown.{shown, toldAt}
+use Rattle.invert.proofs.Ends.{both}
 
 -- ---- a round
 module _ (y ε : Float) (rising : Bool) (b : Bracket) (st : State) (x v : Float) (ev : Evaluations) where
@@ -35,26 +37,26 @@ module _ (y ε : Float) (rising : Bool) (b : Bracket) (st : State) (x v : Float)
   unfolding settled
   settled-on h = simp h
 
-module _ (W : Weighting) (f : Float → Float) (y ε : Float) (rising by : Bool) (st : State) (n s : ℕ) (ev : Evaluations) (k : length ev ≡ n) where
-  pub turn-width : {x : Float} → true ≡ narrow ε (st .bracket) → x ≡ midpoint (st .bracket) → Done Width x (st .bracket) n ≡ shown (turn W f s y ε rising by st ev)
+module _ (W : Weighting) (f : Float → Float) (y ε : Float) (rising regula : Bool) (st : State) (n s : ℕ) (ev : Evaluations) (k : length ev ≡ n) where
+  pub turn-width : {x : Float} → true ≡ narrow ε (st .bracket) → x ≡ midpoint (st .bracket) → Done Width x (st .bracket) n ≡ shown (turn W f s y ε rising regula st ev)
   unfolding turn
   turn-width h e = simp (← h, e, k)
 
-  turn-probed : false ≡ narrow ε (st .bracket) → (a : Bracket) (t x v : Float) → a ≡ weighed W y by st → t ≡ fraction y by a → x ≡ lerpOf (a .lower) (a .upper) t → v ≡ f x
-      → turn W f s y ε rising by st ev ≡ settled y ε rising a st x v ((s, x) ∷ ev)
+  turn-probed : false ≡ narrow ε (st .bracket) → (a : Bracket) (t x v : Float) → a ≡ weighed W y regula st → t ≡ fraction y regula a → x ≡ lerpOf (a .lower) (a .upper) t → v ≡ f x
+      → turn W f s y ε rising regula st ev ≡ settled y ε rising a st x v ((s, x) ∷ ev)
   unfolding turn probed
   turn-probed h a t x v e-a e-t e-x e-v = simp (← h) (cc)
 
-  module _ {a : Bracket} {t x v g : Float} {next : State} (h : false ≡ narrow ε (st .bracket)) (e-a : a ≡ weighed W y by st) (e-t : t ≡ fraction y by a) (e-x : x ≡ lerpOf (a .lower) (a .upper) t) (e-v : v ≡ f x)
+  module _ {a : Bracket} {t x v g : Float} {next : State} (h : false ≡ narrow ε (st .bracket)) (e-a : a ≡ weighed W y regula st) (e-t : t ≡ fraction y regula a) (e-x : x ≡ lerpOf (a .lower) (a .upper) t) (e-v : v ≡ f x)
       (e-n : next ≡ moved (Bool·beq (lt v y) rising) a st x v) (e-g : g ≡ magnitudeOf (sub binary64 v y)) where
-    pub turn-value : lt g ε ≡ true → Done Value x (next .bracket) (n + 1) ≡ shown (turn W f s y ε rising by st ev)
+    pub turn-value : lt g ε ≡ true → Done Value x (next .bracket) (n + 1) ≡ shown (turn W f s y ε rising regula st ev)
     turn-value l =
-        let r : turn W f s y ε rising by st ev ≡ found Value x (next .bracket) ((s, x) ∷ ev) = turn-probed h a t x v e-a e-t e-x e-v ∙ settled-value y ε rising a st x v ((s, x) ∷ ev) (rw (← e-g) l) ∙ ap (λ (z : State). found Value x (z .bracket) ((s, x) ∷ ev)) (sym e-n) in
+        let r : turn W f s y ε rising regula st ev ≡ found Value x (next .bracket) ((s, x) ∷ ev) = turn-probed h a t x v e-a e-t e-x e-v ∙ settled-value y ε rising a st x v ((s, x) ∷ ev) (rw (← e-g) l) ∙ ap (λ (z : State). found Value x (z .bracket) ((s, x) ∷ ev)) (sym e-n) in
         rw r (rw (add-one, k))
 
-    pub turn-next : lt g ε ≡ false → Next next (n + 1) ≡ shown (turn W f s y ε rising by st ev)
+    pub turn-next : lt g ε ≡ false → Next next (n + 1) ≡ shown (turn W f s y ε rising regula st ev)
     turn-next l =
-        let r : turn W f s y ε rising by st ev ≡ on next ((s, x) ∷ ev) = turn-probed h a t x v e-a e-t e-x e-v ∙ settled-on y ε rising a st x v ((s, x) ∷ ev) (rw (← e-g) l) ∙ ap (λ (z : State). on z ((s, x) ∷ ev)) (sym e-n) in
+        let r : turn W f s y ε rising regula st ev ≡ on next ((s, x) ∷ ev) = turn-probed h a t x v e-a e-t e-x e-v ∙ settled-on y ε rising a st x v ((s, x) ∷ ev) (rw (← e-g) l) ∙ ap (λ (z : State). on z ((s, x) ∷ ev)) (sym e-n) in
         rw r (rw (add-one, k))
 
 -- ---- the rounds
@@ -68,7 +70,7 @@ Led W f s y ε rising limit first n i st m =
     (ev : Evaluations) → length ev ≡ n → (t : Evaluations) × (length t ≡ m) × (Told W f s y ε rising limit limit 0 (on first ev) ≡ Told W f s y ε rising limit (limit - i) i (on st t))
 
 next-of : (t : Turn) (st : State) (k : ℕ) → Next st k ≡ shown t → (ev : Evaluations) × (t ≡ on st ev) × (length ev ≡ k)
-next-of (found g x b ev) st k e = let z : _≡_ {A = ℕ} 0 1 = cc in absurd (omega arith)
+next-of (found g x b ev) st k e = never (cc)
 next-of (on st' ev) st k e = let p : st ≡ st' = cc in let q : length ev ≡ k = cc in (ev, (ap (λ (z : State). on z ev) (sym p)), q)
 
 module _ (W : Weighting) (f : Float → Float) (s : ℕ) (y ε : Float) (rising : Bool) (limit : ℕ) where
@@ -76,8 +78,8 @@ module _ (W : Weighting) (f : Float → Float) (s : ℕ) (y ε : Float) (rising 
   unfolding rounds
   stop-of zero i (found g' x' b' ev) {g} {x} {b} {k} e = let p : g ≡ g' = cc in let q : x ≡ x' = cc in let r : b ≡ b' = cc in let w : k ≡ length ev = cc in rw (p, q, r, w)
   stop-of (suc n) i (found g' x' b' ev) {g} {x} {b} {k} e = let p : g ≡ g' = cc in let q : x ≡ x' = cc in let r : b ≡ b' = cc in let w : k ≡ length ev = cc in rw (p, q, r, w)
-  stop-of zero i (on st ev) e = let z : _≡_ {A = ℕ} 0 1 = cc in absurd (omega arith)
-  stop-of (suc n) i (on st ev) e = let z : _≡_ {A = ℕ} 0 1 = cc in absurd (omega arith)
+  stop-of zero i (on st ev) e = never (cc)
+  stop-of (suc n) i (on st ev) e = never (cc)
 
   open-round : (n i : ℕ) (st : State) (ev : Evaluations) → Told W f s y ε rising limit (suc n) i (on st ev) ≡ Told W f s y ε rising limit n (suc i) (turn W f s y ε rising (falsi limit i st) st ev)
   unfolding rounds
@@ -96,16 +98,16 @@ module _ (W : Weighting) (f : Float → Float) (s : ℕ) (y ε : Float) (rising 
     led-spent i m st h e l ev k = let r = l ev k in let q : limit - i ≡ 0 = omega arith in rw (r .2, q, e, ← (r .1))
 
     -- the round i
-    module _ (i m : ℕ) (st : State) {by : Bool} {early : ℕ} {res : Turned} (h : i < limit) (l : Led W f s y ε rising limit first n i st m) (e-by : by ≡ (ltb i early && ltb (st .repeats) 3)) (e-early : early ≡ 3 * limit / 4)
-        (e : (s : ℕ) (ev : Evaluations) → length ev ≡ m → res ≡ shown (turn W f s y ε rising by st ev)) where
-      by-is : (ev : Evaluations) → length ev ≡ m → res ≡ shown (turn W f s y ε rising (falsi limit i st) st ev)
-      by-is ev k = e s ev k ∙ ap (λ (z : Bool). shown (turn W f s y ε rising z st ev)) (e-by ∙ ap (λ (z : ℕ). ltb i z && ltb (st .repeats) 3) e-early)
+    module _ (i m : ℕ) (st : State) {regula : Bool} {early : ℕ} {res : Turned} (h : i < limit) (l : Led W f s y ε rising limit first n i st m) (e-regula : regula ≡ (ltb i early && ltb (st .repeats) 3)) (e-early : early ≡ 3 * limit / 4)
+        (e : (s : ℕ) (ev : Evaluations) → length ev ≡ m → res ≡ shown (turn W f s y ε rising regula st ev)) where
+      regula-is : (ev : Evaluations) → length ev ≡ m → res ≡ shown (turn W f s y ε rising (falsi limit i st) st ev)
+      regula-is ev k = e s ev k ∙ ap (λ (z : Bool). shown (turn W f s y ε rising z st ev)) (e-regula ∙ ap (λ (z : ℕ). ltb i z && ltb (st .repeats) 3) e-early)
 
       pub led-on : {st' : State} {m' : ℕ} → res ≡ Next st' m' → Led W f s y ε rising limit first n (i + 1) st' m'
       led-on {st'} {m'} d ev k =
           let r = l ev k in
           let t = turn W f s y ε rising (falsi limit i st) st (r .0) in
-          let q = next-of t st' m' (sym d ∙ by-is (r .0) (r .1)) in
+          let q = next-of t st' m' (sym d ∙ regula-is (r .0) (r .1)) in
           (q .0, q .2, r .2 ∙ one-more (limit - (i + 1)) i st (r .0) h refl ∙ ap (λ (z : Turn). Told W f s y ε rising limit (limit - (i + 1)) (i + 1) z) (q .1))
 
       pub led-done : {g : Ground} {x : Float} {b : Bracket} {m' : ℕ} → res ≡ Done g x b m'
@@ -113,13 +115,10 @@ module _ (W : Weighting) (f : Float → Float) (s : ℕ) (y ε : Float) (rising 
       led-done d ev k =
           let r = l ev k in
           let t = turn W f s y ε rising (falsi limit i st) st (r .0) in
-          rw (r .2, one-more (limit - (i + 1)) i st (r .0) h refl) (stop-of (limit - (i + 1)) (i + 1) t (sym d ∙ by-is (r .0) (r .1)))
+          rw (r .2, one-more (limit - (i + 1)) i st (r .0) h refl) (stop-of (limit - (i + 1)) (i + 1) t (sym d ∙ regula-is (r .0) (r .1)))
 
 -- ---- the segment
 module _ (W : Weighting) (f : Float → Float) (s : ℕ) (y ε : Float) (limit n : ℕ) (v0 v1 : Float) (e0 : v0 ≡ f nought) (e1 : v1 ≡ f one) (ev : Evaluations) (k : length ev ≡ n) where
-  abbrev After : Evaluations
-  After = (s, one) ∷ ((s, nought) ∷ ev)
-
   two-more : suc (suc (length ev)) ≡ n + 2
   two-more = omega arith
 
@@ -128,7 +127,7 @@ module _ (W : Weighting) (f : Float → Float) (s : ℕ) (y ε : Float) (limit n
   left-out h = simp (← e0, ← e1, ← h, two-more)
 
   module _ (h : true ≡ encloses v0 v1 y) where
-    taken-in : inSegmentBy W f s y ε limit ev ≡ placed (entered W f s y ε limit v0 v1 After)
+    taken-in : inSegmentBy W f s y ε limit ev ≡ placed (entered W f s y ε limit v0 v1 (both s ev))
     unfolding inSegmentBy
     taken-in = simp (← e0, ← e1, ← h)
 
@@ -143,4 +142,4 @@ module _ (W : Weighting) (f : Float → Float) (s : ℕ) (y ε : Float) (limit n
 
       pub by-rounds : (r : Inverted) → false ≡ near y v1 ε → ((t : Evaluations) → length t ≡ n + 2 → r ≡ answered alone (placed (rounds W f s y ε (lt v0 v1) limit limit 0 (on (start (opening v0 v1)) t)))) → r ≡ answered alone (inSegmentBy W f s y ε limit ev)
       unfolding entered
-      by-rounds r q u = rw taken-in (simp (← p, ← q) (u After two-more))
+      by-rounds r q u = rw taken-in (simp (← p, ← q) (u (both s ev) two-more))

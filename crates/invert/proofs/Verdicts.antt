@@ -1,7 +1,7 @@
 -- The rows of the refusal table that the inversion of a segment uses, by the order of the code's tests. Assumes nothing.
-use mathlib.Core.Path.{_≡_, refl, sym, ap, _∙_}
+use mathlib.Core.Path.{_≡_, refl, sym, ap, _∙_, subst}
 use mathlib.Core.Bool.{true, false}
-use mathlib.Core.List.{List, [], _∷_, _++_}
+use mathlib.Core.List.{List, [], _∷_}
 use Prim.Native.Nat.{ℕ, _≤_}
 use native.Mathlib.Nat.{zero-mul}
 use native.Mathlib.Omega.{arith}
@@ -12,28 +12,20 @@ use Rattle.error.specs.declared.Refusal.{Refusal}
 use Rattle.error.specs.declared.Refusal.the-variants.{NotANumber, BadPrecision, NoRounds, LinearOutput, ShortBuffer, BadKnot, TurnsBack, OffCurve, BadLine}
 use Rattle.error.specs.declared.Verdict.{Verdict}
 use Rattle.error.specs.declared.Verdict.the-variants.{Passed, Failed}
-use Rattle.error.specs.Refusals.{Uses, rows, firstOf, first}
-use Rattle.error.proofs.First.{graft, stops, goes-on, passed, andThen}
+use Rattle.error.specs.Refusals.{Uses, rows, first}
+use Rattle.error.proofs.First.{stops-in, goes-past, stops, goes-on, passed}
 use Rattle.basis.specs.declared.Basis.{Basis}
 use Rattle.basis.specs.Basis.{stepOf, matrixOf}
 use Rattle.spline.specs.declared.Weights.{Weights}
 use Rattle.spline.specs.Segment.{weightsOf, hornerOf}
 use Rattle.spline.specs.Rows.{segmentLength, allInRange}
 use Rattle.invert.specs.declared.Inverted.{Inverted}
-use Rattle.invert.specs.declared.Inverted.the-variants.{Refused}
+use Rattle.invert.specs.declared.Inverted.the-variants.{Refused, OffCurve as OffSegment, At}
 use Rattle.invert.specs.Evaluations.{Evaluations}
-use Rattle.invert.specs.Segment.{inSegment}
-use Rattle.invert.specs.Answer.{answered, alone, precise, asked, inverseSegmentUses, inverseSegmentOf}
+use Rattle.invert.specs.Segment.{Outcome, off, placed, inSegment}
+use Rattle.invert.specs.Answer.{answered, alone, inverted, precise, asked, inverseSegmentUses, inverseSegmentOf}
 
--- ---- rows in two groups, tested one after the other
-module _ (xs ys : List Refusal) (us : Uses) {l : Verdict} (e : l ≡ firstOf xs us) where
-  pub stops-in : {r : Refusal} → l ≡ Failed r → l ≡ firstOf (xs ++ ys) us
-  stops-in k = k ∙ sym (graft xs ys us ∙ ap (λ (v : Verdict). andThen v (firstOf ys us)) (sym e ∙ k))
-
-  pub goes-past : {w : Verdict} → l ≡ Passed → w ≡ firstOf ys us → w ≡ firstOf (xs ++ ys) us
-  goes-past k h = h ∙ sym (graft xs ys us ∙ ap (λ (v : Verdict). andThen v (firstOf ys us)) (sym e ∙ k))
-
--- the rows of the target, the precision and the limit, and those after them
+-- ---- the rows of the target, the precision and the limit, and those after them
 abbrev pub askedRows : List Refusal
 askedRows = NotANumber ∷ BadPrecision ∷ NoRounds ∷ []
 
@@ -77,6 +69,22 @@ passes y cv limit ε e =
       some = eqb-false limit 0 (p .1 .1 .1 .1 .1 .0);
       in-range = not-false (allInRange cv) (p .1 .1 .1 .1 .1 .1 .1 .1 .0);
     }
+
+-- ---- a refusal by a row
+-- an answer past the rows refuses by none of them
+abbrev pub Past : Inverted → Type 0
+Past (At p) = Unit
+Past (OffSegment n) = Unit
+Past (Refused r) = ⊥
+
+pub answered-past : (P : ℕ → Float → Float) (o : Outcome) → Past (answered P o)
+answered-past P (off ev) = tt
+answered-past P (placed p) = tt
+
+-- so it is the verdict that refuses
+pub refused-by : (v : Verdict) (a : Inverted) (r : Refusal) → Past a → inverted v a ≡ Refused r → v ≡ Failed r
+refused-by Passed a r p e = absurd (subst Past e p)
+refused-by (Failed q) a r p e = let s : q ≡ r = cc in ap Failed s
 
 -- ---- what the call answers
 module _ (b : Basis) (y : Float) (cv : List Float) (limit : ℕ) (ε : Float) {v : Verdict} (e : v ≡ first (inverseSegmentUses y cv limit ε)) where

@@ -1,5 +1,4 @@
--- What `turn` tells is a listing: read again, it is the curve that was told.
--- Assumes nothing.
+-- What `turn` tells is a listing: read again, it is the curve that was told. Assumes nothing.
 use mathlib.Core.Path.{_≡_, refl, sym, ap, _∙_}
 use mathlib.Core.Bool.{Bool, true, false, cond}
 use mathlib.Core.List.{List, [], _∷_, _++_, append-assoc, append-nil}
@@ -24,7 +23,6 @@ use Rattle.lines.specs.Program.{linesOf, widest, saysOf}
 use Rattle.lines.proofs.Replies.{curveAfter, Free, line-ended}
 
 -- ---- texts without a byte
-
 free-append : (b : ℕ) (s t : List ℕ) → Free b s → Free b t → Free b (s ++ t)
 free-append b [] t p q = q
 free-append b (a ∷ s) t p q = (p .0, free-append b s t (p .1) q)
@@ -50,7 +48,6 @@ free-tab [] p = omega arith
 free-tab (a ∷ s) p = let z : length s ≤ tabOf s = free-tab s (p .1) in rw (ne-eqb a TAB (p .0)) (omega arith)
 
 -- ---- a line of each kind
-
 abbrev knotLine : Float → List ℕ
 knotLine x = bytes "knot\t" ++ doubleText x
 
@@ -73,7 +70,6 @@ says-curve Linear = refl
 says-curve Power = refl
 
 -- ---- the lines of a told curve
-
 freeb : ℕ → List ℕ → Bool
 freeb b [] = true
 freeb b (a ∷ s) = cond (eqb a b) false (freeb b s)
@@ -102,7 +98,7 @@ knot-plain x = free-append LF (bytes "knot\t") (doubleText x) (free-of LF (bytes
 
 -- doubles that the format holds, as each that the program computes
 abbrev pub Fit : List Float → Type 0
-Fit [] = Prim.Unit
+Fit [] = Unit
 Fit (x ∷ l) = T (fits binary64 x) × Fit l
 
 -- a line, its LF, and what comes after

@@ -1,5 +1,4 @@
--- Each line gets one reply, in order; lines come out of the input as they were written into it.
--- Assumes nothing.
+-- Each line gets one reply, in order; lines come out of the input as they were written into it. Assumes nothing.
 use mathlib.Core.Path.{_≡_, refl, ap}
 use mathlib.Core.List.{List, [], _∷_, _++_}
 use Prim.Native.Nat.{ℕ, suc, _<_}
@@ -42,10 +41,9 @@ unfolding saysOf
 overlong l h = rw (lt-leb (length l) widest h) refl
 
 -- ---- bytes and lines
-
 -- no byte of a text is b
 abbrev pub Free : ℕ → List ℕ → Type 0
-Free b [] = Prim.Unit
+Free b [] = Unit
 Free b (a ∷ l) = (a ≡ b → ⊥) × Free b l
 
 pub line-ended : (l x : List ℕ) → Free LF l → linesOf (l ++ (LF ∷ x)) ≡ l ∷ linesOf x

@@ -1,5 +1,4 @@
--- The step's cases, the end's, and a chunk's loop.
--- Assumes nothing.
+-- The step's cases, the end's, and a chunk's loop. Assumes nothing.
 use mathlib.Core.Path.{_≡_, refl, ap, subst, _∙_}
 use mathlib.Core.Bool.{Bool, true, false}
 use mathlib.Core.List.{List, [], _∷_, _++_, append-nil}
@@ -12,7 +11,7 @@ use lib.ListN.{length, take, set, getD, length-set}
 use lib.Seq.{take-suc, take-suc-set, length-take-le}
 use lib.Ieee.{Float}
 use Rattle.answer.specs.declared.Answered.{Answered}
-use Rattle.answer.specs.Answer.{places, Curve, replyTo, afterOf}
+use Rattle.answer.specs.Answer.{places, replyTo, afterOf}
 use Rattle.answer.specs.Held.{curveOf, Answers}
 use Rattle.record.specs.declared.Record.{Record}
 use Rattle.record.specs.declared.Record.the-variants.{Bad}
@@ -26,10 +25,9 @@ use Rattle.lines.specs.declared.Lines.{Lines}
 use Rattle.lines.specs.Program.{widest}
 use Rattle.lines.specs.Steps.{Open, so, over, State, says, push, closeText, closed, nextOf, tellOf, toldOf, ranOf, lastText, endOf}
 use Rattle.lines.specs.Held.{openOf, stateOf, Good, Went}
-use Rattle.lines.proofs.Whole.{ran-append, told-append}
+use Rattle.lines.proofs.Whole.{ran-append, told-append, stateAt}
 
 -- ---- what the line says
-
 pub said-so : (n : ℕ) (line : List ℕ) → n ≤ widest → recordOf (take (n - 0) line) ≡ says (openOf n line)
 unfolding says
 said-so n line h = let z : n - 0 ≡ n = omega arith in rw (z, le-leb n widest h) refl
@@ -39,10 +37,6 @@ unfolding says
 said-over n line h = rw (lt-leb n widest h) refl
 
 -- ---- the end of a line
-
-abbrev stateAt : Open → Curve → State
-stateAt o c = record { line = o; curve = c }
-
 pub ended-went : (st : Lines) (line : List ℕ) (table : List Float) (r : Record) (a : Answered) (table′ turned : List Float) {out : List ℕ} {at : ℕ} {out′ : List ℕ} {next : ℕ}
     → r ≡ says (openOf (st .len) line) → length line ≡ widest → length table′ ≡ places
     → Answers (curveOf (st .held) table) r a table′ turned
@@ -60,7 +54,6 @@ unfolding nextOf tellOf
 step-end s byte e w = rw (eq-eqb byte LF e) w
 
 -- ---- a byte in a line
-
 push-room : (n b : ℕ) (line : List ℕ) → n < widest → length line ≡ widest → openOf (n + 1) (set line n b) ≡ push (openOf n line) b
 unfolding push
 push-room n b line h f =
@@ -101,7 +94,6 @@ module _ (st : Lines) (byte : ℕ) (line : List ℕ) (table : List Float) (out :
   })
 
 -- ---- the end of the input
-
 last-some : (l t : List ℕ) → 0 < length l → lastText (so l) t ≡ t
 unfolding lastText
 last-some [] t h = absurd (omega arith)
@@ -129,7 +121,6 @@ unfolding endOf
 finish-some st line table ne g w = rw (last-full (st .len) line (closeText (stateOf st line table)) (omega arith) (g .wide)) w
 
 -- ---- a chunk
-
 pub feed-none : (st : Lines) (line : List ℕ) (table : List Float) (out : List ℕ) → Good st line table
     → Went (ranOf (stateOf st line table) []) (toldOf (stateOf st line table) []) st line table out 0 out 0
 unfolding ranOf toldOf

@@ -1,5 +1,4 @@
--- The bytes that the steps write, then the end, are what the whole input prints, however it is cut.
--- Assumes nothing.
+-- The bytes that the steps write, then the end, are what the whole input prints, however it is cut. Assumes nothing.
 use mathlib.Core.Path.{_≡_, refl, sym, ap, _∙_}
 use mathlib.Core.Bool.{Bool, true, false, cond}
 use mathlib.Core.List.{List, [], _∷_, _++_, append-assoc, append-nil}
@@ -18,7 +17,6 @@ use Rattle.lines.specs.Program.{linesOf, widest, saysOf, repliesOf, text
 use Rattle.lines.specs.Steps.{Open, so, over, State, start, says, push, closeText, closed, pushed, tellOf, nextOf, toldOf, ranOf, lastText, endOf}
 
 -- ---- cutting
-
 pub ran-append : (s : State) (x y : List ℕ) → ranOf s (x ++ y) ≡ ranOf (ranOf s x) y
 unfolding ranOf
 ran-append s [] y = refl
@@ -32,7 +30,6 @@ told-append s (b ∷ x) y =
     (sym (append-assoc (tellOf s b) (toldOf (nextOf s b) x) (toldOf (ranOf (nextOf s b) x) y)))
 
 -- ---- the lines, where the bytes l of the first have been read
-
 front : List ℕ → List (List ℕ) → List (List ℕ)
 front [] ls = ls
 front (b ∷ l) ls = onto b (front l ls)
@@ -53,7 +50,6 @@ front-last b [] = refl
 front-last b (a ∷ l) = ap (onto b) (front-last a l)
 
 -- ---- the open line of which the bytes l have been read
-
 opened : List ℕ → Open
 opened l = cond (leb (length l) widest) (so l) over
 
@@ -92,12 +88,11 @@ last-opened a l t = go (leb (length (a ∷ l)) widest)
     go false = refl
 
 -- ---- the whole
-
 -- what lines print
 abbrev printed : Curve → List (List ℕ) → List ℕ
 printed c ls = textsOf (repliesOf c ls)
 
-abbrev stateAt : Open → Curve → State
+abbrev pub stateAt : Open → Curve → State
 stateAt o c = record { line = o; curve = c }
 
 ended : (l : List ℕ) (c : Curve) → endOf (stateAt (opened l) c) ≡ printed c (front l [])
@@ -141,7 +136,6 @@ unfolding outputOf opened front
 whole x = run x [] none
 
 -- ---- however the input is cut
-
 unfoldable pub joined : List (List ℕ) → List ℕ
 joined [] = []
 joined (c ∷ cs) = c ++ joined cs

@@ -3,7 +3,6 @@ use mathlib.Core.Path.{_≡_, refl, sym, ap, _∙_}
 use mathlib.Core.Bool.{Bool}
 use mathlib.Core.List.{List, []}
 use Prim.Native.Nat.{ℕ}
-use native.Mathlib.Omega.{arith}
 use denote.Ref.{now}
 use lib.ListN.{length}
 use lib.Ieee.{Float}
@@ -16,24 +15,22 @@ use Rattle.error.proofs.number.Reads as number
 use Rattle.basis.specs.declared.Basis.{Basis}
 use Rattle.basis.specs.Basis.{matrixOf}
 use Rattle.basis.proofs.is_len_ok.Reads as is_len_ok
-use Rattle.spline.specs.declared.Evaluated.{Evaluated}
 use Rattle.spline.specs.declared.Evaluated.the-variants as E
 use Rattle.spline.specs.Segment.{segmentValue, segmentOf}
 use Rattle.spline.specs.Curve.{curveValue}
 use Rattle.spline.specs.Evaluation.{evaluated, splineUses, splineOf, splineSegmentUses, splineSegmentOf}
 use Rattle.spline.proofs.spline.Reads as spline
 use Rattle.spline.proofs.spline_segment.Reads as spline_segment
-use Rattle.invert.specs.declared.Inverted.{Inverted}
 use Rattle.invert.specs.declared.Inverted.the-variants as I
-use Rattle.invert.specs.Segment.{Outcome, off, placed, inSegment}
+use Rattle.invert.specs.Segment.{Outcome, inSegment}
 use Rattle.invert.specs.Answer.{answered, inverted, alone, inverseSegmentUses, inverseSegmentOf}
+use Rattle.invert.proofs.Verdicts.{answered-past, refused-by}
 use Rattle.invert.proofs.spline_inverse_segment_with.Reads as spline_inverse_segment_with
 use Rattle.invert.proofs.spline_inverse_segment.Reads as spline_inverse_segment
 use Rattle.inverse.specs.Inverse.{inverseUses, inverseOf}
 use Rattle.inverse.proofs.Refusals.{inverse-refused-only, inverse-refused-where}
 use Rattle.inverse.proofs.spline_inverse_with.Reads as spline_inverse_with
 use Rattle.inverse.proofs.spline_inverse.Reads as spline_inverse
-use Rattle.convert.specs.declared.Converted.{Converted}
 use Rattle.convert.specs.declared.Converted.the-variants as C
 use Rattle.convert.specs.Output.{segmentOutput, splineOutput}
 use Rattle.convert.specs.Conversion.{Conversion, gives, refuses, unless, convertSegmentUses, convertedSegmentOf, convertUses, convertedOf}
@@ -81,16 +78,14 @@ by-first : (us : Uses) (r : Refusal) → Exactly (first us ≡ Failed r) (First 
 by-first us r = (first-sound rows us r, first-complete rows us r)
 
 by-evaluated : (v : Verdict) (f : Float) (r : Refusal) → Exactly (evaluated v f ≡ E.Refused r) (v ≡ Failed r)
-by-evaluated Passed f r = (λ p. let z : _≡_ {A = ℕ} 0 1 = cc in absurd (omega arith), λ p. absurd (never (sym p)))
+by-evaluated Passed f r = (λ p. never (cc), λ p. never (cc))
 by-evaluated (Failed q) f r = (λ p. let s : q ≡ r = cc in ap Failed s, λ p. let s : q ≡ r = cc in ap E.Refused s)
 
 by-inverted : (v : Verdict) (P : ℕ → Float → Float) (o : Outcome) (r : Refusal) → Exactly (inverted v (answered P o) ≡ I.Refused r) (v ≡ Failed r)
-by-inverted Passed P (off ev) r = (λ p. let z : _≡_ {A = ℕ} 0 1 = cc in absurd (omega arith), λ p. absurd (never (sym p)))
-by-inverted Passed P (placed q) r = (λ p. let z : _≡_ {A = ℕ} 0 1 = cc in absurd (omega arith), λ p. absurd (never (sym p)))
-by-inverted (Failed q) P o r = (λ p. let s : q ≡ r = cc in ap Failed s, λ p. let s : q ≡ r = cc in ap I.Refused s)
+by-inverted v P o r = (refused-by v (answered P o) r (answered-past P o), λ p. ap (λ (w : Verdict). inverted w (answered P o)) p)
 
 by-answer : (v : Verdict) (l : List Float) (r : Refusal) → Exactly (answerOf (unless v l) ≡ C.Refused r) (v ≡ Failed r)
-by-answer Passed l r = (λ p. let z : _≡_ {A = ℕ} 0 1 = cc in absurd (omega arith), λ p. absurd (never (sym p)))
+by-answer Passed l r = (λ p. never (cc), λ p. never (cc))
 by-answer (Failed q) l r = (λ p. let s : q ≡ r = cc in ap Failed s, λ p. let s : q ≡ r = cc in ap C.Refused s)
 
 pub value-refused : (b : Basis) (x : Float) (ks : List Float) (r : Refusal) → Exactly (splineOf b x ks ≡ E.Refused r) (First (splineUses b x ks) rows r)
@@ -145,7 +140,7 @@ convert-spline-refuses κs a z e p r = carried (p .0) (conversion-refused (a .0)
 
 -- ---- a refusal writes nothing
 kept : (c : Conversion) (out : List Float) (r : Refusal) → answerOf c ≡ C.Refused r → bufferOf c out ≡ out
-kept (gives l) out r p = let z : _≡_ {A = ℕ} 0 1 = cc in absurd (omega arith)
+kept (gives l) out r p = never (cc)
 kept (refuses q) out r p = refl
 
 pub convert-segment-writes-nothing : Keeps convert_segment.Learnt (λ κs a z e. (r : Refusal) → z ≡ C.Refused r → now (e .1 .1 .1 .0) ≡ now (a .1 .1 .1 .0))

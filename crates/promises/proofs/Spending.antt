@@ -15,7 +15,7 @@ use Rattle.basis.specs.declared.Basis.{Basis}
 use Rattle.basis.specs.Basis.{segmentsOf}
 use Rattle.doubles.specs.Numbers.{nought, one, magnitudeOf}
 use Rattle.doubles.specs.Lerp.{lerpOf}
-use Rattle.doubles.proofs.Order.{branch}
+use Rattle.doubles.proofs.Tests.{branch}
 use Rattle.spline.specs.Segment.{segmentOf}
 use Rattle.invert.specs.declared.Ground.{Ground}
 use Rattle.invert.specs.declared.Ground.the-variants.{End, Edge, Value, Width, Spent}
@@ -26,6 +26,7 @@ use Rattle.invert.specs.Round.{Weighting, halving, narrow, weighed, fraction, f
 use Rattle.invert.specs.Rounds.{Placed, rounds}
 use Rattle.invert.specs.Segment.{encloses, near, start, opening, entered, Outcome, off, placed, evaluationsOf, inSegmentBy}
 use Rattle.invert.specs.Answer.{answered, inverted}
+use Rattle.invert.proofs.Ends.{both}
 use Rattle.search.specs.Bound.{bitsOf}
 use Rattle.search.specs.Search.{before, tries, last, halve, find}
 use Rattle.inverse.specs.EndRule.{atLow, atHigh, knotEnds}
@@ -54,11 +55,11 @@ module _ (W : Weighting) (f : Float → Float) (s : ℕ) (y ε : Float) (rising 
   Left m (found g x b l) = IsSpent g → ⊥
   Left m (on st l) = Then s ev m l
 
-  turn-left : (m : ℕ) (by : Bool) (st : State) (l : Evaluations) → Then s ev m l → Left (suc m) (turn W f s y ε rising by st l)
+  turn-left : (m : ℕ) (regula : Bool) (st : State) (l : Evaluations) → Then s ev m l → Left (suc m) (turn W f s y ε rising regula st l)
   unfolding turn probed settled
-  turn-left m by st l t =
-      let b = weighed W y by st in
-      let x = lerpOf (b .lower) (b .upper) (fraction y by b) in
+  turn-left m regula st l t =
+      let b = weighed W y regula st in
+      let x = lerpOf (b .lower) (b .upper) (fraction y regula b) in
       branch (Left (suc m)) (narrow ε (st .bracket)) (λ _ q. q) (λ _. branch (Left (suc m)) (lt (magnitudeOf (sub binary64 (f x) y)) ε) (λ _ q. q) (λ _. more x t))
 
   rounds-spent : (n i m j : ℕ) (t : Turn) → m + n ≡ j → Left m t → let p = rounds W f s y ε rising limit n i t in IsSpent (p .ground) → Then (p .segment) ev j (p .made)
@@ -76,7 +77,7 @@ Rounded limit (placed p) = IsSpent (p .ground) → (ev : Evaluations) × Then (p
 segment-rounded : (W : Weighting) (f : Float → Float) (s : ℕ) (y ε : Float) (limit : ℕ) (ev : Evaluations) → Rounded limit (inSegmentBy W f s y ε limit ev)
 unfolding inSegmentBy entered
 segment-rounded W f s y ε limit ev =
-    let l : Evaluations = (s, one) ∷ ((s, nought) ∷ ev) in
+    let l = both s ev in
     let rising = lt (f nought) (f one) in
     let t = on (start (opening (f nought) (f one))) l in
     let P : Placed → Type 0 = λ p. IsSpent (p .ground) → (e : Evaluations) × Then (p .segment) e limit (p .made) in
@@ -92,7 +93,7 @@ module _ (g : ℕ → Float → Float) (y ε : Float) (limit : ℕ) where
   unfolding tries
   tries-rounded zero s ev = tt
   tries-rounded (suc n) s ev =
-      let l : Evaluations = (s, one) ∷ ((s, nought) ∷ ev) in
+      let l = both s ev in
       branch (Rounded limit) (encloses (g s nought) (g s one) y) (λ _. segment-rounded halving (g s) s y ε limit l) (λ _. tries-rounded n (suc s) l)
 
   last-rounded : (k l : ℕ) (ev : Evaluations) → Rounded limit (last g y ε limit k l ev)
@@ -105,7 +106,7 @@ module _ (g : ℕ → Float → Float) (y ε : Float) (limit : ℕ) where
   halve-rounded rising k (suc n) l zero ev = last-rounded k l ev
   halve-rounded rising k (suc n) l (suc c) ev =
       let m = l + c / 2 in
-      let r : Evaluations = (m, one) ∷ ((m, nought) ∷ ev) in
+      let r = both m ev in
       branch (Rounded limit) (encloses (g m nought) (g m one) y) (λ _. segment-rounded halving (g m) m y ε limit r)
       (λ _. branch (Rounded limit) (before rising y (g m nought)) (λ _. halve-rounded rising k n l (c / 2) r) (λ _. halve-rounded rising k n (suc m) (c - c / 2) r))
 

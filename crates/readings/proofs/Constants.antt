@@ -1,4 +1,4 @@
--- The constants of inversion are the doubles nearest to their decimals: computed, one statement.
+-- The constants of inversion are the doubles nearest to their decimals: computed, one statement. Assumes nothing.
 use mathlib.Core.Path.{_≡_, refl}
 use mathlib.Core.Bool.{false}
 use Prim.Native.Nat.{_^_}

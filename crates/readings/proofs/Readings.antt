@@ -4,9 +4,8 @@ use mathlib.Core.Bool.{true, false}
 use mathlib.Core.List.{List, [], _∷_, _++_}
 use lib.Count.{leadingZeros}
 use lib.Ieee.{binary64, ofBits, ofInt, round, add, sub, mul, div, lt, le, eq, neg, isNan}
-use Rattle.basis.specs.declared.Basis.{Basis}
 use Rattle.basis.specs.Basis.{matrixOf}
-use Rattle.doubles.specs.Numbers.{one, magnitudeOf, clamp}
+use Rattle.doubles.specs.Numbers.{magnitudeOf, clamp}
 use Rattle.doubles.specs.Lerp.{lerpOf}
 use Rattle.doubles.specs.Whole.{wholeUpTo}
 use Rattle.spline.specs.Rows.{inRange, allInRange}

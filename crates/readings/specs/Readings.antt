@@ -20,8 +20,6 @@ use Rattle.invert.specs.declared.Ground.the-variants.{End, Edge, Value}
 use Rattle.invert.specs.declared.Inverted.{Inverted}
 use Rattle.invert.specs.declared.Inverted.the-variants as I
 use Rattle.invert.specs.Answer.{defaultLimit, defaultPrecision}
-use Rattle.invert.specs.Round.{halving}
-use Rattle.search.specs.Search.{tries, last}
 use Rattle.inverse.specs.Inverse.{inverseOf, inverseEvaluations}
 use Rattle.convert.specs.Conversion.{Conversion, gives, refuses, convertedOf}
 

@@ -1,5 +1,4 @@
--- A line's fields, as the functions that part it find them.
--- Assumes nothing.
+-- A line's fields, as the functions that part it find them. Assumes nothing.
 use mathlib.Core.Path.{_≡_, refl}
 use mathlib.Core.Bool.{Bool, true, false}
 use mathlib.Core.List.{List, _∷_}

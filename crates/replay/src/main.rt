@@ -1,7 +1,6 @@
 // Replays stored answers: standard input has a case to a line, and the port must answer each as it is stored.
 // README.md beside this folder says what a line holds and how the list was made.
 ghost use Prim.Native.Nat.{_+_, _≤_, _<_};
-ghost use lib.ListN.{length};
 
 // The line until now: its letter, how many words are whole, and the word that is being read, if a digit was seen.
 struct Line {

@@ -1,5 +1,4 @@
--- The knots' lines, one more at a time.
--- Assumes nothing.
+-- The knots' lines, one more at a time. Assumes nothing.
 use mathlib.Core.Path.{_≡_, sym, ap, _∙_}
 use mathlib.Core.List.{List, [], _∷_, _++_, append-assoc, append-nil}
 use Prim.Native.Nat.{ℕ, _+_, _<_}

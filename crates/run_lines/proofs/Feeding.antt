@@ -1,5 +1,4 @@
--- A chunk that is fed in parts.
--- Assumes nothing.
+-- A chunk that is fed in parts. Assumes nothing.
 use mathlib.Core.Path.{_≡_, refl, sym, _∙_}
 use mathlib.Core.List.{List, []}
 use Prim.Native.Nat.{ℕ, _+_, _-_}

@@ -5,8 +5,9 @@ use Prim.Native.Nat.{ℕ, zero, suc, _+_, _-_, _<_}
 use native.Mathlib.Omega.{arith}
 use lib.Dec.{T}
 use lib.Ieee.{Float, lt, le, isNan}
-use lib.Ieee.Fits.{and-l, and-r, and-i}
-use Rattle.doubles.proofs.Order.{branch, not-lt→le, le-trans-float, lt-le-absurd}
+use lib.Ieee.Fits.{and-l, and-r}
+use Rattle.doubles.proofs.Tests.{branch}
+use Rattle.doubles.proofs.Order.{not-lt→le, le-trans-float, lt-le-absurd}
 use Rattle.invert.specs.Segment.{encloses}
 use Rattle.search.specs.Search.{before}
 
@@ -26,12 +27,6 @@ enclosed false a b y o =
     branch (λ (z : Bool). T z → T (le y a) × T (le b y)) (lt a b)
     (λ l h. absurd (lt-le-absurd a b l o))
     (λ _ h. (and-r (le b y) (le y a) h, and-l (le b y) (le y a) h))
-
-pub encloses-of : (rising : Bool) (a b y : Float) → T (not (isNan a)) → T (not (isNan b)) → Along rising a y → Along rising y b → T (encloses a b y)
-encloses-of true a b y p q h k =
-    branch T (lt a b) (λ _. and-i (le a y) (le y b) h k)
-    (λ n. let r = not-lt→le a b p q n in and-i (le b y) (le y a) (le-trans-float b a y r h) (le-trans-float y b a k r))
-encloses-of false a b y p q h k = branch T (lt a b) (λ l. absurd (lt-le-absurd a b l (le-trans-float b y a k h))) (λ _. and-i (le b y) (le y a) k h)
 
 pub before-not : (rising : Bool) (y v : Float) → T (before rising y v) → Along rising v y → ⊥
 before-not true y v h k = lt-le-absurd y v h k

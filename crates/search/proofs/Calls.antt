@@ -19,11 +19,11 @@ use Rattle.invert.specs.Evaluations.{Evaluations}
 use Rattle.invert.specs.Segment.{encloses, inSegment}
 use Rattle.invert.specs.Answer.{answered, alone}
 use Rattle.invert.specs.Shown.{InvertIs}
+use Rattle.invert.proofs.Ends.{both}
 use Rattle.search.specs.declared.Tested.{Tested}
 use Rattle.search.specs.Bound.{bitsOf}
 use Rattle.search.specs.Search.{before, tries, last, halve, find}
 use Rattle.search.specs.Shown.{Is, TestedIs, TriesIs, LastIs, HalveIs, FindIs}
-use Rattle.search.proofs.Found.{both}
 use Rattle.search.proofs.Digits.{bits-enough}
 
 -- ---- where a segment lies

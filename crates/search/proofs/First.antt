@@ -10,8 +10,9 @@ use lib.Ieee.Bits.{is-true, is-false}
 use borrow.Author.Tests.{le-leb}
 use Rattle.invert.specs.Evaluations.{Evaluations}
 use Rattle.invert.specs.Segment.{Outcome, inSegment}
+use Rattle.invert.proofs.Ends.{both}
 use Rattle.search.specs.Search.{tries, find}
-use Rattle.search.proofs.Found.{both, Holds, Nothing}
+use Rattle.search.proofs.Found.{Holds, Nothing}
 
 module _ (g : ℕ → Float → Float) (y ε : Float) (limit k : ℕ) where
   -- segment s is entered with m evaluations made

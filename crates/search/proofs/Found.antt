@@ -1,7 +1,6 @@
 -- What a search comes to, for any curve: how many evaluations it makes, which segment it enters, and when it enters none. Assumes nothing.
 use mathlib.Core.Path.{_≡_, sym, subst}
 use mathlib.Core.Logic.{inl, inr}
-use mathlib.Core.List.{_∷_}
 use mathlib.Core.Bool.{Bool, true, false, not, cond}
 use Prim.Native.Nat.{ℕ, zero, suc, _+_, _-_, _*_, _/_, _^_, _≤_, _<_, min}
 use native.Mathlib.Nat.{le-trans, eq-or-lt-of-le, two-pow-succ}
@@ -10,14 +9,16 @@ use lib.Dec.{T, leb, leb→le, not-T, T-not}
 use lib.ListN.{length}
 use lib.Ieee.{Float, isNan}
 use Rattle.doubles.specs.Numbers.{nought, one}
-use Rattle.doubles.proofs.Order.{branch}
+use Rattle.doubles.proofs.Tests.{branch}
 use Rattle.doubles.proofs.Rounding.{le-or-lt}
 use Rattle.invert.specs.Evaluations.{Evaluations}
 use Rattle.invert.specs.Rounds.{Placed}
 use Rattle.invert.specs.Segment.{Outcome, off, placed, encloses, inSegment}
+use Rattle.invert.proofs.Ends.{both}
+use Rattle.invert.proofs.Places.{encloses-of}
 use Rattle.search.specs.Bound.{bitsOf}
 use Rattle.search.specs.Search.{before, tries, last, halve, find}
-use Rattle.search.proofs.Along.{Along, along-trans, enclosed, encloses-of, before-not, not-before, ahead}
+use Rattle.search.proofs.Along.{Along, along-trans, enclosed, before-not, not-before, ahead}
 use Rattle.search.proofs.Digits.{bits-enough}
 
 -- ---- what is said of a curve g of k segments
@@ -35,10 +36,6 @@ module _ (g : ℕ → Float → Float) (y : Float) (k : ℕ) where
     pub starts : (i : ℕ) → suc i < k → Along rising (g i nought) (g (suc i) nought)
     pub ends : (i : ℕ) → suc i < k → Along rising (g i one) (g (suc i) one)
     pub own : (i : ℕ) → i < k → Along rising (g i nought) (g i one)
-
--- the two evaluations of a segment's ends
-abbrev pub both : ℕ → Evaluations → Evaluations
-both s ev = (s, one) ∷ ((s, nought) ∷ ev)
 
 -- ---- what a search comes to. `Good s base p` stands for what the inversion of segment s tells of its place p, `base` evaluations having been made before its rounds
 module _ (g : ℕ → Float → Float) (y : Float) (k : ℕ) (Good : ℕ → ℕ → Placed → Type 0) where

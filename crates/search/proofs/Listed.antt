@@ -1,24 +1,19 @@
 -- The list of evaluations misses none: two curves that agree at every listed place come to the same outcome, with the same list. Assumes nothing.
 use mathlib.Core.Path.{_≡_, refl}
-use mathlib.Core.Bool.{Bool, true, false, cond}
+use mathlib.Core.Bool.{Bool, cond}
 use Prim.Native.Nat.{ℕ, zero, suc, _+_, _-_, _/_, min}
 use lib.Dec.{leb}
 use lib.Ieee.{Float}
 use Rattle.doubles.specs.Numbers.{nought, one}
-use Rattle.doubles.proofs.Order.{branch}
+use Rattle.doubles.proofs.Tests.{branch, alike}
 use Rattle.invert.specs.Evaluations.{Evaluations}
 use Rattle.invert.specs.Segment.{Outcome, encloses, inSegment, evaluationsOf}
 use Rattle.invert.specs.Agreed.{Agreed}
 use Rattle.invert.specs.Round.{halving}
+use Rattle.invert.proofs.Ends.{both}
 use Rattle.invert.proofs.Complete.{segment-grows, segment-same}
 use Rattle.search.specs.Bound.{bitsOf}
 use Rattle.search.specs.Search.{before, tries, last, halve, find}
-use Rattle.search.proofs.Found.{both}
-
--- one outcome for two tests that pass alike
-alike : (P : Outcome → Type 0) (b : Bool) {x x' z z' : Outcome} → (P x → x ≡ x') → (P z → z ≡ z') → P (cond b x z) → cond b x z ≡ cond b x' z'
-alike P true f h p = f p
-alike P false f h p = h p
 
 module _ (g h : ℕ → Float → Float) (y ε : Float) (limit : ℕ) where
   abbrev Same : Outcome → Type 0

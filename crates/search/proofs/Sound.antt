@@ -1,10 +1,12 @@
 -- A segment whose ends enclose the target is never refused, and its inversion comes to a place of which all is known that the segment's laws say. Assumes nothing.
 use mathlib.Core.Path.{_≡_, refl}
-use Prim.Native.Nat.{ℕ, _+_, _<_}
-use lib.Dec.{T, T-not}
+use mathlib.Core.Bool.{Bool, not}
+use Prim.Native.Nat.{ℕ, _+_, _^_, _<_}
+use lib.Dec.{T, T-not, leb}
 use lib.ListN.{length}
 use lib.Ieee.{Float, lt}
 use Rattle.doubles.specs.Numbers.{nought, one}
+use Rattle.doubles.proofs.Units.{nought-in, one-in}
 use Rattle.invert.specs.Evaluations.{Evaluations}
 use Rattle.invert.specs.Round.{halving}
 use Rattle.invert.specs.Rounds.{Placed}
@@ -12,7 +14,8 @@ use Rattle.invert.specs.Segment.{Outcome, off, placed, inSegment}
 use Rattle.invert.proofs.Weighting.{halving-keeps}
 use Rattle.invert.proofs.Enclosing.{Numbers}
 use Rattle.invert.proofs.Places.{SoundAt, SegmentSays, segment-says}
-use Rattle.search.proofs.Found.{Holds, Enters}
+use Rattle.search.specs.Search.{find}
+use Rattle.search.proofs.Found.{Holds, Nothing, Straight, Result, Enters, probes, find-says}
 
 module _ (g : ℕ → Float → Float) (y ε : Float) (limit : ℕ) where
   -- the place p is in segment s, and sound there
@@ -25,3 +28,9 @@ module _ (g : ℕ → Float → Float) (y ε : Float) (limit : ℕ) where
 
   pub enters-sound : (k : ℕ) → ((s : ℕ) → s < k → Numbers (g s) y) → Enters g y ε limit k SoundIn
   enters-sound k numbers s ev l h = never-off s k ev (inSegment (g s) s y ε limit ev) h (segment-says halving halving-keeps (g s) s y ε limit ev (numbers s l))
+
+  -- the whole search, after the evaluations ev
+  pub find-sound : (k : ℕ) → 0 < k → k < 2 ^ 64 → ((s : ℕ) → s < k → Numbers (g s) y) → (rising : Bool) (ev : Evaluations)
+      → Result g y k SoundIn (length ev + probes (leb k 12) k) ((T (not (leb k 12)) → Straight g y k rising) → Nothing g y k 0 k) (find g y ε limit rising k ev)
+  find-sound k some fits numbers rising ev =
+      find-says g y ε limit k SoundIn (enters-sound k numbers) (numbers 0 some .target) (λ s l. (numbers s l .values nought nought-in, numbers s l .values one one-in)) rising ev fits

@@ -1,4 +1,4 @@
--- What a call answers for the basis that was found is what it answers for the number that was asked.
+-- What a call answers for the basis that was found is what it answers for the number that was asked. Assumes nothing.
 use mathlib.Core.Path.{_≡_, sym, ap, _∙_}
 use Rattle.basis.specs.declared.Basis.{Basis}
 use Rattle.simmerstoat.specs.declared.Chosen.{Chosen}

@@ -250,6 +250,7 @@ pub extern "C" fn simmerstoat_convert_segment(from: u8, to: u8, cv: &[f64], out:
     };
     conversion_reply(convert::convert_segment(f, t, cv, out))
 }
+
 // A curve's conversion, into the first places of out.
 #[no_mangle]
 pub extern "C" fn simmerstoat_convert_spline(

@@ -105,7 +105,7 @@ bases-small Hermite = tt
 bases-small Linear = tt
 bases-small Power = tt
 
-pub basis-small : (b : Basis) → Small 3 (matrixOf b)
+basis-small : (b : Basis) → Small 3 (matrixOf b)
 basis-small b = small-matrix 3 (matrixOf b) (bases-small b)
 
 -- ---- every step is finite. A data type, so that antt finds the list from a proof
@@ -113,9 +113,9 @@ pub data Finite : List Float → Type 0 where
   none : Finite []
   more : {a : ℕ} {x : Float} {xs : List Float} → Within a x → Finite xs → Finite (x ∷ xs)
 
-both : {xs ys : List Float} → Finite xs → Finite ys → Finite (xs ++ ys)
-both none q = q
-both (more w p) q = more w (both p q)
+pub joined : {xs ys : List Float} → Finite xs → Finite ys → Finite (xs ++ ys)
+joined none q = q
+joined (more w p) q = more w (joined p q)
 
 -- a row: four products and three sums; the entries within 2 ^ a
 pub record Row (a : ℕ) (cv r : List Float) : Type 0 where
@@ -158,4 +158,4 @@ segment-finite b cv t k l h =
     let r = row-finite 3 cv (getD m 2 []) (lit≤ tt) k (s .r2) in
     let z = row-finite 3 cv (getD m 3 []) (lit≤ tt) k (s .r3) in
     let v = horner-finite (weightsOf m cv) (unit-within t l h) (p .within) (q .within) (r .within) (z .within) in
-    (v .0, both (both (both (both (p .steps) (q .steps)) (r .steps)) (z .steps)) (v .1))
+    (v .0, joined (joined (joined (joined (p .steps) (q .steps)) (r .steps)) (z .steps)) (v .1))

@@ -1,6 +1,6 @@
 -- The scan of all knots with a flag. Assumes nothing.
-use mathlib.Core.Path.{_≡_, refl, sym, ap, _∙_}
-use mathlib.Core.Bool.{Bool, true, false, _&&_}
+use mathlib.Core.Path.{_≡_, sym, ap, _∙_}
+use mathlib.Core.Bool.{Bool, _&&_, and-assoc, and-true}
 use mathlib.Core.List.{List}
 use Prim.Native.Nat.{ℕ, _+_, _≤_, _<_}
 use native.Mathlib.Numerals.{add-one}
@@ -8,14 +8,6 @@ use lib.ListN.{length, drop, getD, drop-of-length-le}
 use lib.Seq.{drop-cons}
 use lib.Ieee.{Float, nan}
 use Rattle.spline.specs.Rows.{inRange, allInRange}
-
-and-assoc : (a b c : Bool) → ((a && b) && c) ≡ (a && (b && c))
-and-assoc true b c = refl
-and-assoc false b c = refl
-
-and-true : (a : Bool) → (a && true) ≡ a
-and-true true = refl
-and-true false = refl
 
 -- one more knot
 pub scanned : (ks : List Float) (i : ℕ) (good t : Bool) → i < length ks → (good && allInRange (drop i ks)) ≡ allInRange ks → t ≡ inRange (getD ks i nan) → ((good && t) && allInRange (drop (i + 1) ks)) ≡ allInRange ks

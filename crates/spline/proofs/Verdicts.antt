@@ -2,7 +2,7 @@
 use mathlib.Core.Path.{_≡_, sym, _∙_}
 use mathlib.Core.Bool.{true, false, _&&_}
 use mathlib.Core.List.{List}
-use Prim.Native.Nat.{_≤_}
+use Prim.Native.Nat.{ℕ, _≤_}
 use borrow.Author.Tests.{ltb-false, not-false}
 use lib.ListN.{length}
 use lib.Ieee.{Float, le, ne, isNan}
@@ -50,6 +50,15 @@ module _ (x : Float) (cv : List Float) {l : Verdict} (e : l ≡ first (segmentLe
   segment-passes k n m a = goes-on (splineSegmentUses x cv) e k (simp (n, m, a))
 
 -- ---- what a passed verdict says
+pub record Length (n : ℕ) : Type 0 where
+  pub least : 4 ≤ n
+  pub most : n ≤ 4096
+
+pub length-passed : (b : Basis) (n : ℕ) → first (curveLength b n) ≡ Passed → Length n
+length-passed b n e =
+    let p = passed rows (curveLength b n) e in
+    record { least = ltb-false n 4 (p .0); most = ltb-false 4096 n (p .1 .1 .0) }
+
 pub record Sound (b : Basis) (x : Float) (ks : List Float) : Type 0 where
   pub many : 4 ≤ length ks
   pub few : length ks ≤ 4096

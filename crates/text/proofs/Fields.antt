@@ -1,5 +1,4 @@
--- The fields of a line, and its first tab.
--- Assumes nothing.
+-- The fields of a line, and its first tab. Assumes nothing.
 use mathlib.Core.Path.{_≡_, refl}
 use mathlib.Core.Bool.{Bool, true, false}
 use mathlib.Core.List.{List, [], _∷_}

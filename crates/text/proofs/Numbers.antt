@@ -1,5 +1,4 @@
--- Numbers as text: the steps of the functions that write them.
--- Assumes nothing.
+-- Numbers as text: the steps of the functions that write them. Assumes nothing.
 use mathlib.Core.Path.{_≡_, refl, sym, subst}
 use mathlib.Core.List.{List, [], _∷_}
 use Prim.Native.Nat.{ℕ, zero, suc, _+_, _-_, _/_, _%_, _≤_, _<_, _^_}

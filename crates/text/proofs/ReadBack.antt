@@ -1,5 +1,4 @@
--- Hexadecimal digits and decimals read back as what was printed, and print back as what was read.
--- Assumes nothing.
+-- Hexadecimal digits and decimals read back as what was printed, and print back as what was read. Assumes nothing.
 use mathlib.Core.Path.{_≡_, refl, sym, ap, subst, _∙_}
 use mathlib.Core.Bool.{Bool, true, false, cond, not}
 use mathlib.Core.List.{List, [], _∷_, _++_, append-assoc, append-nil}
@@ -16,7 +15,6 @@ use Rattle.text.specs.Text.{digitOf, valueOf, hexOf, glyphOf, hexText, d
 use Rattle.text.proofs.Words.{digit-below, digit-number, digit-between, digit-letter, digit-above, hex-is}
 
 -- ---- printed, then read
-
 digit-glyph : (d : ℕ) → d < 16 → digitOf (glyphOf d) ≡ d
 digit-glyph d h = go (ltb d 10) refl
   where
@@ -58,7 +56,6 @@ parse-print n h =
     ∙ ap Is (omega arith)
 
 -- ---- read, then printed
-
 -- the digit of a byte that is one
 glyph-low : (b : ℕ) → 48 ≤ b → b ≤ 57 → (digitOf b < 16) × (glyphOf (digitOf b) ≡ b)
 glyph-low b h k =
@@ -90,6 +87,10 @@ hex-front (suc k) n =
     ap (λ (l : List ℕ). l ++ (glyphOf (n % 16) ∷ [])) (hex-front k (n / 16))
     ∙ ap (λ (x : ℕ). glyphOf (x % 16) ∷ (hexText k (n / 16) ++ (glyphOf (n % 16) ∷ []))) e
 
+-- nothing is no number
+unread : {A : Type 0} {n : ℕ} → Nothing ≡ Is n → A
+unread e = let z : _≡_ {A = ℕ} 0 1 = cc in absurd (omega arith)
+
 value-back : (s : List ℕ) (m n : ℕ) → valueOf m s ≡ Is n → (n / 16 ^ length s ≡ m) × (hexText (length s) n ≡ s)
 unfolding valueOf hexText
 value-back [] m n h = let e : m ≡ n = cc in (omega arith, refl)
@@ -99,8 +100,7 @@ value-back (b ∷ s) m n h = go (eqb (digitOf b) 16) refl (value-back s (m * 16 
         → (valueOf (m * 16 + digitOf b) s ≡ Is n → (n / 16 ^ length s ≡ m * 16 + digitOf b) × (hexText (length s) n ≡ s))
         → (n / 16 ^ suc (length s) ≡ m) × (hexText (suc (length s)) n ≡ b ∷ s)
     go true e ih =
-        let w : Nothing ≡ Is n = rw e at h in
-        let z : _≡_ {A = ℕ} 0 1 = cc in absurd (omega arith)
+        let w : Nothing ≡ Is n = rw e at h in unread w
     go false e ih =
         let d : ℕ = digitOf b in
         let w : valueOf (m * 16 + digitOf b) s ≡ Is n = rw e at h in
@@ -121,8 +121,7 @@ print-parse s n h = go (eqb (length s) 16) refl
         let w : valueOf 0 s ≡ Is n = rw e at h in
         subst (λ (k : ℕ). hexText k n ≡ s) (eqb-true (length s) 16 e) (value-back s 0 n w .1)
     go false e =
-        let w : Nothing ≡ Is n = rw e at h in
-        let z : _≡_ {A = ℕ} 0 1 = cc in absurd (omega arith)
+        let w : Nothing ≡ Is n = rw e at h in unread w
 
 -- 16 digits say a number below 2^64
 read-small : (s : List ℕ) (n : ℕ) → hexOf s ≡ Is n → n < 2 ^ 64
@@ -135,11 +134,9 @@ read-small s n h = go (eqb (length s) 16) refl
         let z : n / 16 ^ 16 ≡ 0 = subst (λ (k : ℕ). n / 16 ^ k ≡ 0) (eqb-true (length s) 16 e) (value-back s 0 n w .0) in
         omega arith
     go false e =
-        let w : Nothing ≡ Is n = rw e at h in
-        let z : _≡_ {A = ℕ} 0 1 = cc in absurd (omega arith)
+        let w : Nothing ≡ Is n = rw e at h in unread w
 
 -- ---- doubles
-
 -- a double that is no NaN comes out as it went in, digit for digit
 pub hex-in-out : (s : List ℕ) (n : ℕ) → hexOf s ≡ Is n → T (not (isNan (doubleOf n))) → doubleText (doubleOf n) ≡ s
 unfolding doubleOf
@@ -151,7 +148,6 @@ unfolding doubleOf
 hex-out-in x h = (parse-print (toBits binary64 x) (toBits-lt binary64 x h), ofBits-toBits binary64 x h)
 
 -- ---- decimals
-
 -- m, with the decimals s after it
 unfoldable pub decimalOf : ℕ → List ℕ → ℕ
 decimalOf m [] = m

@@ -1,7 +1,6 @@
--- The steps of the loops over words and digits.
--- Assumes nothing.
+-- The steps of the loops over words and digits. Assumes nothing.
 use mathlib.Core.Path.{_≡_, refl, sym, ap, _∙_}
-use mathlib.Core.Bool.{Bool, true, false, cond, _&&_}
+use mathlib.Core.Bool.{true, false, cond, _&&_, and-false}
 use mathlib.Core.List.{List, [], _∷_}
 use Prim.Native.Nat.{ℕ, suc, _+_, _*_, _-_, _≤_, _<_, _^_}
 use native.Mathlib.Nat.{pow-suc, pow-le-pow-right}
@@ -14,16 +13,12 @@ use lib.Seq.{drop-cons, drop-length}
 use Rattle.text.specs.declared.Hexed.the-variants.{Is, Nothing}
 use Rattle.text.specs.Text.{same, digitOf, valueOf, hexOf, tabOf}
 
-and-no : (b : Bool) → (b && false) ≡ false
-and-no true = refl
-and-no false = refl
-
 pub same-long : (s w : List ℕ) → (length s ≡ length w → ⊥) → same s w ≡ false
 unfolding same
 same-long [] [] h = absurd (h refl)
 same-long [] (b ∷ w) h = refl
 same-long (a ∷ s) [] h = refl
-same-long (a ∷ s) (b ∷ w) h = rw (same-long s w (λ e. h (ap suc e))) (and-no (eqb a b))
+same-long (a ∷ s) (b ∷ w) h = rw (same-long s w (λ e. h (ap suc e))) (and-false (eqb a b))
 
 -- at place i
 same-at : (s w : List ℕ) (i : ℕ) → i < length s → i < length w
@@ -48,7 +43,6 @@ same-done s w i h k e =
     ∙ ap (λ (l : List ℕ). same [] l) (ap (λ (j : ℕ). drop j w) q ∙ drop-length w)
 
 -- ---- digits
-
 value-at : (n : ℕ) (s : List ℕ) (i : ℕ) → i < length s
     → valueOf n (drop i s) ≡ cond (eqb (digitOf (getD s i 0)) 16) Nothing (valueOf (n * 16 + digitOf (getD s i 0)) (drop (i + 1) s))
 unfolding valueOf
@@ -77,7 +71,6 @@ unfolding hexOf
 hex-not s h = simp (ne-eqb (length s) 16 h)
 
 -- ---- the tab
-
 tab-at : (s : List ℕ) (i : ℕ) → i < length s → tabOf (drop i s) ≡ cond (eqb (getD s i 0) 9) 0 (suc (tabOf (drop (i + 1) s)))
 unfolding tabOf
 tab-at s i h = rw (add-one i, drop-cons s i 0 h) refl
@@ -95,7 +88,6 @@ tab-done s i h k =
     let e : tabOf (drop i s) ≡ 0 = ap tabOf (ap (λ (j : ℕ). drop j s) p ∙ drop-length s) in omega arith
 
 -- ---- a digit
-
 pub digit-below : (b : ℕ) → b < 48 → 16 ≡ digitOf b
 digit-below b h = simp (lt-leb 48 b h, lt-leb 65 b (omega arith))
 
@@ -112,7 +104,6 @@ pub digit-above : (b : ℕ) → 70 < b → 16 ≡ digitOf b
 digit-above b h = simp (le-leb 48 b (omega arith), lt-leb b 57 (omega arith), le-leb 65 b (omega arith), lt-leb b 70 h)
 
 -- ---- room for one more digit
-
 pub grow16 : (n i d : ℕ) → n < 16 ^ i → d < 16 → n * 16 + d < 16 ^ (i + 1)
 grow16 n i d h k = rw (add-one i, pow-suc 16 i) (omega arith)
 

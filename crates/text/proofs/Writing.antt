@@ -1,5 +1,4 @@
--- The laws by which texts are put together in a lent slice.
--- Assumes nothing.
+-- The laws by which texts are put together in a lent slice. Assumes nothing.
 use mathlib.Core.Path.{_≡_, refl, sym, ap, _∙_}
 use mathlib.Core.List.{List, [], _∷_, _++_, append-assoc, append-nil}
 use Prim.Native.Nat.{ℕ, _+_, _<_}

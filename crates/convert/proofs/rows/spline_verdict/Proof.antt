@@ -1,5 +1,6 @@
 use mathlib.Core.Path.{sym, _∙_}
-use Rattle.convert.proofs.Verdicts.{length-passed, spline-stops, spline-goes-on}
+use Rattle.spline.proofs.Verdicts.{length-passed}
+use Rattle.convert.proofs.Verdicts.{spline-stops, spline-goes-on}
 use borrow.Author.Needs.{needs}
 use Rattle.convert.proofs.rows.spline_verdict.Statement.{statement}
 use Rattle.convert.proofs.rows.spline_verdict.Tie as tie

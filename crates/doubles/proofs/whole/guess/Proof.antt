@@ -1,6 +1,3 @@
-use mathlib.Core.Path.{sym, subst}
-use mathlib.Core.Bool.{Bool, not}
-use lib.Dec.{T}
 use Rattle.doubles.proofs.Order.{no-nan}
 use borrow.Author.Needs.{needs}
 use Rattle.doubles.proofs.whole.guess.Statement.{statement}
@@ -10,7 +7,7 @@ returns : tie.Need-returns
 returns c = search needs
 
 float-to-bits-wrapping-sub-u64 : tie.Need-float-to-bits-wrapping-sub-u64
-float-to-bits-wrapping-sub-u64 c = no-nan _ (subst (λ (b : Bool). T (not b)) (sym (c .if1 .left)) tt)
+float-to-bits-wrapping-sub-u64 c = no-nan _ (c .if1 .left)
 
 wrapping-sub-u64-requires : tie.Need-wrapping-sub-u64-requires
 wrapping-sub-u64-requires c κs = search needs
