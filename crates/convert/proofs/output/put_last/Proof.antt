@@ -1,9 +1,19 @@
+use mathlib.Core.Path.{_≡_}
+use mathlib.Core.List.{List}
+use Prim.Native.Nat.{ℕ, _+_, _-_, _≤_, _<_}
 use native.Mathlib.Omega.{arith}
-use lib.ListN.{length-set}
+use lib.ListN.{length, drop, set, length-set}
+use lib.Ieee.{Float}
+use Rattle.spline.specs.declared.Weights.{Weights}
+use Rattle.convert.specs.Buffer.{placed, listOf}
 use Rattle.convert.proofs.Writing.{put-1, put-2, put-3, put-4}
 use borrow.Author.Needs.{needs}
 use Rattle.convert.proofs.output.put_last.Statement.{statement}
 use Rattle.convert.proofs.output.put_last.Tie as tie
+
+-- four is what is left
+put-four : (o : List Float) (at : ℕ) (w : Weights) (gap : ℕ) → (gap ≡ 1 → Prim.⊥) → (gap ≡ 2 → Prim.⊥) → (gap ≡ 3 → Prim.⊥) → 0 < gap → gap ≤ 4 → at + gap ≤ length o → set (set (set (set o at (w .w0)) (at + 1) (w .w1)) (at + 2) (w .w2)) (at + 3) (w .w3) ≡ placed at (drop (4 - gap) (listOf w)) o
+put-four o at w gap p q r some most room = put-4 o at w gap (omega arith) room
 
 mul-out : tie.Need-mul-out
 mul-out c = search needs
@@ -15,7 +25,7 @@ same-length : tie.Need-same-length
 same-length c = search needs
 
 returns : tie.Need-returns
-returns c = put-1 _ _ _ _ (c .if1 .taken) (c .before .pre .2)
+returns c = search (put-1, needs)
 
 mul-out-2 : tie.Need-mul-out-2
 mul-out-2 c = search needs
@@ -36,7 +46,7 @@ same-length-2 : tie.Need-same-length-2
 same-length-2 c = search needs
 
 returns-2 : tie.Need-returns-2
-returns-2 c = put-2 _ _ _ _ (c .if2 .taken) (c .before .before .pre .2)
+returns-2 c = search (put-2, needs)
 
 mul-out-4 : tie.Need-mul-out-4
 mul-out-4 c = search needs
@@ -66,7 +76,7 @@ same-length-3 : tie.Need-same-length-3
 same-length-3 c = search needs
 
 returns-3 : tie.Need-returns-3
-returns-3 c = put-3 _ _ _ _ (c .if3 .taken) (c .before .before .before .pre .2)
+returns-3 c = search (put-3, needs)
 
 mul-out-7 : tie.Need-mul-out-7
 mul-out-7 c = search needs
@@ -105,7 +115,7 @@ same-length-4 : tie.Need-same-length-4
 same-length-4 c = search needs
 
 returns-4 : tie.Need-returns-4
-returns-4 c = put-4 _ _ _ _ (omega arith) (c .before .before .before .pre .2)
+returns-4 c = search (put-four, needs)
 
 pub put-last-spec : {M : Type 1} → statement M
 put-last-spec =
