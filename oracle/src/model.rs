@@ -56,6 +56,24 @@ pub struct Inversion {
     pub fate: Fate,
 }
 
+/// How a place between two others is found.
+#[derive(Clone, Copy, Debug, PartialEq, Eq)]
+pub enum Lerp {
+    /// lower + (upper - lower) * t: the port's
+    FromLower,
+    /// lower * (1 - t) + upper * t
+    OfBoth,
+}
+
+impl Lerp {
+    fn at(self, lower: f64, upper: f64, t: f64) -> f64 {
+        match self {
+            Lerp::FromLower => lower + (upper - lower) * t,
+            Lerp::OfBoth => lower * (1.0 - t) + upper * t,
+        }
+    }
+}
+
 /// The options of an inversion.
 #[derive(Clone, Copy, Debug)]
 pub struct Options {
@@ -135,7 +153,7 @@ pub fn spline(b: usize, x: f64, knots: &[f64]) -> Result<f64, u8> {
 }
 
 /// One segment, past the refusals of its arguments; the evaluations are added to `count`.
-fn invert(b: usize, y: f64, cv: &[f64], o: &Options, count: &mut usize) -> (Option<Place>, Fate) {
+fn invert(lerp: Lerp, b: usize, y: f64, cv: &[f64], o: &Options, count: &mut usize) -> (Option<Place>, Fate) {
     let at = |t: f64, count: &mut usize| {
         *count += 1;
         value(b, t, cv)
@@ -160,7 +178,7 @@ fn invert(b: usize, y: f64, cv: &[f64], o: &Options, count: &mut usize) -> (Opti
     for round in 0..limit {
         let width = (upper - lower).abs();
         if width < o.precision.max(width * 1e-12) {
-            return (place(Ground::Width, lower + (upper - lower) * 0.5, lower, upper), fate);
+            return (place(Ground::Width, lerp.at(lower, upper, 0.5), lower, upper), fate);
         }
         let mut fraction = 0.5;
         if round < 3 * limit / 4 && repeats < 3 {
@@ -175,7 +193,7 @@ fn invert(b: usize, y: f64, cv: &[f64], o: &Options, count: &mut usize) -> (Opti
                 fraction = falsi;
             }
         }
-        let x = lower + (upper - lower) * fraction;
+        let x = lerp.at(lower, upper, fraction);
         let v = at(x, count);
         let lower_moves = (v < y) == rising;
         if lower_moves {
@@ -192,7 +210,7 @@ fn invert(b: usize, y: f64, cv: &[f64], o: &Options, count: &mut usize) -> (Opti
             return (place(Ground::Value, x, lower, upper), fate);
         }
     }
-    (place(Ground::Spent, lower + (upper - lower) * 0.5, lower, upper), fate)
+    (place(Ground::Spent, lerp.at(lower, upper, 0.5), lower, upper), fate)
 }
 
 fn asked(y: f64, o: &Options) -> Result<(), u8> {
@@ -217,7 +235,7 @@ pub fn spline_inverse_segment(b: usize, y: f64, cv: &[f64], o: &Options) -> Inve
         return refused(no);
     }
     let mut count = 0;
-    let (place, fate) = invert(b, y, cv, o, &mut count);
+    let (place, fate) = invert(Lerp::FromLower, b, y, cv, o, &mut count);
     Inversion { answer: place.ok_or(11), count, fate }
 }
 
@@ -226,6 +244,10 @@ fn turns_back(knots: &[f64], rising: bool) -> bool {
 }
 
 pub fn spline_inverse(b: usize, y: f64, knots: &[f64], o: &Options) -> Inversion {
+    spline_inverse_by(Lerp::FromLower, b, y, knots, o)
+}
+
+pub fn spline_inverse_by(lerp: Lerp, b: usize, y: f64, knots: &[f64], o: &Options) -> Inversion {
     let k = match curve_length(b, knots.len()) {
         Ok(k) => k,
         Err(no) => return refused(no),
@@ -250,11 +272,11 @@ pub fn spline_inverse(b: usize, y: f64, knots: &[f64], o: &Options) -> Inversion
     if if rising { y >= high } else { y <= high } {
         return end(k - 1, 1.0);
     }
-    search(b, y, knots, k, rising, o)
+    search(lerp, b, y, knots, k, rising, o)
 }
 
 /// The segments of a curve, past the end rule.
-fn search(b: usize, y: f64, knots: &[f64], k: usize, rising: bool, o: &Options) -> Inversion {
+fn search(lerp: Lerp, b: usize, y: f64, knots: &[f64], k: usize, rising: bool, o: &Options) -> Inversion {
     let mut count = 0;
     let cv = |s: usize| &knots[s * STEP[b]..s * STEP[b] + 4];
     let encloses = |s: usize, count: &mut usize| {
@@ -293,7 +315,7 @@ fn search(b: usize, y: f64, knots: &[f64], k: usize, rising: bool, o: &Options) 
     let Some(s) = entered else {
         return Inversion { answer: Err(11), count, fate: fate_of(Fate::Answers) };
     };
-    let (place, fate) = invert(b, y, cv(s), o, &mut count);
+    let (place, fate) = invert(lerp, b, y, cv(s), o, &mut count);
     let answer = place.ok_or(11).map(|p| Place {
         parameter: (s as f64 + p.local) * (1.0 / k as f64),
         segment: s,
