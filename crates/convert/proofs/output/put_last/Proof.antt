@@ -1,19 +1,15 @@
 use mathlib.Core.Path.{_≡_}
-use mathlib.Core.List.{List}
-use Prim.Native.Nat.{ℕ, _+_, _-_, _≤_, _<_}
+use Prim.Native.Nat.{ℕ, _≤_, _<_}
 use native.Mathlib.Omega.{arith}
-use lib.ListN.{length, drop, set, length-set}
-use lib.Ieee.{Float}
-use Rattle.spline.specs.declared.Weights.{Weights}
-use Rattle.convert.specs.Buffer.{placed, listOf}
+use lib.ListN.{length-set}
 use Rattle.convert.proofs.Writing.{put-1, put-2, put-3, put-4}
 use borrow.Author.Needs.{needs}
 use Rattle.convert.proofs.output.put_last.Statement.{statement}
 use Rattle.convert.proofs.output.put_last.Tie as tie
 
 -- four is what is left
-put-four : (o : List Float) (at : ℕ) (w : Weights) (gap : ℕ) → (gap ≡ 1 → Prim.⊥) → (gap ≡ 2 → Prim.⊥) → (gap ≡ 3 → Prim.⊥) → 0 < gap → gap ≤ 4 → at + gap ≤ length o → set (set (set (set o at (w .w0)) (at + 1) (w .w1)) (at + 2) (w .w2)) (at + 3) (w .w3) ≡ placed at (drop (4 - gap) (listOf w)) o
-put-four o at w gap p q r some most room = put-4 o at w gap (omega arith) room
+four : (gap : ℕ) → (gap ≡ 1 → Prim.⊥) → (gap ≡ 2 → Prim.⊥) → (gap ≡ 3 → Prim.⊥) → 0 < gap → gap ≤ 4 → gap ≡ 4
+four gap p q r some most = omega arith
 
 mul-out : tie.Need-mul-out
 mul-out c = search needs
@@ -115,7 +111,7 @@ same-length-4 : tie.Need-same-length-4
 same-length-4 c = search needs
 
 returns-4 : tie.Need-returns-4
-returns-4 c = search (put-four, needs)
+returns-4 c = search (put-4, four, needs)
 
 pub put-last-spec : {M : Type 1} → statement M
 put-last-spec =
