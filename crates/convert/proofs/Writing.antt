@@ -39,14 +39,14 @@ module _ (o : List Float) (at : ℕ) (w : Weights) (gap : ℕ) where
 
 -- ---- one window after the other
 -- l is put behind p, which stands at the front
-pub behind : (p l o : List Float) (at : ℕ) → length p ≡ at → placed at l (p ++ drop at o) ≡ p ++ l ++ drop (at + length l) o
+behind : (p l o : List Float) (at : ℕ) → length p ≡ at → placed at l (p ++ drop at o) ≡ p ++ l ++ drop (at + length l) o
 behind p l o at e =
     ap (λ (x : List Float). x ++ l ++ drop (at + length l) (p ++ drop at o)) (take-at p (drop at o) at e)
     ∙ ap (λ (x : List Float). p ++ l ++ x)
     (ap (λ (n : ℕ). drop (n + length l) (p ++ drop at o)) (sym e) ∙ drop-append-add p (drop at o) (length l) ∙ drop-drop (length l) at o)
 
 -- what stands behind a front is what stood there before
-pub past : (p o : List Float) (at n : ℕ) → length p ≡ at → at ≤ n → drop n (p ++ drop at o) ≡ drop n o
+past : (p o : List Float) (at n : ℕ) → length p ≡ at → at ≤ n → drop n (p ++ drop at o) ≡ drop n o
 past p o at n e h =
     let k = n - at in
     let f : n ≡ length p + k = omega arith in

@@ -84,9 +84,6 @@ mul-size f a b (fin s m e) (fin t n d) A v w =
     round-size f (unlike s t) (m * up e * (n * up d)) (down e * down d) (a + b) (mul-pos (down-pos e) (down-pos d)) A
     (le-trans (mul-le-mul v w) (le-of-eq (mul-mul-mul-comm (2 ^ a) (down e) (2 ^ b) (down d) ∙ ap (λ (x : ℕ). x * (down e * down d)) (sym (pow-add 2 a b)))))
 
-less : (x y : ℕ) → x - y ≤ x + y
-less x y = omega arith
-
 sum-size : (f : Format) (a : ℕ) (s : Bool) (x : ℕ) (t : Bool) (y c : ℕ) → 0 < c → a ≤ emax f → x + y ≤ 2 ^ a * c → Size a (sum f s x t y c)
 unfolding sum
 sum-size f a s x t y c C A h = go (Bool·beq s t) (ltb x y)
@@ -136,7 +133,7 @@ minus-one-below = tt
 pub unit-within : (t : Float) → T (le nought t) → T (le t one) → Within 0 t
 unit-within t l h = between-within 0 t (le-trans-float (fin true 1 (pos 0)) nought t minus-one-below l) h
 
--- ---- from 0 to 1
+-- ---- from 0 to 1, −0 among them
 pub record InOne (x : Float) : Type 0 where
   pub low : T (le nought x)
   pub high : T (le x one)

@@ -12,9 +12,9 @@ use lib.Ieee.Fits.{down-pos}
 use lib.Ieee.Exact.{HasValue}
 use lib.Ieee.Order.{round-mono}
 use lib.Ieee.Scale.{grid, overflow, round-val, round-under}
-use Rattle.doubles.specs.Numbers.{nought, one}
+use Rattle.doubles.specs.Numbers.{one}
 use Rattle.doubles.proofs.Rounding.{Short, grid-short-le}
-use Rattle.doubles.proofs.Bounds.{Within, within-finite, round-size}
+use Rattle.doubles.proofs.Bounds.{Within, InOne, within-finite, round-size}
 use Rattle.doubles.proofs.Units.{clear, InUnit, units-of, whole-at, add-at, mul-at, clear-of, in-order, nought-le}
 use Rattle.doubles.proofs.Order.{le-trans-float}
 use Rattle.doubles.proofs.Reciprocal.{fair, is-fair}
@@ -80,8 +80,7 @@ under-one k z (fin false n d) S h =
         (le-trans (le-of-eq (simp (mul-assoc, mul-comm, mul-left-comm)))
         (le-trans (mul-le-mul-left c h) (le-of-eq (mul-left-comm c q d))))
 
-pub share-in : (k s : ℕ) (x : Float) → s < k → k ≤ 4093 → InUnit x
-    → T (le nought (mul binary64 (add binary64 (ofInt binary64 (pos s)) x) (div binary64 one (ofInt binary64 (pos k))))) × T (le (mul binary64 (add binary64 (ofInt binary64 (pos s)) x) (div binary64 one (ofInt binary64 (pos k)))) one)
+pub share-in : (k s : ℕ) (x : Float) → s < k → k ≤ 4093 → InUnit x → InOne (mul binary64 (add binary64 (ofInt binary64 (pos s)) x) (div binary64 one (ofInt binary64 (pos k))))
 share-in k s x h l u =
     let r = under-one k _ _ (summed k s x h (omega arith) u) (is-fair k (omega arith) l) in
-    (nought-le _ (r .0), r .1)
+    record { low = nought-le _ (r .0); high = r .1 }

@@ -20,6 +20,7 @@ use Rattle.doubles.proofs.Rounding.{le-or-lt, Short, grid-short-le}
 use Rattle.doubles.proofs.Tests.{branch}
 use Rattle.doubles.proofs.Order.{at-most, lt-le-absurd}
 
+-- finite, with the sign clear
 abbrev pub clear : Float → Bool
 clear nan = false
 clear (inf s) = false

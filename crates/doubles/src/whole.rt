@@ -1,4 +1,4 @@
-// The whole part of a double.
+// The whole part of a double. Rust: `to_usize`.
 ghost use mathlib.Core.Path.{_≡_};
 ghost use Prim.Native.Nat.{_≤_, min};
 ghost use Rattle.doubles.specs.Whole.{double, wholeUpTo};

@@ -10,6 +10,7 @@ use lib.ListN.{length}
 use lib.Ieee.{Float, binary64, sub, lt, le}
 use Rattle.doubles.specs.Numbers.{nought, one, magnitudeOf}
 use Rattle.doubles.proofs.Order.{le-trans-float}
+use Rattle.doubles.proofs.Bounds.{InOne}
 use Rattle.doubles.proofs.Units.{InUnit, nought-in, one-in, nought-le}
 use Rattle.doubles.proofs.Share.{share-in}
 use Rattle.invert.specs.declared.Ground.{Ground}
@@ -43,15 +44,12 @@ IfOff P (At p) = Unit
 IfOff P (OffCurve n) = P
 IfOff P (Refused r) = Unit
 
-abbrev pub From0to1 : Float → Type 0
-From0to1 x = T (le nought x) × T (le x one)
-
 -- parameter, local place and both bracket ends lie in 0 to 1, the lower end not above the upper
 pub record Proper (p : Place) : Type 0 where
-  pub parameter : From0to1 (p .parameter)
-  pub local : From0to1 (p .local)
-  pub lower : From0to1 (p .lower)
-  pub upper : From0to1 (p .upper)
+  pub parameter : InOne (p .parameter)
+  pub local : InOne (p .local)
+  pub lower : InOne (p .lower)
+  pub upper : InOne (p .upper)
   pub order : T (le (p .lower) (p .upper))
 
 module _ (e : Ends) (ev : Evaluations) (g : ℕ → Float → Float) (k : ℕ) (y ε : Float) (limit : ℕ) where
@@ -116,13 +114,13 @@ module _ (e : Ends) (ev : Evaluations) (g : ℕ → Float → Float) (k : ℕ) (
       go false false a = ap (answered (parameterOf k)) (find-same g h y ε limit (e .rising) k ev a)
 
 module _ (e : Ends) (ev : Evaluations) (g : ℕ → Float → Float) (k : ℕ) (y ε : Float) (limit : ℕ) (some : 0 < k) (fits : k ≤ 4093) (numbers : (s : ℕ) → s < k → Numbers (g s) y) where
-  from-unit : (x : Float) → InUnit x → From0to1 x
-  from-unit x u = (nought-le x (u .sign), u .top)
+  from-unit : (x : Float) → InUnit x → InOne x
+  from-unit x u = record { low = nought-le x (u .sign); high = u .top }
 
-  nought-from : From0to1 nought
+  nought-from : InOne nought
   nought-from = from-unit nought nought-in
 
-  one-from : From0to1 one
+  one-from : InOne one
   one-from = from-unit one one-in
 
   in-bounded : (p : Place) → In e ev g k y ε limit p → p .count ≤ most e ev g k y ε limit

@@ -50,6 +50,7 @@ module _ (e : Ends) (ev : Evaluations) (g : ℕ → Float → Float) (k : ℕ) (
     pub sound : Sound (g (p .segment)) y ε (lt (g (p .segment) nought) (g (p .segment) one)) limit base (p .ground) (p .local) (p .lower) (p .upper) (p .count)
     pub scaled : p .parameter ≡ parameterOf k (p .segment) (p .local)
 
+  -- the answer is one of four: the end rule's start or end, a place in a segment that was entered, or refusal 11
   pub data Told : Inverted → Type 0 where
     at-low : T (atLow e y) → Told (ended ev 0 nought)
     at-high : T (not (atLow e y)) → T (atHigh e y) → Told (ended ev (k - 1) one)

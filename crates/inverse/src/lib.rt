@@ -128,7 +128,7 @@ fn searched(
     })
 }
 
-// Past the refusals.
+// Past the refusals: the end rule, then the search.
 fn locate(b: Basis, y: f64, knots: &[f64], limit: u16, precision: f64) -> Inverted
     requires { ⌜ (4 ≤ length (now knots)) × (length (now knots) ≤ 4096) × (isNan y ≡ false) × (allInRange (now knots) ≡ true) ⌝ }
     ensures { λ r. ⌜ r ≡ located (knotEnds b (now (knots .entry))) [] (segmentOf b (now (knots .entry))) (segmentsOf b (length (now (knots .entry)))) y precision limit ⌝ }
@@ -144,6 +144,7 @@ fn locate(b: Basis, y: f64, knots: &[f64], limit: u16, precision: f64) -> Invert
     searched(b, y, knots, limit, precision, e.rising, k)
 }
 
+// The place of y on the curve; with `check`, knots that turn back are refused.
 pub fn spline_inverse_with(
     b: Basis,
     y: f64,
@@ -161,6 +162,7 @@ pub fn spline_inverse_with(
     }
 }
 
+// The same with limit 32 and precision 1e-10.
 pub fn spline_inverse(b: Basis, y: f64, knots: &[f64], check: bool) -> Inverted
     ensures { λ r. ⌜ r ≡ inverseOf b y (now (knots .entry)) check defaultLimit defaultPrecision ⌝ }
 {

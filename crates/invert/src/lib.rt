@@ -42,6 +42,7 @@ pub enum Turned {
     Next(State, u32),
 }
 
+// Where the target was found, why the inversion stopped there, the bracket after its last move, and the evaluations counted.
 pub struct Place {
     pub parameter: f64,
     pub ground: Ground,
@@ -52,6 +53,7 @@ pub struct Place {
     pub count: u32,
 }
 
+// An answer: refused by a row of the table, not on the curve after so many evaluations, or a place.
 pub enum Inverted {
     Refused(Refusal),
     OffCurve(u32),

@@ -33,7 +33,7 @@ fits-le t k step n h l = let q : t * step ≤ k * step = mul-le-mul-right step h
 pub fits-at : (s k step n : ℕ) → s < k → k * step + 4 ≤ n + step → s * step + 4 ≤ n
 fits-at s k step n h l = let q : suc s * step ≤ k * step = mul-le-mul-right step h in omega (arith, suc-mul s step)
 
--- the ends of segment s, from its row sums
+-- ---- the ends of segment s, from its row sums
 pub tested : (b : Basis) (ks : List Float) (s : ℕ) (y : Float) {w : Weights} {v0 v1 : Float} {h : Bool} → w ≡ weightsOf (matrixOf b) (drop (s * stepOf b) ks) → v0 ≡ hornerOf w nought → v1 ≡ hornerOf w one → h ≡ encloses v0 v1 y
     → TestedIs b ks s y (record { weights = w; start = v0; holds = h })
 tested b ks s y {v1 = v1} e e0 e1 eh =
@@ -41,6 +41,7 @@ tested b ks s y {v1 = v1} e e0 e1 eh =
     let p1 = e1 ∙ ap (λ (w : Weights). hornerOf w one) e in
     record { weights-are = e; start-is = p0; holds-is = eh ∙ ap (λ (v : Float). encloses v v1 y) p0 ∙ ap (λ (v : Float). encloses (segmentOf b ks s nought) v y) p1 }
 
+-- ---- the tries
 -- the segments from first up to below end are tried in order, and those below s are done
 pub record Carried (b : Basis) (ks : List Float) (y ε : Float) (limit first end count s made : ℕ) : Type 0 where
   pub so-far : (ev : Evaluations) → length ev ≡ count

@@ -53,7 +53,7 @@ module _ (b : Basis) (x : Float) (ks : List Float) (s : Sound b x ks) where
 
 -- ---- every value told is finite
 -- a value is told only where the verdict is passed, and then it is the value
-pub told : (v : Verdict) {f r : Float} → evaluated v f ≡ Value r → (v ≡ Passed) × (f ≡ r)
+told : (v : Verdict) {f r : Float} → evaluated v f ≡ Value r → (v ≡ Passed) × (f ≡ r)
 told Passed e = (refl, cc)
 told (Failed q) e = never (cc)
 
