@@ -1,7 +1,7 @@
 // The six bases: STEP, the length rule and the matrices. Rust: src/basis.rs.
 ghost use mathlib.Core.Path.{_≡_};
 ghost use Prim.Native.Nat.{_≤_, _<_};
-ghost use Rattle.basis.specs.Basis.{stepOf, lengthOk};
+ghost use Rattle.basis.specs.Basis.{stepOf, lengthOk, segmentsOf};
 
 pub mod basis_macros;
 
@@ -35,4 +35,20 @@ pub fn is_len_ok(b: Basis, n: usize) -> bool
         return false;
     }
     (n - 4) % step(b) == 0
+}
+
+// How many segments n knots make. A match, so that each divisor is a constant.
+pub fn segments(b: Basis, n: usize) -> usize
+    requires { ⌜ 4 ≤ n ⌝ }
+    ensures { λ r. ⌜ r ≡ segmentsOf b n ⌝ }
+{
+    let m = n - 4;
+    match b {
+        Basis::Bspline => m + 1,
+        Basis::Bezier => m / 3 + 1,
+        Basis::CatmullRom => m + 1,
+        Basis::Hermite => m / 2 + 1,
+        Basis::Linear => m + 1,
+        Basis::Power => m / 4 + 1,
+    }
 }

@@ -1,15 +1,12 @@
 -- The inversion of a curve, put together from what the code's calls give. Assumes nothing.
-use mathlib.Core.Path.{_≡_, sym, ap, _∙_, subst}
+use mathlib.Core.Path.{_≡_, ap, _∙_, subst}
 use mathlib.Core.List.{[], _∷_}
 use mathlib.Core.Bool.{true, false}
-use Prim.Native.Nat.{ℕ, _+_, _-_, _/_}
-use native.Mathlib.Nat.{div-one}
+use Prim.Native.Nat.{ℕ, _-_}
 use lib.ListN.{length}
 use lib.Ieee.{Float}
 use types.Run.{OneOf, miss}
 use Rattle.error.proofs.First.{never}
-use Rattle.basis.specs.declared.Basis.{Basis}
-use Rattle.basis.specs.Basis.{stepOf, segmentsOf}
 use Rattle.doubles.specs.Numbers.{nought, one}
 use Rattle.invert.specs.declared.Place.{Place}
 use Rattle.invert.specs.declared.Inverted.{Inverted}
@@ -20,13 +17,6 @@ use Rattle.search.specs.Search.{find}
 use Rattle.inverse.specs.declared.Ends.{Ends}
 use Rattle.inverse.specs.EndRule.{atLow, atHigh}
 use Rattle.inverse.specs.Curve.{parameterOf, ended, located}
-
--- ---- the number of segments
-pub by-step : (b c : Basis) (n : ℕ) → b ≡ c → (n - 4) / stepOf c + 1 ≡ segmentsOf b n
-by-step b c n e = ap (λ (z : Basis). segmentsOf z n) (sym e)
-
-pub by-one : (b c : Basis) (n : ℕ) → b ≡ c → stepOf c ≡ 1 → n - 4 + 1 ≡ segmentsOf b n
-by-one b c n e o = rw (e, o, div-one)
 
 -- ---- the search's answer, with another parameter
 module _ (P : ℕ → Float → Float) where

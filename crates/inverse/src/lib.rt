@@ -82,22 +82,6 @@ fn parameter(k: usize, s: usize, x: f64) -> f64
     (doubles::whole::double_of(s) + x) * (1.0 / doubles::whole::double_of(k))
 }
 
-// A match, so that each divisor is a constant.
-pub fn segments(b: Basis, n: usize) -> usize
-    requires { ⌜ 4 ≤ n ⌝ }
-    ensures { λ r. ⌜ r ≡ segmentsOf b n ⌝ }
-{
-    let m = n - 4;
-    match b {
-        Basis::Bspline => m + 1,
-        Basis::Bezier => m / 3 + 1,
-        Basis::CatmullRom => m + 1,
-        Basis::Hermite => m / 2 + 1,
-        Basis::Linear => m + 1,
-        Basis::Power => m / 4 + 1,
-    }
-}
-
 // The search's answer, with the parameter of its place on the whole curve.
 fn searched(
     b: Basis,
@@ -133,7 +117,7 @@ fn locate(b: Basis, y: f64, knots: &[f64], limit: u16, precision: f64) -> Invert
     requires { ⌜ (4 ≤ length (now knots)) × (length (now knots) ≤ 4096) × (isNan y ≡ false) × (allInRange (now knots) ≡ true) ⌝ }
     ensures { λ r. ⌜ r ≡ located (knotEnds b (now (knots .entry))) [] (segmentOf b (now (knots .entry))) (segmentsOf b (length (now (knots .entry)))) y precision limit ⌝ }
 {
-    let k = segments(b, knots.len());
+    let k = basis::segments(b, knots.len());
     let e = knot_ends(b, knots);
     if is_at_low(e, y) {
         return end_place(0, 0.0);

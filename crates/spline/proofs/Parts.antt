@@ -1,5 +1,5 @@
 -- The part of a slice from a place on, and where a curve's segments start. Assumes nothing.
-use mathlib.Core.Path.{_≡_, sym, ap, _∙_}
+use mathlib.Core.Path.{_≡_, sym, ap, _∙_, subst}
 use mathlib.Core.List.{List}
 use Prim.Native.Nat.{ℕ, _+_, _-_, _*_, _/_, _≤_, _<_}
 use native.Mathlib.Nat.{le-trans, mul-le-mul-right, div-mul-le-self, div-le-self}
@@ -8,7 +8,7 @@ use lib.ListN.{length, take, drop, length-drop}
 use lib.Seq.{take-all}
 use lib.Ieee.{Float, binary64, mul, sub}
 use Rattle.basis.specs.declared.Basis.{Basis}
-use Rattle.basis.specs.Basis.{stepOf, matrixOf}
+use Rattle.basis.specs.Basis.{stepOf, segmentsOf, matrixOf}
 use Rattle.doubles.specs.Numbers.{clamp}
 use Rattle.doubles.specs.Whole.{double, wholeUpTo}
 use Rattle.spline.specs.Segment.{weightsOf, hornerOf, segmentValue}
@@ -31,19 +31,23 @@ few n step h = le-trans (div-le-self (n - 4) step) (omega arith)
 pub spotted : (k : ℕ) (x : Float) {q kd sd : Float} {s : ℕ} → 0 < k → q ≡ clamp x → kd ≡ double k → s ≡ wholeUpTo (k - 1) (mul binary64 q kd) → s ≤ k - 1 → sd ≡ double s → Spotted k x s (sub binary64 (mul binary64 q kd) sd)
 spotted k x K a b c h d = record { segment = c ∙ simp (a, b); local = simp (d, c, b, a); below = omega arith }
 
-pub under : {d s : ℕ} {x t : Float} → Spotted (d + 1) x s t → s ≤ d
-under v = let h = v .below in omega arith
+pub under : {d k s : ℕ} {x t : Float} → k ≡ d + 1 → Spotted k x s t → s ≤ d
+under e v = let h = v .below in omega (arith, e)
 
 -- a curve's value, from what its steps come to
-pub put-together : (m : List (List Float)) (step : ℕ) (x : Float) (ks : List Float) {r t : Float} {s : ℕ} {w : Weights} → Spotted ((length ks - 4) / step + 1) x s t → w ≡ weightsOf m (take (length ks - s * step) (drop (s * step) ks))
+pub put-together : (m : List (List Float)) (step k : ℕ) (x : Float) (ks : List Float) {r t : Float} {s : ℕ} {w : Weights} → k ≡ (length ks - 4) / step + 1 → Spotted k x s t → w ≡ weightsOf m (take (length ks - s * step) (drop (s * step) ks))
     → r ≡ hornerOf w t → r ≡ curveAt m step x ks
 unfolding curveAt
-put-together m step x ks v e f = f ∙ simp (e, rest, v .segment, v .local)
+put-together m step k x ks {r} {t} {s} n u e f = let v = subst (λ (j : ℕ). Spotted j x s t) n u in f ∙ simp (e, rest, v .segment, v .local)
 
 -- a segment's value, where the basis is known
 pub by-basis-segment : (b c : Basis) (m : List (List Float)) (cv : List Float) (t : Float) {w : Weights} {r : Float} → b ≡ c → m ≡ matrixOf c → w ≡ weightsOf m cv → r ≡ hornerOf w t → r ≡ segmentValue (matrixOf b) cv t
 by-basis-segment b c m cv t e k h f =
     f ∙ (ap (λ (w : Weights). hornerOf w t) h ∙ (ap (λ (n : List (List Float)). segmentValue n cv t) k ∙ ap (λ (d : Basis). segmentValue (matrixOf d) cv t) (sym e)))
+
+-- the number of segments of a basis that is known
+pub by-count : (b c : Basis) (n : ℕ) {k : ℕ} → b ≡ c → k ≡ segmentsOf b n → k ≡ (n - 4) / stepOf c + 1
+by-count b c n e h = h ∙ ap (λ (z : Basis). segmentsOf z n) e
 
 -- the value for a basis that is known
 pub by-basis : (b c : Basis) (m : List (List Float)) (x : Float) (ks : List Float) {r : Float} → b ≡ c → m ≡ matrixOf c → r ≡ curveAt m (stepOf c) x ks → r ≡ curveValue b x ks

@@ -1,7 +1,11 @@
-use Rattle.spline.proofs.Parts.{by-basis}
+use Rattle.basis.specs.declared.Basis.the-variants.{Bspline, Bezier, CatmullRom, Hermite, Linear, Power}
+use Rattle.spline.proofs.Parts.{by-count, by-basis}
 use borrow.Author.Needs.{needs}
 use Rattle.spline.proofs.curve.curve_value.Statement.{statement}
 use Rattle.spline.proofs.curve.curve_value.Tie as tie
+
+segments-requires : tie.Need-segments-requires
+segments-requires c κs = search needs
 
 enum-told : tie.Need-enum-told
 enum-told c = search needs
@@ -10,7 +14,7 @@ bspline-requires : tie.Need-bspline-requires
 bspline-requires c κs = search needs
 
 at-requires : tie.Need-at-requires
-at-requires c κs = search needs
+at-requires c κs = (search needs, by-count _ Bspline _ (c .before .enum-told .given .1) (c .before .before .before .segments .ensures), search needs, search needs)
 
 enum-told-2 : tie.Need-enum-told-2
 enum-told-2 c = search needs
@@ -19,7 +23,7 @@ bezier-requires : tie.Need-bezier-requires
 bezier-requires c κs = search needs
 
 at-requires-2 : tie.Need-at-requires-2
-at-requires-2 c κs = search needs
+at-requires-2 c κs = (search needs, by-count _ Bezier _ (c .before .enum-told2 .given .1) (c .before .before .before .segments .ensures), search needs, search needs)
 
 enum-told-3 : tie.Need-enum-told-3
 enum-told-3 c = search needs
@@ -28,7 +32,7 @@ catmull-rom-requires : tie.Need-catmull-rom-requires
 catmull-rom-requires c κs = search needs
 
 at-requires-3 : tie.Need-at-requires-3
-at-requires-3 c κs = search needs
+at-requires-3 c κs = (search needs, by-count _ CatmullRom _ (c .before .enum-told3 .given .1) (c .before .before .before .segments .ensures), search needs, search needs)
 
 enum-told-4 : tie.Need-enum-told-4
 enum-told-4 c = search needs
@@ -37,7 +41,7 @@ hermite-requires : tie.Need-hermite-requires
 hermite-requires c κs = search needs
 
 at-requires-4 : tie.Need-at-requires-4
-at-requires-4 c κs = search needs
+at-requires-4 c κs = (search needs, by-count _ Hermite _ (c .before .enum-told4 .given .1) (c .before .before .before .segments .ensures), search needs, search needs)
 
 enum-told-5 : tie.Need-enum-told-5
 enum-told-5 c = search needs
@@ -46,7 +50,7 @@ linear-requires : tie.Need-linear-requires
 linear-requires c κs = search needs
 
 at-requires-5 : tie.Need-at-requires-5
-at-requires-5 c κs = search needs
+at-requires-5 c κs = (search needs, by-count _ Linear _ (c .before .enum-told5 .given .1) (c .before .before .before .segments .ensures), search needs, search needs)
 
 enum-told-6 : tie.Need-enum-told-6
 enum-told-6 c = search needs
@@ -55,7 +59,7 @@ power-requires : tie.Need-power-requires
 power-requires c κs = search needs
 
 at-requires-6 : tie.Need-at-requires-6
-at-requires-6 c κs = search needs
+at-requires-6 c κs = (search needs, by-count _ Power _ (c .before .enum-told6 .given .1) (c .before .before .before .segments .ensures), search needs, search needs)
 
 returns : tie.Need-returns
 returns c = by-basis _ _ _ _ _ (c .before .before .enum-told .given .1) (c .before .bspline .ensures) (c .at .ensures)
@@ -79,6 +83,7 @@ pub curve-value-spec : {M : Type 1} → statement M
 curve-value-spec =
     tie.close
     (tie.spec
+    segments-requires
     enum-told
     bspline-requires
     at-requires

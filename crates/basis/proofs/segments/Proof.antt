@@ -1,9 +1,9 @@
 use mathlib.Core.Path.{refl}
 use Rattle.basis.specs.declared.Basis.the-variants.{Bspline, Bezier, CatmullRom, Hermite, Linear, Power}
-use Rattle.inverse.proofs.Calls.{by-one, by-step}
+use Rattle.basis.proofs.Count.{by-one, by-step}
 use borrow.Author.Needs.{needs}
-use Rattle.inverse.proofs.segments.Statement.{statement}
-use Rattle.inverse.proofs.segments.Tie as tie
+use Rattle.basis.proofs.segments.Statement.{statement}
+use Rattle.basis.proofs.segments.Tie as tie
 
 sub-m : tie.Need-sub-m
 sub-m c = search needs
