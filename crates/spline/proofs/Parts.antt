@@ -13,7 +13,7 @@ use Rattle.doubles.specs.Numbers.{clamp}
 use Rattle.doubles.specs.Whole.{double, wholeUpTo}
 use Rattle.spline.specs.Segment.{weightsOf, hornerOf, segmentValue}
 use Rattle.spline.specs.Curve.{curveValue}
-use Rattle.spline.specs.Shown.{Spotted, curveAt}
+use Rattle.spline.specs.Shown.{Spotted}
 use Rattle.spline.specs.declared.Weights.{Weights}
 
 -- the part from i on
@@ -34,22 +34,19 @@ spotted k x K a b c h d = record { segment = c ∙ simp (a, b); local = simp (d,
 pub under : {d k s : ℕ} {x t : Float} → k ≡ d + 1 → Spotted k x s t → s ≤ d
 under e v = let h = v .below in omega (arith, e)
 
+-- the segment where a parameter lies has four knots
+pub starts : (b : Basis) (n : ℕ) {k step s : ℕ} {x t : Float} → 4 ≤ n → k ≡ segmentsOf b n → step ≡ stepOf b → Spotted k x s t → s * step + 4 ≤ n
+starts b n {k} {step} {s} h c e v =
+    let i : s * stepOf b ≤ n - 4 = inside s (stepOf b) (n - 4) (under c v) in
+    subst (λ (j : ℕ). s * j + 4 ≤ n) (sym e) (omega (arith, i))
+
 -- a curve's value, from what its steps come to
-pub put-together : (m : List (List Float)) (step k : ℕ) (x : Float) (ks : List Float) {r t : Float} {s : ℕ} {w : Weights} → k ≡ (length ks - 4) / step + 1 → Spotted k x s t → w ≡ weightsOf m (take (length ks - s * step) (drop (s * step) ks))
-    → r ≡ hornerOf w t → r ≡ curveAt m step x ks
-unfolding curveAt
-put-together m step k x ks {r} {t} {s} n u e f = let v = subst (λ (j : ℕ). Spotted j x s t) n u in f ∙ simp (e, rest, v .segment, v .local)
+pub put-together : (b : Basis) (x : Float) (ks : List Float) {k step s : ℕ} {r t : Float} → k ≡ segmentsOf b (length ks) → step ≡ stepOf b → Spotted k x s t
+    → r ≡ segmentValue (matrixOf b) (take (length ks - s * step) (drop (s * step) ks)) t → r ≡ curveValue b x ks
+unfolding curveValue
+put-together b x ks {k} {step} {s} {r} {t} c e u f = let v = subst (λ (j : ℕ). Spotted j x s t) c u in f ∙ simp (rest, e, v .segment, v .local)
 
 -- a segment's value, where the basis is known
 pub by-basis-segment : (b c : Basis) (m : List (List Float)) (cv : List Float) (t : Float) {w : Weights} {r : Float} → b ≡ c → m ≡ matrixOf c → w ≡ weightsOf m cv → r ≡ hornerOf w t → r ≡ segmentValue (matrixOf b) cv t
 by-basis-segment b c m cv t e k h f =
     f ∙ (ap (λ (w : Weights). hornerOf w t) h ∙ (ap (λ (n : List (List Float)). segmentValue n cv t) k ∙ ap (λ (d : Basis). segmentValue (matrixOf d) cv t) (sym e)))
-
--- the number of segments of a basis that is known
-pub by-count : (b c : Basis) (n : ℕ) {k : ℕ} → b ≡ c → k ≡ segmentsOf b n → k ≡ (n - 4) / stepOf c + 1
-by-count b c n e h = h ∙ ap (λ (z : Basis). segmentsOf z n) e
-
--- the value for a basis that is known
-pub by-basis : (b c : Basis) (m : List (List Float)) (x : Float) (ks : List Float) {r : Float} → b ≡ c → m ≡ matrixOf c → r ≡ curveAt m (stepOf c) x ks → r ≡ curveValue b x ks
-unfolding curveAt curveValue
-by-basis b c m x ks e k h = h ∙ (ap (λ (n : List (List Float)). curveAt n (stepOf c) x ks) k ∙ ap (λ (d : Basis). curveValue d x ks) (sym e))
