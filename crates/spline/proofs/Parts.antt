@@ -41,10 +41,10 @@ starts b n {k} {step} {s} h c e v =
     subst (λ (j : ℕ). s * j + 4 ≤ n) (sym e) (omega (arith, i))
 
 -- a curve's value, from what its steps come to
-pub put-together : (b : Basis) (x : Float) (ks : List Float) {k step s : ℕ} {r t : Float} → k ≡ segmentsOf b (length ks) → step ≡ stepOf b → Spotted k x s t
-    → r ≡ segmentValue (matrixOf b) (take (length ks - s * step) (drop (s * step) ks)) t → r ≡ curveValue b x ks
+pub put-together : (b : Basis) (x : Float) (ks : List Float) {k step s : ℕ} {r t : Float} {w : Weights} → k ≡ segmentsOf b (length ks) → step ≡ stepOf b → Spotted k x s t
+    → w ≡ weightsOf (matrixOf b) (take (length ks - s * step) (drop (s * step) ks)) → r ≡ hornerOf w t → r ≡ curveValue b x ks
 unfolding curveValue
-put-together b x ks {k} {step} {s} {r} {t} c e u f = let v = subst (λ (j : ℕ). Spotted j x s t) c u in f ∙ simp (rest, e, v .segment, v .local)
+put-together b x ks {k} {step} {s} {r} {t} c e u h f = let v = subst (λ (j : ℕ). Spotted j x s t) c u in f ∙ simp (h, rest, e, v .segment, v .local)
 
 -- a segment's value, where the basis is known
 pub by-basis-segment : (b c : Basis) (m : List (List Float)) (cv : List Float) (t : Float) {w : Weights} {r : Float} → b ≡ c → m ≡ matrixOf c → w ≡ weightsOf m cv → r ≡ hornerOf w t → r ≡ segmentValue (matrixOf b) cv t

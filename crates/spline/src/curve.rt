@@ -32,5 +32,5 @@ pub fn curve_value(b: Basis, x: f64, knots: &[f64]) -> f64
     let z = place(k, x);
     let s = z.s;
     let start = s * basis::step(b);
-    crate::segment::segment_value(b, &knots[start..], z.t)
+    crate::segment::horner(crate::segment::weights(b, &knots[start..]), z.t)
 }

@@ -22,35 +22,38 @@ mul-start c =
     let o = c .before .before .before .before in
     omega (arith, o .pre .1, starts (o .args .b) (length (o .args .knots .now)) (o .pre .0) (c .before .before .segments .ensures) (c .step .ensures .0) (c .before .place .ensures))
 
-mul-segment-value : tie.Need-mul-segment-value
-mul-segment-value c =
+mul-weights : tie.Need-mul-weights
+mul-weights c =
     let o = c .before .before .before .before in
     omega (arith, o .pre .1, starts (o .args .b) (length (o .args .knots .now)) (o .pre .0) (c .before .before .segments .ensures) (c .step .ensures .0) (c .before .place .ensures))
 
-sub-segment-value : tie.Need-sub-segment-value
-sub-segment-value c =
+sub-weights : tie.Need-sub-weights
+sub-weights c =
     let o = c .before .before .before .before in
     omega (arith, starts (o .args .b) (length (o .args .knots .now)) (o .pre .0) (c .before .before .segments .ensures) (c .step .ensures .0) (c .before .place .ensures))
 
-part-segment-value-start : tie.Need-part-segment-value-start
-part-segment-value-start c =
+part-weights-start : tie.Need-part-weights-start
+part-weights-start c =
     let o = c .before .before .before .before in
     omega (arith, starts (o .args .b) (length (o .args .knots .now)) (o .pre .0) (c .before .before .segments .ensures) (c .step .ensures .0) (c .before .place .ensures))
 
-part-segment-value-end : tie.Need-part-segment-value-end
-part-segment-value-end c = search needs
+part-weights-end : tie.Need-part-weights-end
+part-weights-end c = search needs
 
-segment-value-requires : tie.Need-segment-value-requires
-segment-value-requires c κs =
+weights-requires : tie.Need-weights-requires
+weights-requires c κs =
     let p = c .before in
     let o = p .before .before .before .before in
     simp (rest, length-drop) (omega (arith, starts (o .args .b) (length (o .args .knots .now)) (o .pre .0) (p .before .before .segments .ensures) (p .step .ensures .0) (p .before .place .ensures)))
 
+horner-requires : tie.Need-horner-requires
+horner-requires c κs = search needs
+
 returns : tie.Need-returns
 returns c =
-    let p = c .before .before in
+    let p = c .before .before .before in
     let o = p .before .before .before .before in
-    put-together (o .args .b) (o .args .x) (o .args .knots .now) (p .before .before .segments .ensures) (p .step .ensures .0) (p .before .place .ensures) (c .segment-value .ensures)
+    put-together (o .args .b) (o .args .x) (o .args .knots .now) (p .before .before .segments .ensures) (p .step .ensures .0) (p .before .place .ensures) (c .before .weights .ensures) (c .horner .ensures)
 
 pub curve-value-spec : {M : Type 1} → statement M
 curve-value-spec =
@@ -60,9 +63,10 @@ curve-value-spec =
     place-requires
     step-requires
     mul-start
-    mul-segment-value
-    sub-segment-value
-    part-segment-value-start
-    part-segment-value-end
-    segment-value-requires
+    mul-weights
+    sub-weights
+    part-weights-start
+    part-weights-end
+    weights-requires
+    horner-requires
     returns)
