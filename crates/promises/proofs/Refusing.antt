@@ -23,7 +23,7 @@ use Rattle.spline.proofs.spline.Reads as spline
 use Rattle.spline.proofs.spline_segment.Reads as spline_segment
 use Rattle.invert.specs.declared.Inverted.the-variants as I
 use Rattle.invert.specs.Segment.{Outcome, inSegment}
-use Rattle.invert.specs.Answer.{answered, inverted, alone, inverseSegmentUses, inverseSegmentOf}
+use Rattle.invert.specs.Answer.{answered, inverted, alone, inverseSegmentUses, inverseSegmentOf, defaultLimit, defaultPrecision}
 use Rattle.invert.proofs.Verdicts.{answered-past, refused-by}
 use Rattle.invert.proofs.spline_inverse_segment_with.Reads as spline_inverse_segment_with
 use Rattle.invert.proofs.spline_inverse_segment.Reads as spline_inverse_segment
@@ -122,13 +122,21 @@ spline-refuses κs a z e p r = carried p (value-refused (a .0) (a .1 .0) (now (a
 pub spline-segment-refuses : Keeps spline_segment.Learnt (λ κs a z e. (r : Refusal) → Exactly (z ≡ E.Refused r) (First (splineSegmentUses (a .1 .0) (now (a .1 .1 .0))) rows r))
 spline-segment-refuses κs a z e p r = carried p (segment-value-refused (a .0) (a .1 .0) (now (a .1 .1 .0)) r)
 
-pub spline-inverse-segment-refuses : Keeps spline_inverse_segment_with.Learnt
+pub spline-inverse-segment-with-refuses : Keeps spline_inverse_segment_with.Learnt
     (λ κs a z e. (r : Refusal) → Exactly (z ≡ I.Refused r) (First (inverseSegmentUses (a .1 .0) (now (a .1 .1 .0)) (a .1 .1 .1 .0) (a .1 .1 .1 .1 .0)) rows r))
-spline-inverse-segment-refuses κs a z e p r = carried p (segment-place-refused (a .0) (a .1 .0) (now (a .1 .1 .0)) (a .1 .1 .1 .0) (a .1 .1 .1 .1 .0) r)
+spline-inverse-segment-with-refuses κs a z e p r = carried p (segment-place-refused (a .0) (a .1 .0) (now (a .1 .1 .0)) (a .1 .1 .1 .0) (a .1 .1 .1 .1 .0) r)
 
-pub spline-inverse-refuses : Keeps spline_inverse_with.Learnt
+pub spline-inverse-segment-refuses : Keeps spline_inverse_segment.Learnt
+    (λ κs a z e. (r : Refusal) → Exactly (z ≡ I.Refused r) (First (inverseSegmentUses (a .1 .0) (now (a .1 .1 .0)) defaultLimit defaultPrecision) rows r))
+spline-inverse-segment-refuses κs a z e p r = carried p (segment-place-refused (a .0) (a .1 .0) (now (a .1 .1 .0)) defaultLimit defaultPrecision r)
+
+pub spline-inverse-with-refuses : Keeps spline_inverse_with.Learnt
     (λ κs a z e. (r : Refusal) → Exactly (z ≡ I.Refused r) (First (inverseUses (a .0) (a .1 .0) (now (a .1 .1 .0)) (a .1 .1 .1 .0) (a .1 .1 .1 .1 .0) (a .1 .1 .1 .1 .1 .0)) rows r))
-spline-inverse-refuses κs a z e p r = carried p (place-refused (a .0) (a .1 .0) (now (a .1 .1 .0)) (a .1 .1 .1 .0) (a .1 .1 .1 .1 .0) (a .1 .1 .1 .1 .1 .0) r)
+spline-inverse-with-refuses κs a z e p r = carried p (place-refused (a .0) (a .1 .0) (now (a .1 .1 .0)) (a .1 .1 .1 .0) (a .1 .1 .1 .1 .0) (a .1 .1 .1 .1 .1 .0) r)
+
+pub spline-inverse-refuses : Keeps spline_inverse.Learnt
+    (λ κs a z e. (r : Refusal) → Exactly (z ≡ I.Refused r) (First (inverseUses (a .0) (a .1 .0) (now (a .1 .1 .0)) (a .1 .1 .1 .0) defaultLimit defaultPrecision) rows r))
+spline-inverse-refuses κs a z e p r = carried p (place-refused (a .0) (a .1 .0) (now (a .1 .1 .0)) (a .1 .1 .1 .0) defaultLimit defaultPrecision r)
 
 pub convert-segment-refuses : Keeps convert_segment.Learnt
     (λ κs a z e. (r : Refusal) → Exactly (z ≡ C.Refused r) (First (convertSegmentUses (a .1 .0) (now (a .1 .1 .0)) (length (now (a .1 .1 .1 .0)))) rows r))

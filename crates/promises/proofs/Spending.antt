@@ -25,7 +25,7 @@ use Rattle.invert.specs.Evaluations.{Evaluations}
 use Rattle.invert.specs.Round.{Weighting, halving, narrow, weighed, fraction, falsi, Turn, found, on, turn, probed, settled}
 use Rattle.invert.specs.Rounds.{Placed, rounds}
 use Rattle.invert.specs.Segment.{encloses, near, start, opening, entered, Outcome, off, placed, evaluationsOf, inSegmentBy}
-use Rattle.invert.specs.Answer.{answered, inverted}
+use Rattle.invert.specs.Answer.{answered, inverted, defaultLimit, defaultPrecision}
 use Rattle.invert.proofs.Ends.{both}
 use Rattle.search.specs.Bound.{bitsOf}
 use Rattle.search.specs.Search.{before, tries, last, halve, find}
@@ -34,6 +34,7 @@ use Rattle.inverse.specs.Curve.{parameterOf, ended, located, evaluations}
 use Rattle.inverse.specs.Inverse.{inverseUses, inverseOf, unlessRefused, inverseEvaluations}
 use Rattle.inverse.proofs.Facts.{AtPlace}
 use Rattle.inverse.proofs.spline_inverse_with.Reads as spline_inverse_with
+use Rattle.inverse.proofs.spline_inverse.Reads as spline_inverse
 use Rattle.promises.specs.Calls.{Keeps}
 
 abbrev pub IsSpent : Ground → Type 0
@@ -137,6 +138,11 @@ module _ (b : Basis) (y : Float) (ks : List Float) (check : Bool) (limit : ℕ) 
       go Passed false false (placed p) h = h
       go (Failed r) a c o h = tt
 
+  reply-spent : (r : Inverted) → r ≡ inverseOf b y ks check limit ε → AllRounds r
+  reply-spent r e = subst AllRounds (sym e) inverse-spent
+
 pub spline-inverse-with-spent : Keeps spline_inverse_with.Learnt (λ κs a z e. AllRounds (a .0) (a .1 .0) (now (a .1 .1 .0)) (a .1 .1 .1 .0) (a .1 .1 .1 .1 .0) (a .1 .1 .1 .1 .1 .0) z)
-spline-inverse-with-spent κs a z e p =
-    subst (AllRounds (a .0) (a .1 .0) (now (a .1 .1 .0)) (a .1 .1 .1 .0) (a .1 .1 .1 .1 .0) (a .1 .1 .1 .1 .1 .0)) (sym p) (inverse-spent (a .0) (a .1 .0) (now (a .1 .1 .0)) (a .1 .1 .1 .0) (a .1 .1 .1 .1 .0) (a .1 .1 .1 .1 .1 .0))
+spline-inverse-with-spent κs a z e p = reply-spent (a .0) (a .1 .0) (now (a .1 .1 .0)) (a .1 .1 .1 .0) (a .1 .1 .1 .1 .0) (a .1 .1 .1 .1 .1 .0) z p
+
+pub spline-inverse-spent : Keeps spline_inverse.Learnt (λ κs a z e. AllRounds (a .0) (a .1 .0) (now (a .1 .1 .0)) (a .1 .1 .1 .0) defaultLimit defaultPrecision z)
+spline-inverse-spent κs a z e p = reply-spent (a .0) (a .1 .0) (now (a .1 .1 .0)) (a .1 .1 .1 .0) defaultLimit defaultPrecision z p
