@@ -13,6 +13,8 @@ use Rattle.invert.specs.declared.Inverted.{Inverted}
 use Rattle.invert.specs.declared.Inverted.the-variants.{At}
 use Rattle.invert.specs.Segment.{Outcome, off, placed}
 use Rattle.invert.specs.Answer.{answered, alone}
+use Rattle.invert.specs.Round.{Weighting}
+use Rattle.search.specs.Trial.{trial}
 use Rattle.search.specs.Search.{find}
 use Rattle.inverse.specs.declared.Ends.{Ends}
 use Rattle.inverse.specs.EndRule.{atLow, atHigh}
@@ -32,15 +34,15 @@ module _ (P : ℕ → Float → Float) where
       rw (h, s)
 
 -- ---- the end rule's two tests, then the search: e' is what the end rule goes by, as the code has it
-module _ (e : Ends) (g : ℕ → Float → Float) (k : ℕ) (y ε : Float) (limit : ℕ) (e' : Ends) (q : e' ≡ e) {r : Inverted} where
-  pub located-low : atLow e' y ≡ true → r ≡ ended [] 0 nought → r ≡ located e [] g k y ε limit
+module _ (W : Weighting) (e : Ends) (g : ℕ → Float → Float) (k : ℕ) (y ε : Float) (limit : ℕ) (e' : Ends) (q : e' ≡ e) {r : Inverted} where
+  pub located-low : atLow e' y ≡ true → r ≡ ended [] 0 nought → r ≡ located W e [] g k y ε limit
   unfolding located
-  located-low t h = subst (λ (z : Ends). r ≡ located z [] g k y ε limit) q (h ∙ simp t)
+  located-low t h = subst (λ (z : Ends). r ≡ located W z [] g k y ε limit) q (h ∙ simp t)
 
-  pub located-high : atLow e' y ≡ false → atHigh e' y ≡ true → r ≡ ended [] (k - 1) one → r ≡ located e [] g k y ε limit
+  pub located-high : atLow e' y ≡ false → atHigh e' y ≡ true → r ≡ ended [] (k - 1) one → r ≡ located W e [] g k y ε limit
   unfolding located
-  located-high t u h = subst (λ (z : Ends). r ≡ located z [] g k y ε limit) q (h ∙ simp (t, u))
+  located-high t u h = subst (λ (z : Ends). r ≡ located W z [] g k y ε limit) q (h ∙ simp (t, u))
 
-  pub located-searched : atLow e' y ≡ false → atHigh e' y ≡ false → r ≡ answered (parameterOf k) (find g y ε limit (e' .rising) k []) → r ≡ located e [] g k y ε limit
+  pub located-searched : atLow e' y ≡ false → atHigh e' y ≡ false → r ≡ answered (parameterOf k) (find (trial W g y ε limit) y (e' .rising) k []) → r ≡ located W e [] g k y ε limit
   unfolding located
-  located-searched t u h = subst (λ (z : Ends). r ≡ located z [] g k y ε limit) q (h ∙ simp (t, u))
+  located-searched t u h = subst (λ (z : Ends). r ≡ located W z [] g k y ε limit) q (h ∙ simp (t, u))

@@ -18,7 +18,7 @@ use Rattle.spline.specs.Rows.{inRange, allInRange}
 use Rattle.invert.specs.declared.Inverted.the-variants.{OffCurve}
 use Rattle.invert.specs.Round.{narrow, halving, weighed, kept, fraction, moved, settled, probed, turn}
 use Rattle.invert.specs.Rounds.{rounds}
-use Rattle.invert.specs.Segment.{entered, inSegmentBy}
+use Rattle.invert.specs.Segment.{entered, enter}
 use Rattle.invert.specs.Answer.{precise, defaultLimit, defaultPrecision}
 use Rattle.search.specs.Bound.{bitsOf}
 use Rattle.search.specs.Search.{tries, last, halve, find}
@@ -71,5 +71,5 @@ unfolding zeros
 jumping = nought ∷ nought ∷ one ∷ nought ∷ zeros 44 (nought ∷ nought ∷ one ∷ one ∷ [])
 
 pub premise-needed : T (Holds (segmentOf Power jumping) half 13 0) × (inverseOf Power half jumping false defaultLimit defaultPrecision ≡ OffCurve 12)
-unfolding zeros jumping matrixOf row frac round ofInt ofBits add sub mul div lt le eq ne neg isNan inRange allInRange precise ordered bitsOf leadingZeros magnitudeOf lerpOf narrow halving weighed kept fraction moved settled probed turn rounds entered inSegmentBy tries last halve find parameterOf located inverseOf
+unfolding zeros jumping matrixOf row frac round ofInt ofBits add sub mul div lt le eq ne neg isNan inRange allInRange precise ordered bitsOf leadingZeros magnitudeOf lerpOf narrow halving weighed kept fraction moved settled probed turn rounds entered enter tries last halve find parameterOf located inverseOf
 premise-needed = (tt, refl)

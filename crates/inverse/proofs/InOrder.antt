@@ -18,7 +18,10 @@ use Rattle.invert.specs.Segment.{Outcome, placed}
 use Rattle.invert.specs.Answer.{answered}
 use Rattle.search.proofs.Found.{Holds, Nothing}
 use Rattle.search.proofs.First.{first-entered}
-use Rattle.search.proofs.Sound.{enters-sound}
+use Rattle.search.specs.Trial.{trial}
+use Rattle.invert.specs.Round.{halving}
+use Rattle.invert.proofs.Weighting.{halving-keeps}
+use Rattle.search.proofs.Sound.{SoundIn, trial-tried}
 use Rattle.inverse.specs.EndRule.{atLow, atHigh, knotEnds}
 use Rattle.inverse.specs.Curve.{parameterOf, located}
 use Rattle.inverse.specs.Inverse.{inverseOf}
@@ -38,13 +41,13 @@ module _ (b : Basis) (y : Float) (ks : List Float) (check : Bool) (limit : ℕ) 
   placed-in s o p e q = (_, ap (answered (parameterOf k)) e, q)
 
   located-first : Pass b y ks check limit ε → Quiet b y ks check limit ε → k ≤ 12 → (s : ℕ) → s < k → T (Holds (segmentOf b ks) y k s) → Nothing (segmentOf b ks) y k 0 s
-      → In s (located (knotEnds b ks) [] (segmentOf b ks) k y ε limit)
+      → In s (located halving (knotEnds b ks) [] (segmentOf b ks) k y ε limit)
   unfolding located
   located-first v q f s l H N =
       let a = admitted b y ks check limit ε v in
-      let t = first-entered (segmentOf b ks) y ε limit k (knotEnds b ks .rising) s [] f l H N in
-      let u = enters-sound (segmentOf b ks) y ε limit k (curve-numbers b y ks (a .long) (a .number) (a .in-range)) s (t .0) l H in
-      simp (is-false (atLow (knotEnds b ks) y) (q .0), is-false (atHigh (knotEnds b ks) y) (q .1)) (placed-in s _ (u .0) (t .2 ∙ u .1) (u .2 .1))
+      let g = segmentOf b ks in
+      let u = first-entered g y k (SoundIn g y ε limit) (trial halving g y ε limit) (trial-tried g y ε limit halving halving-keeps k (curve-numbers b y ks (a .long) (a .number) (a .in-range))) (knotEnds b ks .rising) s [] f l H N in
+      simp (is-false (atLow (knotEnds b ks) y) (q .0), is-false (atHigh (knotEnds b ks) y) (q .1)) (placed-in s _ (u .0) (u .1) (u .2 .1))
 
   -- so of the call
   pub inverse-first-entered : Pass b y ks check limit ε → Quiet b y ks check limit ε → k ≤ 12 → (s : ℕ) → s < k → T (Holds (segmentOf b ks) y k s) → Nothing (segmentOf b ks) y k 0 s → In s (inverseOf b y ks check limit ε)

@@ -21,6 +21,8 @@ use Rattle.invert.specs.declared.Inverted.{Inverted}
 use Rattle.invert.specs.declared.Inverted.the-variants.{Refused, OffCurve, At}
 use Rattle.invert.specs.Agreed.{Agreed}
 use Rattle.invert.specs.Answer.{inverted, countTold}
+use Rattle.invert.specs.Round.{halving}
+use Rattle.invert.proofs.Weighting.{halving-keeps}
 use Rattle.invert.proofs.Enclosing.{Numbers}
 use Rattle.search.specs.Bound.{bitsOf, boundOf}
 use Rattle.search.proofs.Found.{Holds}
@@ -43,7 +45,7 @@ module _ (b : Basis) (y : Float) (ks : List Float) (check : Bool) (limit : ℕ) 
 
   -- the answer past the refusals
   abbrev pub here : Inverted
-  here = located (knotEnds b ks) [] (segmentOf b ks) (segmentsOf b (length ks)) y ε limit
+  here = located halving (knotEnds b ks) [] (segmentOf b ks) (segmentsOf b (length ks)) y ε limit
 
   -- no row of the refusal table applies
   abbrev pub Pass : Type 0
@@ -84,43 +86,43 @@ module _ (b : Basis) (y : Float) (ks : List Float) (check : Bool) (limit : ℕ) 
   unfolding inverseOf inverseEvaluations
   inverse-count = go (first (inverseUses b y ks check limit ε))
     where
-      go : (v : Verdict) → countTold (inverted v here) ≡ length (unlessRefused v (evaluations (knotEnds b ks) [] (segmentOf b ks) k y ε limit))
-      go Passed = count-is-length (knotEnds b ks) [] (segmentOf b ks) k y ε limit
+      go : (v : Verdict) → countTold (inverted v here) ≡ length (unlessRefused v (evaluations halving (knotEnds b ks) [] (segmentOf b ks) k y ε limit))
+      go Passed = count-is-length halving (knotEnds b ks) [] (segmentOf b ks) k y ε limit
       go (Failed r) = refl
 
   -- it misses none: a curve h that agrees with this one at every listed place gets the same answer
   pub inverse-unlisted : (h : ℕ → Float → Float) → Agreed (segmentOf b ks) h (inverseEvaluations b y ks check limit ε)
-      → inverseOf b y ks check limit ε ≡ inverted (first (inverseUses b y ks check limit ε)) (located (knotEnds b ks) [] h k y ε limit)
+      → inverseOf b y ks check limit ε ≡ inverted (first (inverseUses b y ks check limit ε)) (located halving (knotEnds b ks) [] h k y ε limit)
   unfolding inverseOf inverseEvaluations
   inverse-unlisted h = go (first (inverseUses b y ks check limit ε))
     where
-      go : (v : Verdict) → Agreed (segmentOf b ks) h (unlessRefused v (evaluations (knotEnds b ks) [] (segmentOf b ks) k y ε limit)) → inverted v here ≡ inverted v (located (knotEnds b ks) [] h k y ε limit)
-      go Passed a = none-unlisted (knotEnds b ks) [] (segmentOf b ks) k y ε limit h a
+      go : (v : Verdict) → Agreed (segmentOf b ks) h (unlessRefused v (evaluations halving (knotEnds b ks) [] (segmentOf b ks) k y ε limit)) → inverted v here ≡ inverted v (located halving (knotEnds b ks) [] h k y ε limit)
+      go Passed a = none-unlisted halving (knotEnds b ks) [] (segmentOf b ks) k y ε limit h a
       go (Failed r) a = refl
 
   -- a place and refusal 11 carry at most so many
   pub inverse-bounded : countTold (inverseOf b y ks check limit ε) ≤ boundOf k limit
-  inverse-bounded = by-verdict (λ r. countTold r ≤ boundOf k limit) (λ r. omega arith) (λ a. le-trans (count-bounded (knotEnds b ks) [] (segmentOf b ks) k y ε limit some (fits a) (numbers a)) (omega arith))
+  inverse-bounded = by-verdict (λ r. countTold r ≤ boundOf k limit) (λ r. omega arith) (λ a. le-trans (count-bounded halving halving-keeps (knotEnds b ks) [] (segmentOf b ks) k y ε limit some (fits a) (numbers a)) (omega arith))
 
-  pub few-bound : k ≤ 12 → boundOf k limit ≡ limit + 26
+  pub few-bound : k ≤ 12 → boundOf k limit ≡ limit + 24
   few-bound h = rw (le-leb k 12 h)
 
-  pub many-bound : 12 < k → boundOf k limit ≡ limit + 2 * bitsOf k + 6
+  pub many-bound : 12 < k → boundOf k limit ≡ limit + 2 * bitsOf k + 4
   many-bound h = rw (lt-leb k 12 h)
 
   -- ---- parameter, local place and both bracket ends lie in 0 to 1, lower not above upper
   pub inverse-proper : AtPlace Proper (inverseOf b y ks check limit ε)
-  inverse-proper = by-verdict (AtPlace Proper) (λ r. tt) (λ a. place-proper (knotEnds b ks) [] (segmentOf b ks) k y ε limit some (fits a) (numbers a))
+  inverse-proper = by-verdict (AtPlace Proper) (λ r. tt) (λ a. place-proper halving halving-keeps (knotEnds b ks) [] (segmentOf b ks) k y ε limit some (fits a) (numbers a))
 
   -- ---- where a segment was entered, its values at the two bracket ends enclose the target, and so do those at its own ends
   pub inverse-enclosed : AtPlace (λ p. Enclosed (knotEnds b ks) [] (segmentOf b ks) k y ε limit (p .ground) p) (inverseOf b y ks check limit ε)
   inverse-enclosed =
-      by-verdict (AtPlace (λ p. Enclosed (knotEnds b ks) [] (segmentOf b ks) k y ε limit (p .ground) p)) (λ r. tt) (λ a. place-enclosed (knotEnds b ks) [] (segmentOf b ks) k y ε limit some (fits a) (numbers a))
+      by-verdict (AtPlace (λ p. Enclosed (knotEnds b ks) [] (segmentOf b ks) k y ε limit (p .ground) p)) (λ r. tt) (λ a. place-enclosed halving halving-keeps (knotEnds b ks) [] (segmentOf b ks) k y ε limit some (fits a) (numbers a))
 
   -- ---- what the ground says
   pub inverse-ground : AtPlace (λ p. GroundSays (knotEnds b ks) [] (segmentOf b ks) k y ε limit (p .ground) p) (inverseOf b y ks check limit ε)
   inverse-ground =
-      by-verdict (AtPlace (λ p. GroundSays (knotEnds b ks) [] (segmentOf b ks) k y ε limit (p .ground) p)) (λ r. tt) (λ a. ground-says (knotEnds b ks) [] (segmentOf b ks) k y ε limit some (fits a) (numbers a))
+      by-verdict (AtPlace (λ p. GroundSays (knotEnds b ks) [] (segmentOf b ks) k y ε limit (p .ground) p)) (λ r. tt) (λ a. ground-says halving halving-keeps (knotEnds b ks) [] (segmentOf b ks) k y ε limit some (fits a) (numbers a))
 
   -- ---- where some segment's ends enclose the target, and the end rule is silent, a segment is entered and not refused
   pub inverse-entered : Pass → Quiet → Premise
@@ -128,7 +130,7 @@ module _ (b : Basis) (y : Float) (ks : List Float) (check : Bool) (limit : ℕ) 
   unfolding inverseOf
   inverse-entered v q S s l H =
       let a = admitted b y ks check limit ε v in
-      rw v (place-where (knotEnds b ks) [] (segmentOf b ks) k y ε limit some (fits a) (numbers a) q S s l H)
+      rw v (place-where halving halving-keeps (knotEnds b ks) [] (segmentOf b ks) k y ε limit some (fits a) (numbers a) q S s l H)
 
   -- ---- refusal 11 only where no row applies, the end rule is silent and no segment's ends enclose the target
   pub inverse-off-only : IfOff (Pass × Quiet × (Premise → Nowhere)) (inverseOf b y ks check limit ε)
@@ -136,7 +138,7 @@ module _ (b : Basis) (y : Float) (ks : List Float) (check : Bool) (limit : ℕ) 
   inverse-off-only = go (first (inverseUses b y ks check limit ε)) refl
     where
       go : (v : Verdict) → first (inverseUses b y ks check limit ε) ≡ v → IfOff (Pass × Quiet × (Premise → Nowhere)) (inverted v here)
-      go Passed e = let a = admitted b y ks check limit ε e in with-pass Pass Quiet (Premise → Nowhere) here e (off-only (knotEnds b ks) [] (segmentOf b ks) k y ε limit some (fits a) (numbers a))
+      go Passed e = let a = admitted b y ks check limit ε e in with-pass Pass Quiet (Premise → Nowhere) here e (off-only halving halving-keeps (knotEnds b ks) [] (segmentOf b ks) k y ε limit some (fits a) (numbers a))
       go (Failed r) e = tt
 
   -- and everywhere there
@@ -145,13 +147,13 @@ module _ (b : Basis) (y : Float) (ks : List Float) (check : Bool) (limit : ℕ) 
   unfolding inverseOf
   inverse-off-where v q N =
       let a = admitted b y ks check limit ε v in
-      rw v (off-where (knotEnds b ks) [] (segmentOf b ks) k y ε limit some (fits a) (numbers a) q N)
+      rw v (off-where halving halving-keeps (knotEnds b ks) [] (segmentOf b ks) k y ε limit some (fits a) (numbers a) q N)
 
   -- ---- all of these of a reply r, as the call's contract gives it
   pub record Promised (r : Inverted) : Type 0 where
     pub count : countTold r ≡ length (inverseEvaluations b y ks check limit ε)
-    pub few : k ≤ 12 → countTold r ≤ limit + 26
-    pub many : 12 < k → countTold r ≤ limit + 2 * bitsOf k + 6
+    pub few : k ≤ 12 → countTold r ≤ limit + 24
+    pub many : 12 < k → countTold r ≤ limit + 2 * bitsOf k + 4
     pub proper : AtPlace Proper r
     pub enclosed : AtPlace (λ p. Enclosed (knotEnds b ks) [] (segmentOf b ks) k y ε limit (p .ground) p) r
     pub ground : AtPlace (λ p. GroundSays (knotEnds b ks) [] (segmentOf b ks) k y ε limit (p .ground) p) r

@@ -19,6 +19,8 @@ use Rattle.doubles.proofs.Tests.{branch}
 use Rattle.spline.specs.Segment.{segmentOf}
 use Rattle.invert.specs.declared.Inverted.the-variants.{Refused}
 use Rattle.invert.proofs.Verdicts.{Past, answered-past, refused-by}
+use Rattle.invert.specs.Round.{halving}
+use Rattle.search.specs.Trial.{trial}
 use Rattle.search.specs.Search.{find}
 use Rattle.inverse.specs.Order.{turnsBack}
 use Rattle.inverse.specs.EndRule.{atLow, atHigh, knotEnds}
@@ -34,17 +36,17 @@ module _ (b : Basis) (y : Float) (ks : List Float) (check : Bool) (limit : ℕ) 
   abbrev uses : Uses
   uses = inverseUses b y ks check limit ε
 
-  located-past : Past (located (knotEnds b ks) [] (segmentOf b ks) (segmentsOf b (length ks)) y ε limit)
+  located-past : Past (located halving (knotEnds b ks) [] (segmentOf b ks) (segmentsOf b (length ks)) y ε limit)
   unfolding located
   located-past =
       branch Past (atLow (knotEnds b ks) y) (λ _. tt)
-      (λ _. branch Past (atHigh (knotEnds b ks) y) (λ _. tt) (λ _. answered-past (parameterOf (segmentsOf b (length ks))) (find (segmentOf b ks) y ε limit (knotEnds b ks .rising) (segmentsOf b (length ks)) [])))
+      (λ _. branch Past (atHigh (knotEnds b ks) y) (λ _. tt) (λ _. answered-past (parameterOf (segmentsOf b (length ks))) (find (trial halving (segmentOf b ks) y ε limit) y (knotEnds b ks .rising) (segmentsOf b (length ks)) [])))
 
   -- ---- by a row
   -- only where that row applies and none before it
   pub inverse-refused-only : (r : Refusal) → inverseOf b y ks check limit ε ≡ Refused r → First (inverseUses b y ks check limit ε) rows r
   unfolding inverseOf
-  inverse-refused-only r e = first-sound rows uses r (refused-by (first uses) (located (knotEnds b ks) [] (segmentOf b ks) (segmentsOf b (length ks)) y ε limit) r located-past e)
+  inverse-refused-only r e = first-sound rows uses r (refused-by (first uses) (located halving (knotEnds b ks) [] (segmentOf b ks) (segmentsOf b (length ks)) y ε limit) r located-past e)
 
   -- and everywhere there
   pub inverse-refused-where : (r : Refusal) → First (inverseUses b y ks check limit ε) rows r → inverseOf b y ks check limit ε ≡ Refused r

@@ -21,6 +21,7 @@ use Rattle.spline.specs.Rows.{inRange, allInRange, curveLength}
 use Rattle.invert.specs.declared.Inverted.{Inverted}
 use Rattle.invert.specs.declared.Inverted.the-variants.{Refused}
 use Rattle.invert.specs.Answer.{asked}
+use Rattle.invert.specs.Round.{halving}
 use Rattle.invert.proofs.Verdicts.{askedRows, lastRows}
 use Rattle.inverse.specs.Order.{rises, turnsBack}
 use Rattle.inverse.specs.EndRule.{knotEnds}
@@ -115,6 +116,6 @@ module _ (b : Basis) (y : Float) (ks : List Float) (check : Bool) (limit : ℕ) 
   unfolding inverseOf
   refused-is k = rw (sym e ∙ k)
 
-  pub answer-is : {a : Inverted} → v ≡ Passed → a ≡ located (knotEnds b ks) [] (segmentOf b ks) (segmentsOf b (length ks)) y ε limit → a ≡ inverseOf b y ks check limit ε
+  pub answer-is : {a : Inverted} → v ≡ Passed → a ≡ located halving (knotEnds b ks) [] (segmentOf b ks) (segmentsOf b (length ks)) y ε limit → a ≡ inverseOf b y ks check limit ε
   unfolding inverseOf
   answer-is k h = h ∙ rw (sym e ∙ k)

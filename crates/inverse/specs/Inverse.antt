@@ -15,6 +15,7 @@ use Rattle.spline.specs.Rows.{curveLength, allInRange}
 use Rattle.invert.specs.declared.Inverted.{Inverted}
 use Rattle.invert.specs.Evaluations.{Evaluations}
 use Rattle.invert.specs.Answer.{inverted, asked}
+use Rattle.invert.specs.Round.{halving}
 use Rattle.inverse.specs.Order.{turnsBack}
 use Rattle.inverse.specs.EndRule.{knotEnds}
 use Rattle.inverse.specs.Curve.{located, evaluations}
@@ -24,7 +25,7 @@ inverseUses b y ks check limit ε = curveLength b (length ks) ++ asked y limit �
 
 unfoldable pub inverseOf : Basis → Float → List Float → Bool → ℕ → Float → Inverted
 inverseOf b y ks check limit ε =
-    inverted (first (inverseUses b y ks check limit ε)) (located (knotEnds b ks) [] (segmentOf b ks) (segmentsOf b (length ks)) y ε limit)
+    inverted (first (inverseUses b y ks check limit ε)) (located halving (knotEnds b ks) [] (segmentOf b ks) (segmentsOf b (length ks)) y ε limit)
 
 -- the evaluations that the call makes: none where it refuses by a row
 abbrev pub unlessRefused : Verdict → Evaluations → Evaluations
@@ -33,4 +34,4 @@ unlessRefused (Failed r) ev = []
 
 unfoldable pub inverseEvaluations : Basis → Float → List Float → Bool → ℕ → Float → Evaluations
 inverseEvaluations b y ks check limit ε =
-    unlessRefused (first (inverseUses b y ks check limit ε)) (evaluations (knotEnds b ks) [] (segmentOf b ks) (segmentsOf b (length ks)) y ε limit)
+    unlessRefused (first (inverseUses b y ks check limit ε)) (evaluations halving (knotEnds b ks) [] (segmentOf b ks) (segmentsOf b (length ks)) y ε limit)

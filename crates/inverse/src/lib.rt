@@ -9,7 +9,9 @@ ghost use Rattle.basis.specs.Basis.{segmentsOf};
 ghost use Rattle.spline.specs.Segment.{segmentOf};
 ghost use Rattle.spline.specs.Rows.{allInRange};
 ghost use Rattle.invert.specs.Answer.{answered, defaultLimit, defaultPrecision};
+ghost use Rattle.invert.specs.Round.{halving};
 ghost use Rattle.search.specs.Search.{find};
+ghost use Rattle.search.specs.Trial.{trial};
 ghost use Rattle.inverse.specs.EndRule.{atLow, atHigh, knotEnds};
 ghost use Rattle.inverse.specs.Curve.{parameterOf, ended, located};
 ghost use Rattle.inverse.specs.Inverse.{inverseOf};
@@ -93,7 +95,7 @@ fn searched(
     k: usize,
 ) -> Inverted
     requires { ⌜ (k ≡ segmentsOf b (length (now knots))) × (4 ≤ length (now knots)) × (length (now knots) ≤ 4096) × (isNan y ≡ false) × (allInRange (now knots) ≡ true) ⌝ }
-    ensures { λ r. ⌜ r ≡ answered (parameterOf k) (find (segmentOf b (now (knots .entry))) y precision limit rising k []) ⌝ }
+    ensures { λ r. ⌜ r ≡ answered (parameterOf k) (find (trial halving (segmentOf b (now (knots .entry))) y precision limit) y rising k []) ⌝ }
 {
     let a = search::find(b, knots, y, precision, limit, rising, k, 0);
     let Inverted::At(p) = a else {
@@ -115,7 +117,7 @@ fn searched(
 // Past the refusals: the end rule, then the search.
 fn locate(b: Basis, y: f64, knots: &[f64], limit: u16, precision: f64) -> Inverted
     requires { ⌜ (4 ≤ length (now knots)) × (length (now knots) ≤ 4096) × (isNan y ≡ false) × (allInRange (now knots) ≡ true) ⌝ }
-    ensures { λ r. ⌜ r ≡ located (knotEnds b (now (knots .entry))) [] (segmentOf b (now (knots .entry))) (segmentsOf b (length (now (knots .entry)))) y precision limit ⌝ }
+    ensures { λ r. ⌜ r ≡ located halving (knotEnds b (now (knots .entry))) [] (segmentOf b (now (knots .entry))) (segmentsOf b (length (now (knots .entry)))) y precision limit ⌝ }
 {
     let k = basis::segments(b, knots.len());
     let e = knot_ends(b, knots);

@@ -24,12 +24,12 @@ use Rattle.invert.specs.declared.Inverted.{Inverted}
 use Rattle.invert.specs.declared.Inverted.the-variants.{Refused, OffCurve, At}
 use Rattle.invert.specs.Agreed.{Agreed}
 use Rattle.invert.specs.Round.{halving}
-use Rattle.invert.specs.Segment.{encloses, Outcome, off, placed, evaluationsOf, inSegment}
+use Rattle.invert.specs.Segment.{encloses, Entry, enter, outcomeOf}
 use Rattle.invert.specs.Answer.{numberTold, countTold, answered, alone, inverted, precise, inverseSegmentUses, inverseSegmentOf}
 use Rattle.invert.proofs.Weighting.{halving-keeps}
 use Rattle.invert.proofs.Enclosing.{Numbers, Sound}
-use Rattle.invert.proofs.Places.{SegmentSays, segment-says}
-use Rattle.invert.proofs.Complete.{segment-same}
+use Rattle.invert.proofs.Places.{Tells, missed, hit, enter-tells}
+use Rattle.invert.proofs.Complete.{seenIn, enter-same}
 use Rattle.invert.proofs.Verdicts.{passes}
 
 -- each segment of knots in range is a number on 0 to 1
@@ -45,9 +45,9 @@ module _ (f : Float → Float) (y ε : Float) (limit : ℕ) where
   Owed (At p) =
       T (encloses (f nought) (f one) y) × Sound f y ε (lt (f nought) (f one)) limit 2 (p .ground) (p .local) (p .lower) (p .upper) (p .count) × (p .segment ≡ 0) × (p .parameter ≡ p .local)
 
-  owed : (o : Outcome) → SegmentSays f 0 y ε limit [] o → Owed (answered alone o)
-  owed (off ev) h = (h .0, h .1)
-  owed (placed p) h = (h .0, h .1, h .2, refl)
+  owed : (o : Entry) → Tells f 0 y ε limit [] o → Owed (answered alone (outcomeOf o))
+  owed _ (missed h) = (h, refl)
+  owed _ (hit h r e) = (h, r, e, refl)
 
   owed-count : (a : Inverted) → Owed a → countTold a ≤ limit + 2
   owed-count (Refused r) h = absurd h
@@ -67,25 +67,25 @@ module _ (b : Basis) (y : Float) (cv : List Float) (limit : ℕ) (ε : Float) wh
   abbrev Passed-all : Type 0
   Passed-all = first (inverseSegmentUses y cv limit ε) ≡ Passed
 
-  said : Passed-all → SegmentSays (segmentOf b cv 0) 0 y ε limit [] (inSegment (segmentOf b cv 0) 0 y ε limit [])
+  said : Passed-all → Tells (segmentOf b cv 0) 0 y ε limit [] (enter halving (segmentOf b cv 0) 0 y ε limit [])
   said e =
       let p = passes y cv limit ε e in
       let long : 0 * stepOf b + 4 ≤ length cv = omega (arith, zero-mul (stepOf b), p .four) in
-      segment-says halving halving-keeps (segmentOf b cv 0) 0 y ε limit [] (segment-numbers b cv 0 y (holds (p .in-range)) long (fails (p .number)))
+      enter-tells halving halving-keeps (segmentOf b cv 0) 0 y ε limit [] (segment-numbers b cv 0 y (holds (p .in-range)) long (fails (p .number)))
 
-  answers : Passed-all → inverseSegmentOf b y cv limit ε ≡ answered alone (inSegment (segmentOf b cv 0) 0 y ε limit [])
+  answers : Passed-all → inverseSegmentOf b y cv limit ε ≡ answered alone (outcomeOf (enter halving (segmentOf b cv 0) 0 y ε limit []))
   unfolding inverseSegmentOf
-  answers e = ap (λ (v : Verdict). inverted v (answered alone (inSegment (segmentOf b cv 0) 0 y ε limit []))) e
+  answers e = ap (λ (v : Verdict). inverted v (answered alone (outcomeOf (enter halving (segmentOf b cv 0) 0 y ε limit [])))) e
 
   pub inverse-segment-owed : Passed-all → Owed (segmentOf b cv 0) y ε limit (inverseSegmentOf b y cv limit ε)
-  inverse-segment-owed e = subst (λ (a : Inverted). Owed (segmentOf b cv 0) y ε limit a) (sym (answers e)) (owed (segmentOf b cv 0) y ε limit (inSegment (segmentOf b cv 0) 0 y ε limit []) (said e))
+  inverse-segment-owed e = subst (λ (a : Inverted). Owed (segmentOf b cv 0) y ε limit a) (sym (answers e)) (owed (segmentOf b cv 0) y ε limit (enter halving (segmentOf b cv 0) 0 y ε limit []) (said e))
 
   -- at most limit + 2 evaluations, whatever is asked
   pub inverse-segment-count : countTold (inverseSegmentOf b y cv limit ε) ≤ limit + 2
   unfolding inverseSegmentOf
   inverse-segment-count =
-      let o = inSegment (segmentOf b cv 0) 0 y ε limit [] in
-      count-any limit (first (inverseSegmentUses y cv limit ε)) (answered alone o) (λ e. owed-count (segmentOf b cv 0) y ε limit (answered alone o) (owed (segmentOf b cv 0) y ε limit o (said e)))
+      let o = enter halving (segmentOf b cv 0) 0 y ε limit [] in
+      count-any limit (first (inverseSegmentUses y cv limit ε)) (answered alone (outcomeOf o)) (λ e. owed-count (segmentOf b cv 0) y ε limit (answered alone (outcomeOf o)) (owed (segmentOf b cv 0) y ε limit o (said e)))
 
   -- 11 where no row applies and the end values do not enclose the target; and nowhere else
   pub inverse-segment-number : Passed-all → numberTold (inverseSegmentOf b y cv limit ε) ≡ cond (encloses (segmentOf b cv 0 nought) (segmentOf b cv 0 one) y) 0 11
@@ -94,7 +94,7 @@ module _ (b : Basis) (y : Float) (cv : List Float) (limit : ℕ) (ε : Float) wh
   pub inverse-segment-eleven : numberTold (inverseSegmentOf b y cv limit ε) ≡ 11 → Passed-all
   unfolding inverseSegmentOf
   inverse-segment-eleven =
-      let P : Verdict → Type 0 = λ v. numberTold (inverted v (answered alone (inSegment (segmentOf b cv 0) 0 y ε limit []))) ≡ 11 → v ≡ Passed in
+      let P : Verdict → Type 0 = λ v. numberTold (inverted v (answered alone (outcomeOf (enter halving (segmentOf b cv 0) 0 y ε limit [])))) ≡ 11 → v ≡ Passed in
       branch P (ltb (length cv) 4) (λ _ e. absurd (omega arith))
       (λ _. branch P (ltb 4 (length cv)) (λ _ e. absurd (omega arith))
       (λ _. branch P (isNan y) (λ _ e. absurd (omega arith))
@@ -104,6 +104,6 @@ module _ (b : Basis) (y : Float) (cv : List Float) (limit : ℕ) (ε : Float) wh
 
 -- two segments that agree at every listed place get the same answer
 pub inverse-segment-complete : (b c : Basis) (y : Float) (cv dv : List Float) (limit : ℕ) (ε : Float) → first (inverseSegmentUses y cv limit ε) ≡ Passed → first (inverseSegmentUses y dv limit ε) ≡ Passed
-    → Agreed (segmentOf b cv) (segmentOf c dv) (evaluationsOf (inSegment (segmentOf b cv 0) 0 y ε limit [])) → inverseSegmentOf b y cv limit ε ≡ inverseSegmentOf c y dv limit ε
+    → Agreed (segmentOf b cv) (segmentOf c dv) (seenIn (enter halving (segmentOf b cv 0) 0 y ε limit [])) → inverseSegmentOf b y cv limit ε ≡ inverseSegmentOf c y dv limit ε
 inverse-segment-complete b c y cv dv limit ε p q a =
-    answers b y cv limit ε p ∙ ap (answered alone) (segment-same (segmentOf b cv) (segmentOf c dv) halving 0 y ε limit [] a) ∙ sym (answers c y dv limit ε q)
+    answers b y cv limit ε p ∙ ap (λ (e : Entry). answered alone (outcomeOf e)) (enter-same (segmentOf b cv) (segmentOf c dv) halving 0 y ε limit [] a) ∙ sym (answers c y dv limit ε q)

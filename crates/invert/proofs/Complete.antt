@@ -14,8 +14,13 @@ use Rattle.invert.specs.Evaluations.{Evaluations}
 use Rattle.invert.specs.Agreed.{Agreed}
 use Rattle.invert.specs.Round.{Weighting, narrow, falsi, weighed, fraction, Turn, found, on, settled, probed, turn}
 use Rattle.invert.specs.Rounds.{Placed, rounds}
-use Rattle.invert.specs.Segment.{encloses, near, opening, start, entered, Outcome, placed, evaluationsOf, inSegmentBy}
+use Rattle.invert.specs.Segment.{encloses, near, opening, start, entered, Entry, outside, inside, enter}
 use Rattle.invert.proofs.Ends.{both}
+
+-- what a segment's trial has seen
+abbrev pub seenIn : Entry → Evaluations
+seenIn (outside v ev) = ev
+seenIn (inside p) = p .made
 
 -- what a round has seen
 abbrev seenBy : Turn → Evaluations
@@ -84,15 +89,15 @@ module _ (g h : ℕ → Float → Float) (W : Weighting) (s : ℕ) (y ε : Float
     unfolding entered
     entered-same v0 v1 ev a = alike Alike (near y v0 ε) (λ _. refl) (alike Alike (near y v1 ε) (λ _. refl) (rounds-same (lt v0 v1) limit limit 0 (on (start (opening v0 v1)) ev))) a
 
-    ends-agreed : (ev : Evaluations) → Agreed g h (evaluationsOf (inSegmentBy W (g s) s y ε limit ev)) → Agreed g h (both s ev)
-    unfolding inSegmentBy
-    ends-agreed ev = branch (λ (o : Outcome). Agreed g h (evaluationsOf o) → Agreed g h (both s ev)) (encloses (g s nought) (g s one) y) (λ _ a. entered-grows (g s nought) (g s one) (both s ev) a) (λ _ a. a)
+    ends-agreed : (ev : Evaluations) → Agreed g h (seenIn (enter W (g s) s y ε limit ev)) → Agreed g h (both s ev)
+    unfolding enter
+    ends-agreed ev = branch (λ (e : Entry). Agreed g h (seenIn e) → Agreed g h (both s ev)) (encloses (g s nought) (g s one) y) (λ _ a. entered-grows (g s nought) (g s one) (both s ev) a) (λ _ a. a)
 
-    pub segment-grows : (ev : Evaluations) → Agreed g h (evaluationsOf (inSegmentBy W (g s) s y ε limit ev)) → Agreed g h ev
-    segment-grows ev a = ends-agreed ev a .1 .1
+    pub enter-grows : (ev : Evaluations) → Agreed g h (seenIn (enter W (g s) s y ε limit ev)) → Agreed g h ev
+    enter-grows ev a = ends-agreed ev a .1 .1
 
-    pub segment-same : (ev : Evaluations) → Agreed g h (evaluationsOf (inSegmentBy W (g s) s y ε limit ev)) → inSegmentBy W (g s) s y ε limit ev ≡ inSegmentBy W (h s) s y ε limit ev
-    unfolding inSegmentBy
-    segment-same ev a =
+    pub enter-same : (ev : Evaluations) → Agreed g h (seenIn (enter W (g s) s y ε limit ev)) → enter W (g s) s y ε limit ev ≡ enter W (h s) s y ε limit ev
+    unfolding enter
+    enter-same ev a =
         let e = ends-agreed ev a in
-        rw (← (e .0), ← (e .1 .0)) (alike (λ (o : Outcome). Agreed g h (evaluationsOf o)) (encloses (g s nought) (g s one) y) (λ b. ap placed (entered-same (g s nought) (g s one) (both s ev) b)) (λ _. refl) a)
+        rw (← (e .0), ← (e .1 .0)) (alike (λ (e : Entry). Agreed g h (seenIn e)) (encloses (g s nought) (g s one) y) (λ b. ap inside (entered-same (g s nought) (g s one) (both s ev) b)) (λ _. refl) a)

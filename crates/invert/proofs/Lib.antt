@@ -4,5 +4,6 @@ pub mod Weighting
 pub mod Enclosing
 pub mod Places
 pub mod Complete
+pub mod Later
 pub mod Verdicts
 pub mod Call

@@ -17,7 +17,7 @@ use Rattle.doubles.proofs.Interpolation.{Inside}
 use Rattle.invert.specs.Evaluations.{Evaluations}
 use Rattle.invert.specs.Round.{Weighting, falsi, Turn, found, on, turn}
 use Rattle.invert.specs.Rounds.{Placed, rounds}
-use Rattle.invert.specs.Segment.{encloses, near, opening, start, entered, Outcome, off, placed, inSegmentBy}
+use Rattle.invert.specs.Segment.{encloses, near, opening, start, entered, Entry, outside, inside, enter}
 use Rattle.invert.proofs.Ends.{both}
 use Rattle.invert.proofs.Weighting.{Keeps}
 use Rattle.invert.proofs.Enclosing.{Numbers, Bracketed, Sound, Fine, midpoint-inside, turn-fine}
@@ -76,10 +76,10 @@ pub bracket-encloses : (f : Float → Float) (y : Float) (rising : Bool) {lower 
 bracket-encloses f y rising {lower} {upper} n h = encloses-of rising (f lower) (f upper) y (n .values lower (h .lower-in)) (n .values upper (h .upper-in)) (h .at-lower) (h .at-upper)
 
 -- ---- the segment
--- what the outcome tells, ev being the evaluations before it
-abbrev pub SegmentSays : (Float → Float) → ℕ → Float → Float → ℕ → Evaluations → Outcome → Type 0
-SegmentSays f s y ε limit ev (off t) = T (not (encloses (f nought) (f one) y)) × (length t ≡ length ev + 2)
-SegmentSays f s y ε limit ev (placed p) = T (encloses (f nought) (f one) y) × SoundAt f y ε (lt (f nought) (f one)) limit (length ev + 2) p × (p .segment ≡ s)
+-- what the trial of segment s tells, ev being the evaluations before it
+pub data Tells (f : Float → Float) (s : ℕ) (y ε : Float) (limit : ℕ) (ev : Evaluations) : Entry → Type 0 where
+  missed : T (not (encloses (f nought) (f one) y)) → Tells f s y ε limit ev (outside (f nought) (both s ev))
+  hit : {p : Placed} → T (encloses (f nought) (f one) y) → SoundAt f y ε (lt (f nought) (f one)) limit (length ev + 2) p → p .segment ≡ s → Tells f s y ε limit ev (inside p)
 
 module _ (W : Weighting) (keeps : Keeps W) (f : Float → Float) (s : ℕ) (y ε : Float) (limit : ℕ) (ev : Evaluations) (numbers : Numbers f y) where
   entered-sound : T (encloses (f nought) (f one) y) → let p = entered W f s y ε limit (f nought) (f one) (both s ev) in SoundAt f y ε (lt (f nought) (f one)) limit (length ev + 2) p × (p .segment ≡ s)
@@ -93,22 +93,9 @@ module _ (W : Weighting) (keeps : Keeps W) (f : Float → Float) (s : ℕ) (y ε
       (λ far. branch P (near y (f one) ε) (λ k. (record { bracketed = w; inside = one-inside; says = inr (refl, far, k); count = omega arith }, refl))
       (λ _. (rounds-sound W keeps f s y ε rising limit numbers (length ev + 2) limit 0 t (omega arith) (w, omega arith), segment-of W f s y ε rising limit limit 0 t)))
 
-  pub segment-says : SegmentSays f s y ε limit ev (inSegmentBy W f s y ε limit ev)
-  unfolding inSegmentBy
-  segment-says =
-      branch (SegmentSays f s y ε limit ev) (encloses (f nought) (f one) y)
-      (λ h. let r = entered-sound h in (h, r .0, r .1))
-      (λ k. (k, omega arith))
-
--- off exactly when the end values do not enclose: an enclosed segment is never refused
-abbrev pub isOff : Outcome → Bool
-isOff (off ev) = true
-isOff (placed p) = false
-
-is-off : (t : Bool) (p : Placed) (ev : Evaluations) → isOff (cond t (placed p) (off ev)) ≡ not t
-is-off true p ev = refl
-is-off false p ev = refl
-
-pub segment-off : (W : Weighting) (f : Float → Float) (s : ℕ) (y ε : Float) (limit : ℕ) (ev : Evaluations) → isOff (inSegmentBy W f s y ε limit ev) ≡ not (encloses (f nought) (f one) y)
-unfolding inSegmentBy
-segment-off W f s y ε limit ev = is-off (encloses (f nought) (f one) y) _ _
+  pub enter-tells : Tells f s y ε limit ev (enter W f s y ε limit ev)
+  unfolding enter
+  enter-tells =
+      branch (Tells f s y ε limit ev) (encloses (f nought) (f one) y)
+      (λ h. let r = entered-sound h in hit h (r .0) (r .1))
+      (λ k. missed k)

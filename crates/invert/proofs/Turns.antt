@@ -1,7 +1,7 @@
 -- A round, the rounds and the segment, by what the code's calls give. Assumes nothing.
 use mathlib.Core.Path.{_≡_, refl, sym, ap, _∙_}
 use mathlib.Core.List.{_∷_}
-use mathlib.Core.Bool.{Bool, true, false, _&&_, Bool·beq}
+use mathlib.Core.Bool.{Bool, true, false, cond, _&&_, Bool·beq}
 use Prim.Native.Nat.{ℕ, zero, suc, _+_, _-_, _*_, _/_, _<_, _≤_}
 use native.Mathlib.Numerals.{add-one}
 use native.Mathlib.Omega.{arith}
@@ -17,14 +17,15 @@ use Rattle.invert.specs.declared.Bracket.{Bracket}
 use Rattle.invert.specs.declared.State.{State}
 use Rattle.invert.specs.declared.Turned.{Turned}
 use Rattle.invert.specs.declared.Turned.the-variants.{Done, Next}
-use Rattle.invert.specs.declared.Inverted.{Inverted}
-use Rattle.invert.specs.declared.Inverted.the-variants.{OffCurve}
+use Rattle.invert.specs.declared.Place.{Place}
+use Rattle.invert.specs.declared.Tried.{Tried}
+use Rattle.invert.specs.declared.Tried.the-variants.{Outside, Inside}
 use Rattle.invert.specs.Evaluations.{Evaluations}
 use Rattle.invert.specs.Round.{Weighting, midpoint, narrow, falsi, weighed, fraction, moved, Turn, found, on, settled, probed, turn}
-use Rattle.invert.specs.Rounds.{rounds}
-use Rattle.invert.specs.Segment.{encloses, near, opening, start, entered, placed, inSegmentBy}
-use Rattle.invert.specs.Answer.{answered, alone}
-use Rattle.invert.specs.Shown.{shown, toldAt}
+use Rattle.invert.specs.Rounds.{Placed, rounds}
+use Rattle.invert.specs.Segment.{encloses, near, opening, start, entered, Entry, outside, inside, enter}
+use Rattle.invert.specs.Answer.{placeOf, alone}
+use Rattle.invert.specs.Shown.{shown, toldAt, tried}
 use Rattle.invert.proofs.Ends.{both}
 
 -- ---- a round
@@ -61,8 +62,8 @@ module _ (W : Weighting) (f : Float → Float) (y ε : Float) (rising regula : B
 
 -- ---- the rounds
 -- what the code tells of them
-abbrev pub Told : Weighting → (Float → Float) → ℕ → Float → Float → Bool → ℕ → ℕ → ℕ → Turn → Inverted
-Told W f s y ε rising limit n i t = answered alone (placed (rounds W f s y ε rising limit n i t))
+abbrev pub Told : Weighting → (Float → Float) → ℕ → Float → Float → Bool → ℕ → ℕ → ℕ → Turn → Place
+Told W f s y ε rising limit n i t = placeOf alone (rounds W f s y ε rising limit n i t)
 
 -- i rounds have led from the state `first`, after n evaluations, to the state st, after m
 abbrev pub Led : Weighting → (Float → Float) → ℕ → Float → Float → Bool → ℕ → State → ℕ → ℕ → State → ℕ → Type 0
@@ -118,28 +119,46 @@ module _ (W : Weighting) (f : Float → Float) (s : ℕ) (y ε : Float) (rising 
           rw (r .2, one-more (limit - (i + 1)) i st (r .0) h refl) (stop-of (limit - (i + 1)) (i + 1) t (sym d ∙ regula-is (r .0) (r .1)))
 
 -- ---- the segment
-module _ (W : Weighting) (f : Float → Float) (s : ℕ) (y ε : Float) (limit n : ℕ) (v0 v1 : Float) (e0 : v0 ≡ f nought) (e1 : v1 ≡ f one) (ev : Evaluations) (k : length ev ≡ n) where
-  two-more : suc (suc (length ev)) ≡ n + 2
-  two-more = omega arith
+module _ (W : Weighting) (f : Float → Float) (s : ℕ) (y ε : Float) (limit n : ℕ) (v0 v1 : Float) (ev : Evaluations) (k : length ev ≡ n) where
+  pub left-edge : true ≡ near y v0 ε → toldAt s Edge nought (opening v0 v1) n ≡ placeOf alone (entered W f s y ε limit v0 v1 ev)
+  unfolding entered
+  left-edge p = simp (← p, k)
 
-  pub left-out : false ≡ encloses v0 v1 y → OffCurve (n + 2) ≡ answered alone (inSegmentBy W f s y ε limit ev)
-  unfolding inSegmentBy
-  left-out h = simp (← e0, ← e1, ← h, two-more)
-
-  module _ (h : true ≡ encloses v0 v1 y) where
-    taken-in : inSegmentBy W f s y ε limit ev ≡ placed (entered W f s y ε limit v0 v1 (both s ev))
-    unfolding inSegmentBy
-    taken-in = simp (← e0, ← e1, ← h)
-
-    pub left-edge : true ≡ near y v0 ε → toldAt s Edge nought (opening v0 v1) (n + 2) ≡ answered alone (inSegmentBy W f s y ε limit ev)
+  module _ (p : false ≡ near y v0 ε) where
+    pub right-edge : true ≡ near y v1 ε → toldAt s Edge one (opening v0 v1) n ≡ placeOf alone (entered W f s y ε limit v0 v1 ev)
     unfolding entered
-    left-edge p = rw taken-in (simp (← p, two-more))
+    right-edge q = simp (← p, ← q, k)
 
-    module _ (p : false ≡ near y v0 ε) where
-      pub right-edge : true ≡ near y v1 ε → toldAt s Edge one (opening v0 v1) (n + 2) ≡ answered alone (inSegmentBy W f s y ε limit ev)
-      unfolding entered
-      right-edge q = rw taken-in (simp (← p, ← q, two-more))
+    pub by-rounds : (r : Place) → false ≡ near y v1 ε → r ≡ placeOf alone (rounds W f s y ε (lt v0 v1) limit limit 0 (on (start (opening v0 v1)) ev)) → r ≡ placeOf alone (entered W f s y ε limit v0 v1 ev)
+    unfolding entered
+    by-rounds r q u = simp (← p, ← q) u
 
-      pub by-rounds : (r : Inverted) → false ≡ near y v1 ε → ((t : Evaluations) → length t ≡ n + 2 → r ≡ answered alone (placed (rounds W f s y ε (lt v0 v1) limit limit 0 (on (start (opening v0 v1)) t)))) → r ≡ answered alone (inSegmentBy W f s y ε limit ev)
-      unfolding entered
-      by-rounds r q u = rw taken-in (simp (← p, ← q) (u (both s ev) two-more))
+-- ---- the ends
+module _ (W : Weighting) (f : Float → Float) (s : ℕ) (y ε : Float) (limit : ℕ) {v0 v1 : Float} (e0 : v0 ≡ f nought) (e1 : v1 ≡ f one) (ev : Evaluations) where
+  pub left-out : false ≡ encloses v0 v1 y → Outside v0 ≡ tried (enter W f s y ε limit ev)
+  unfolding enter
+  left-out h = simp (← e0, ← e1, ← h)
+
+  pub taken-in : {n : ℕ} (r : Place) → true ≡ encloses v0 v1 y → length ev ≡ n → ((t : Evaluations) → length t ≡ n + 2 → r ≡ placeOf alone (entered W f s y ε limit v0 v1 t)) → Inside r ≡ tried (enter W f s y ε limit ev)
+  unfolding enter
+  taken-in {n} r h k u = let q : length (both s ev) ≡ n + 2 = omega arith in simp (← e0, ← e1, ← h) (ap Inside (u (both s ev) q))
+
+-- ---- what a segment's trial tells of it
+module _ (W : Weighting) (f : Float → Float) (s : ℕ) (y ε : Float) (limit : ℕ) (ev : Evaluations) where
+  -- its ends do not enclose y
+  pub was-outside : {v : Float} → Outside v ≡ tried (enter W f s y ε limit ev) → (v ≡ f nought) × (enter W f s y ε limit ev ≡ outside v (both s ev))
+  unfolding enter
+  was-outside {v} = go (encloses (f nought) (f one) y)
+    where
+      go : (t : Bool) → Outside v ≡ tried (cond t (inside (entered W f s y ε limit (f nought) (f one) (both s ev))) (outside (f nought) (both s ev)))
+          → (v ≡ f nought) × (cond t (inside (entered W f s y ε limit (f nought) (f one) (both s ev))) (outside (f nought) (both s ev)) ≡ outside v (both s ev))
+      go true e = never (cc)
+      go false e = let q : v ≡ f nought = cc in (q, ap (λ (z : Float). outside z (both s ev)) (sym q))
+
+  -- it was entered
+  pub was-inside : {r : Place} → Inside r ≡ tried (enter W f s y ε limit ev) → (p : Placed) × (enter W f s y ε limit ev ≡ inside p) × (r ≡ placeOf alone p)
+  was-inside {r} e = go (enter W f s y ε limit ev) refl e
+    where
+      go : (t : Entry) → enter W f s y ε limit ev ≡ t → Inside r ≡ tried t → (p : Placed) × (enter W f s y ε limit ev ≡ inside p) × (r ≡ placeOf alone p)
+      go (outside v t) q e = never (cc)
+      go (inside p) q e = let z : r ≡ placeOf alone p = cc in (p, q, z)

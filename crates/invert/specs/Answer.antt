@@ -13,9 +13,12 @@ use Rattle.basis.specs.declared.Basis.{Basis}
 use Rattle.spline.specs.Segment.{segmentOf}
 use Rattle.spline.specs.Rows.{segmentLength, allInRange}
 use Rattle.doubles.specs.Numbers.{nought}
+use Rattle.invert.specs.declared.Place.{Place}
 use Rattle.invert.specs.declared.Inverted.{Inverted}
 use Rattle.invert.specs.declared.Inverted.the-variants.{Refused, OffCurve, At}
-use Rattle.invert.specs.Segment.{Outcome, off, placed, inSegment}
+use Rattle.invert.specs.Round.{halving}
+use Rattle.invert.specs.Rounds.{Placed}
+use Rattle.invert.specs.Segment.{Outcome, off, placed, enter, outcomeOf}
 
 -- ---- what an answer tells
 -- the refusal's number; 0 for a place
@@ -31,10 +34,13 @@ countTold (OffCurve n) = n
 countTold (At p) = p .count
 
 -- the count is the length of the list of evaluations; the parameter is found from the segment and the local place
+abbrev pub placeOf : (ℕ → Float → Float) → Placed → Place
+placeOf parameter p =
+    record { parameter = parameter (p .segment) (p .local); ground = p .ground; segment = p .segment; local = p .local; lower = p .lower; upper = p .upper; count = length (p .made) }
+
 abbrev pub answered : (ℕ → Float → Float) → Outcome → Inverted
 answered parameter (off ev) = OffCurve (length ev)
-answered parameter (placed p) =
-    At (record { parameter = parameter (p .segment) (p .local); ground = p .ground; segment = p .segment; local = p .local; lower = p .lower; upper = p .upper; count = length (p .made) })
+answered parameter (placed p) = At (placeOf parameter p)
 
 -- for one segment the parameter is the local place
 abbrev pub alone : ℕ → Float → Float
@@ -65,4 +71,4 @@ abbrev pub defaultPrecision : Float
 defaultPrecision = ofBits binary64 0x3ddb_7cdf_d9d7_bdbb
 
 unfoldable pub inverseSegmentOf : Basis → Float → List Float → ℕ → Float → Inverted
-inverseSegmentOf b y cv limit ε = inverted (first (inverseSegmentUses y cv limit ε)) (answered alone (inSegment (segmentOf b cv 0) 0 y ε limit []))
+inverseSegmentOf b y cv limit ε = inverted (first (inverseSegmentUses y cv limit ε)) (answered alone (outcomeOf (enter halving (segmentOf b cv 0) 0 y ε limit [])))

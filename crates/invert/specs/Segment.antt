@@ -7,7 +7,7 @@ use Rattle.invert.specs.declared.Ground.the-variants.{Edge}
 use Rattle.invert.specs.declared.Bracket.{Bracket}
 use Rattle.invert.specs.declared.State.{State}
 use Rattle.invert.specs.Evaluations.{Evaluations, see}
-use Rattle.invert.specs.Round.{Weighting, halving, on}
+use Rattle.invert.specs.Round.{Weighting, on}
 use Rattle.invert.specs.Rounds.{Placed, stopped, rounds}
 
 -- the target is in the closed range of the two end values
@@ -32,6 +32,19 @@ entered W f s y ε limit v0 v1 ev =
     let r = rounds W f s y ε (lt v0 v1) limit limit 0 (on (start (opening v0 v1)) ev) in
     cond (near y v0 ε) (stopped s Edge nought (opening v0 v1) ev) (cond (near y v1 ε) (stopped s Edge one (opening v0 v1) ev) r)
 
+-- what trying a segment comes to: its ends do not enclose y, and the value of its start; or a place in it
+pub data Entry : Type 0 where
+  outside : Float → Evaluations → Entry
+  inside : Placed → Entry
+
+-- both ends are evaluated, 0 and then 1, and only once; the segment is entered where they enclose y
+unfoldable pub enter : Weighting → (Float → Float) → ℕ → Float → Float → ℕ → Evaluations → Entry
+enter W f s y ε limit ev =
+    let a = see f s nought ev in
+    let b = see f s one (a .made) in
+    let r = inside (entered W f s y ε limit (a .value) (b .value) (b .made)) in
+    cond (encloses (a .value) (b .value) y) r (outside (a .value) (b .made))
+
 -- what an inversion comes to: not on the segment or the curve, or a place
 pub data Outcome : Type 0 where
   off : Evaluations → Outcome
@@ -41,14 +54,11 @@ abbrev pub evaluationsOf : Outcome → Evaluations
 evaluationsOf (off ev) = ev
 evaluationsOf (placed p) = p .made
 
--- both ends are evaluated, 0 and then 1; y is off the segment where they do not enclose it
-unfoldable pub inSegmentBy : Weighting → (Float → Float) → ℕ → Float → Float → ℕ → Evaluations → Outcome
-inSegmentBy W f s y ε limit ev =
-    let a = see f s nought ev in
-    let b = see f s one (a .made) in
-    let r = placed (entered W f s y ε limit (a .value) (b .value) (b .made)) in
-    cond (encloses (a .value) (b .value) y) r (off (b .made))
+-- where a segment is not entered, what follows goes by the value of its start and the evaluations made
+abbrev pub orElse : Entry → (Float → Evaluations → Outcome) → Outcome
+orElse (outside v ev) f = f v ev
+orElse (inside p) f = placed p
 
--- by the weighting that halves
-abbrev pub inSegment : (Float → Float) → ℕ → Float → Float → ℕ → Evaluations → Outcome
-inSegment = inSegmentBy halving
+-- one segment: nothing follows
+abbrev pub outcomeOf : Entry → Outcome
+outcomeOf e = orElse e (λ v ev. off ev)

@@ -11,13 +11,14 @@ use Rattle.invert.specs.declared.Bracket.{Bracket}
 use Rattle.invert.specs.declared.State.{State}
 use Rattle.invert.specs.declared.Turned.{Turned}
 use Rattle.invert.specs.declared.Turned.the-variants.{Done, Next}
-use Rattle.invert.specs.declared.Inverted.{Inverted}
-use Rattle.invert.specs.declared.Inverted.the-variants.{At}
+use Rattle.invert.specs.declared.Place.{Place}
+use Rattle.invert.specs.declared.Tried.{Tried}
+use Rattle.invert.specs.declared.Tried.the-variants.{Outside, Inside}
 use Rattle.invert.specs.Evaluations.{Evaluations}
 use Rattle.invert.specs.Round.{halving, Turn, found, on, turn}
 use Rattle.invert.specs.Rounds.{rounds}
-use Rattle.invert.specs.Segment.{start, placed, inSegment}
-use Rattle.invert.specs.Answer.{answered, alone}
+use Rattle.invert.specs.Segment.{start, entered, Entry, outside, inside, enter}
+use Rattle.invert.specs.Answer.{placeOf, alone}
 
 abbrev pub shown : Turn → Turned
 shown (found g x b ev) = Done g x b (length ev)
@@ -32,15 +33,23 @@ abbrev pub countAfter : Turned → ℕ
 countAfter (Done g x b n) = n
 countAfter (Next st n) = n
 
-abbrev pub toldAt : ℕ → Ground → Float → Bracket → ℕ → Inverted
-toldAt s g x b n = At (record { parameter = x; ground = g; segment = s; local = x; lower = b .lower; upper = b .upper; count = n })
+abbrev pub toldAt : ℕ → Ground → Float → Bracket → ℕ → Place
+toldAt s g x b n = record { parameter = x; ground = g; segment = s; local = x; lower = b .lower; upper = b .upper; count = n }
+
+-- a segment that is not entered tells its start; its two evaluations are counted by who tried it
+abbrev pub tried : Entry → Tried
+tried (outside v ev) = Outside v
+tried (inside p) = Inside (placeOf alone p)
 
 -- r is what the definition gives, whatever the n evaluations before it were
 abbrev pub TurnIs : Weights → Float → Float → Bool → Bool → State → ℕ → Turned → Type 0
 TurnIs w y ε rising regula st n r = (s : ℕ) (ev : Evaluations) → length ev ≡ n → r ≡ shown (turn halving (hornerOf w) s y ε rising regula st ev)
 
-abbrev pub RoundsIs : Weights → ℕ → Float → Float → Bool → Bracket → ℕ → ℕ → Inverted → Type 0
-RoundsIs w s y ε rising b limit n r = (ev : Evaluations) → length ev ≡ n → r ≡ answered alone (placed (rounds halving (hornerOf w) s y ε rising limit limit 0 (on (start b) ev)))
+abbrev pub RoundsIs : Weights → ℕ → Float → Float → Bool → Bracket → ℕ → ℕ → Place → Type 0
+RoundsIs w s y ε rising b limit n r = (ev : Evaluations) → length ev ≡ n → r ≡ placeOf alone (rounds halving (hornerOf w) s y ε rising limit limit 0 (on (start b) ev))
 
-abbrev pub InvertIs : Weights → ℕ → Float → Float → ℕ → ℕ → Inverted → Type 0
-InvertIs w s y ε limit n r = (ev : Evaluations) → length ev ≡ n → r ≡ answered alone (inSegment (hornerOf w) s y ε limit ev)
+abbrev pub EnteredIs : Weights → ℕ → Float → Float → ℕ → Float → Float → ℕ → Place → Type 0
+EnteredIs w s y ε limit v0 v1 n r = (ev : Evaluations) → length ev ≡ n → r ≡ placeOf alone (entered halving (hornerOf w) s y ε limit v0 v1 ev)
+
+abbrev pub EnterIs : Weights → ℕ → Float → Float → ℕ → ℕ → Tried → Type 0
+EnterIs w s y ε limit n r = (ev : Evaluations) → length ev ≡ n → r ≡ tried (enter halving (hornerOf w) s y ε limit ev)

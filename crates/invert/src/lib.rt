@@ -2,7 +2,7 @@
 ghost use mathlib.Core.Path.{_≡_};
 ghost use Prim.Native.Nat.{_≤_, _<_, _+_};
 ghost use Rattle.invert.specs.Segment.{encloses, near};
-ghost use Rattle.invert.specs.Shown.{toldAt, RoundsIs, InvertIs};
+ghost use Rattle.invert.specs.Shown.{toldAt, RoundsIs, EnteredIs, EnterIs};
 ghost use Rattle.invert.specs.Answer.{inverseSegmentOf, defaultLimit, defaultPrecision};
 use basis::Basis;
 use error::Refusal;
@@ -53,6 +53,12 @@ pub struct Place {
     pub count: u32,
 }
 
+// What trying a segment comes to: its ends do not enclose the target, and the value of its start; or a place in it.
+pub enum Tried {
+    Outside(f64),
+    Inside(Place),
+}
+
 // An answer: refused by a row of the table, not on the curve after so many evaluations, or a place.
 pub enum Inverted {
     Refused(Refusal),
@@ -61,10 +67,10 @@ pub enum Inverted {
 }
 
 // For one segment the parameter is the local place.
-fn told_at(s: usize, ground: Ground, x: f64, b: Bracket, n: u32) -> Inverted
+fn told_at(s: usize, ground: Ground, x: f64, b: Bracket, n: u32) -> Place
     ensures { λ r. ⌜ r ≡ toldAt s ground x b n ⌝ }
 {
-    Inverted::At(Place {
+    Place {
         parameter: x,
         ground: ground,
         segment: s,
@@ -72,7 +78,7 @@ fn told_at(s: usize, ground: Ground, x: f64, b: Bracket, n: u32) -> Inverted
         lower: b.lower,
         upper: b.upper,
         count: n,
-    })
+    }
 }
 
 // The rounds, from the bracket that is given; n evaluations have been made before them.
@@ -85,7 +91,7 @@ fn rounds(
     first: Bracket,
     limit: u16,
     n: u32,
-) -> Inverted
+) -> Place
     requires { ⌜ n ≤ 1000000 ⌝ }
     ensures { λ r. ⌜ RoundsIs w s y precision rising first limit n r ⌝ }
 {
@@ -138,30 +144,46 @@ fn is_near(y: f64, v: f64, precision: f64) -> bool
     doubles::magnitude(y - v) < 2.0 * precision
 }
 
-// The inversion of segment s past the refusals; `count` evaluations have been made before it.
-pub fn invert(w: Weights, s: usize, y: f64, precision: f64, limit: u16, count: u32) -> Inverted
+// The place in segment s, whose end values v0 and v1 enclose y; n evaluations have been made, those of its ends among them.
+fn entered(
+    w: Weights,
+    s: usize,
+    y: f64,
+    precision: f64,
+    limit: u16,
+    v0: f64,
+    v1: f64,
+    n: u32,
+) -> Place
+    requires { ⌜ n ≤ 1000000 ⌝ }
+    ensures { λ r. ⌜ EnteredIs w s y precision limit v0 v1 n r ⌝ }
+{
+    let whole = Bracket {
+        lower: 0.0,
+        upper: 1.0,
+        v0: v0,
+        v1: v1,
+    };
+    if is_near(y, v0, precision) {
+        return told_at(s, Ground::Edge, 0.0, whole, n);
+    }
+    if is_near(y, v1, precision) {
+        return told_at(s, Ground::Edge, 1.0, whole, n);
+    }
+    rounds(w, s, y, precision, v0 < v1, whole, limit, n)
+}
+
+// Segment s is tried: both its ends are evaluated, once, and it is entered where they enclose y. `count` evaluations have been made before.
+pub fn enter(w: Weights, s: usize, y: f64, precision: f64, limit: u16, count: u32) -> Tried
     requires { ⌜ count < 900000 ⌝ }
-    ensures { λ r. ⌜ InvertIs w s y precision limit count r ⌝ }
+    ensures { λ r. ⌜ EnterIs w s y precision limit count r ⌝ }
 {
     let v0 = spline::segment::horner(w, 0.0);
     let v1 = spline::segment::horner(w, 1.0);
-    let n = count + 2;
     if encloses(v0, v1, y) {
-        let whole = Bracket {
-            lower: 0.0,
-            upper: 1.0,
-            v0: v0,
-            v1: v1,
-        };
-        if is_near(y, v0, precision) {
-            return told_at(s, Ground::Edge, 0.0, whole, n);
-        }
-        if is_near(y, v1, precision) {
-            return told_at(s, Ground::Edge, 1.0, whole, n);
-        }
-        return rounds(w, s, y, precision, v0 < v1, whole, limit, n);
+        return Tried::Inside(entered(w, s, y, precision, limit, v0, v1, count + 2));
     }
-    Inverted::OffCurve(n)
+    Tried::Outside(v0)
 }
 
 // The place of y on the segment whose four knots are cv.
@@ -177,7 +199,13 @@ pub fn spline_inverse_segment_with(
     let v = rows::segment_verdict(y, cv, limit, precision);
     match v {
         Verdict::Failed(r) => Inverted::Refused(r),
-        Verdict::Passed => invert(spline::segment::weights(b, cv), 0, y, precision, limit, 0),
+        Verdict::Passed => {
+            let t = enter(spline::segment::weights(b, cv), 0, y, precision, limit, 0);
+            let Tried::Inside(p) = t else {
+                return Inverted::OffCurve(2);
+            };
+            Inverted::At(p)
+        }
     }
 }
 

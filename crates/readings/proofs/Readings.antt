@@ -14,7 +14,7 @@ use Rattle.spline.specs.Evaluation.{splineOf}
 use Rattle.invert.specs.Answer.{precise}
 use Rattle.invert.specs.Round.{narrow, halving, weighed, kept, fraction, moved, settled, probed, turn}
 use Rattle.invert.specs.Rounds.{rounds}
-use Rattle.invert.specs.Segment.{entered, inSegmentBy}
+use Rattle.invert.specs.Segment.{entered, enter}
 use Rattle.search.specs.Bound.{bitsOf}
 use Rattle.search.specs.Search.{tries, last, halve, find}
 use Rattle.inverse.specs.Order.{ordered}
@@ -42,11 +42,11 @@ unfolding longest splineOf inRange allInRange curveValue wholeUpTo clamp matrixO
 longest-hold = (refl, (refl, tt))
 
 places-hold : Hold places
-unfolding places inverseOf located find tries last halve bitsOf inSegmentBy entered rounds turn probed settled moved fraction kept weighed halving narrow ordered precise parameterOf inRange allInRange magnitudeOf lerpOf matrixOf ofBits ofInt round add sub mul div lt le eq neg isNan leadingZeros
+unfolding places inverseOf located find tries last halve bitsOf enter entered rounds turn probed settled moved fraction kept weighed halving narrow ordered precise parameterOf inRange allInRange magnitudeOf lerpOf matrixOf ofBits ofInt round add sub mul div lt le eq neg isNan leadingZeros
 places-hold = (refl, (refl, (refl, (refl, (refl, (refl, tt))))))
 
 halvings-hold : Hold halvings
-unfolding halvings inverseOf inverseEvaluations located evaluations find tries last halve bitsOf inSegmentBy entered rounds turn probed settled moved fraction kept weighed halving narrow ordered precise parameterOf inRange allInRange magnitudeOf lerpOf matrixOf ofBits ofInt round add sub mul div lt le eq neg isNan leadingZeros
+unfolding halvings inverseOf inverseEvaluations located evaluations find tries last halve bitsOf enter entered rounds turn probed settled moved fraction kept weighed halving narrow ordered precise parameterOf inRange allInRange magnitudeOf lerpOf matrixOf ofBits ofInt round add sub mul div lt le eq neg isNan leadingZeros
 halvings-hold = (refl, (refl, (refl, tt)))
 
 conversions-hold : Hold conversions

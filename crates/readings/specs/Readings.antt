@@ -155,9 +155,9 @@ longest =
 -- places by value, edge and end, and the order check
 unfoldable pub places : List Reading
 places =
-    tells (place-of Linear (nought ∷ nought ∷ half ∷ half ∷ []) quarter true defaultPrecision) (place half Value 5)
-    ∷ tells (place-of Linear (nought ∷ nought ∷ one ∷ one ∷ []) eighth true eighth) (place nought Edge 4)
-    ∷ tells (place-of Linear (nought ∷ nought ∷ one ∷ one ∷ []) quarter true eighth) (place quarter Value 5)
+    tells (place-of Linear (nought ∷ nought ∷ half ∷ half ∷ []) quarter true defaultPrecision) (place half Value 3)
+    ∷ tells (place-of Linear (nought ∷ nought ∷ one ∷ one ∷ []) eighth true eighth) (place nought Edge 2)
+    ∷ tells (place-of Linear (nought ∷ nought ∷ one ∷ one ∷ []) quarter true eighth) (place quarter Value 3)
     ∷ tells (place-of Bezier (nought ∷ half ∷ half ∷ one ∷ []) quarter false defaultPrecision) (place nought End 0)
     ∷ tells (place-of Bezier (nought ∷ half ∷ half ∷ one ∷ []) quarter true defaultPrecision) (refused 10)
     ∷ tells (place-of CatmullRom (nought ∷ nought ∷ whole 3 ∷ whole 2 ∷ whole 5 ∷ whole 5 ∷ []) one true defaultPrecision) (refused 10)

@@ -1,4 +1,4 @@
--- What a search comes to, for any curve: how many evaluations it makes, which segment it enters, and when it enters none. Assumes nothing.
+-- What a search comes to, for any curve and any trial of its segments: how many evaluations it makes, which segment it enters, and when it enters none. Assumes nothing.
 use mathlib.Core.Path.{_≡_, sym, subst}
 use mathlib.Core.Logic.{inl, inr}
 use mathlib.Core.Bool.{Bool, true, false, not, cond}
@@ -13,11 +13,11 @@ use Rattle.doubles.proofs.Tests.{branch}
 use Rattle.doubles.proofs.Rounding.{le-or-lt}
 use Rattle.invert.specs.Evaluations.{Evaluations}
 use Rattle.invert.specs.Rounds.{Placed}
-use Rattle.invert.specs.Segment.{Outcome, off, placed, encloses, inSegment}
+use Rattle.invert.specs.Segment.{Entry, outside, inside, Outcome, off, placed, orElse, encloses}
 use Rattle.invert.proofs.Ends.{both}
 use Rattle.invert.proofs.Places.{encloses-of}
 use Rattle.search.specs.Bound.{bitsOf}
-use Rattle.search.specs.Search.{before, tries, last, halve, find}
+use Rattle.search.specs.Search.{before, Trial, tries, last, halve, find}
 use Rattle.search.proofs.Along.{Along, along-trans, enclosed, before-not, not-before, ahead}
 use Rattle.search.proofs.Digits.{bits-enough}
 
@@ -39,7 +39,12 @@ module _ (g : ℕ → Float → Float) (y : Float) (k : ℕ) where
 
 -- ---- what a search comes to. `Good s base p` stands for what the inversion of segment s tells of its place p, `base` evaluations having been made before its rounds
 module _ (g : ℕ → Float → Float) (y : Float) (k : ℕ) (Good : ℕ → ℕ → Placed → Type 0) where
-  -- a segment below k was entered whose ends enclose y, after at most m evaluations, its own ends' repeated ones among them
+  -- what the trial of segment s comes to, after the evaluations ev
+  pub data Tried (s : ℕ) (ev : Evaluations) : Entry → Type 0 where
+    shut : T (not (Holds g y k s)) → Tried s ev (outside (g s nought) (both s ev))
+    hit : {p : Placed} → T (Holds g y k s) → Good s (length ev + 2) p → Tried s ev (inside p)
+
+  -- a segment below k was entered whose ends enclose y, after at most m evaluations, those of its ends among them
   pub record Entered (m : ℕ) (p : Placed) : Type 0 where
     pub at : ℕ
     pub base : ℕ
@@ -51,42 +56,35 @@ module _ (g : ℕ → Float → Float) (y : Float) (k : ℕ) (Good : ℕ → ℕ
   -- N is known where none was entered, after at most m evaluations
   pub data Result (m : ℕ) (N : Type 0) : Outcome → Type 0 where
     missed : {ev : Evaluations} → N → length ev ≤ m → Result m N (off ev)
-    got : {p : Placed} → Entered (m + 2) p → Result m N (placed p)
+    got : {p : Placed} → Entered m p → Result m N (placed p)
 
   weaken : {N M : Type 0} (m n : ℕ) {o : Outcome} → n ≤ m → (M → N) → Result n M o → Result m N o
   weaken m n h f (missed a b) = missed (f a) (le-trans b h)
-  weaken m n h f (got r) = got (record { at = r .at; base = r .base; few = omega (arith, r .few); below = r .below; holds = r .holds; good = r .good })
+  weaken m n h f (got r) = got (record { at = r .at; base = r .base; few = le-trans (r .few) h; below = r .below; holds = r .holds; good = r .good })
 
-module _ (g : ℕ → Float → Float) (y ε : Float) (limit : ℕ) where
-  -- the inversion of a segment whose ends enclose y comes to a place, and to one of which Good is known
-  abbrev pub Enters : ℕ → (ℕ → ℕ → Placed → Type 0) → Type 0
-  Enters k Good = (s : ℕ) (ev : Evaluations) → s < k → T (Holds g y k s) → (p : Placed) × (inSegment (g s) s y ε limit ev ≡ placed p) × Good s (length ev + 2) p
+  -- segment s is entered, or the search goes on from its start's value and its two evaluations
+  trying : (s : ℕ) (ev : Evaluations) (m : ℕ) (N : Type 0) {e : Entry} (f : Float → Evaluations → Outcome) → s < k → length ev + 2 ≤ m → Tried s ev e
+      → (T (not (Holds g y k s)) → Result m N (f (g s nought) (both s ev))) → Result m N (orElse e f)
+  trying s ev m N f l c (shut h) r = r h
+  trying s ev m N f l c (hit h a) r = got (record { at = s; base = length ev + 2; few = c; below = l; holds = h; good = a })
 
 -- up to 12 segments, two evaluations for each; above, two at each halving and four in the last tries
 abbrev pub probes : Bool → ℕ → ℕ
 probes few k = cond few 24 (2 * bitsOf k + 4)
 
-module _ (g : ℕ → Float → Float) (y ε : Float) (limit k : ℕ) (Good : ℕ → ℕ → Placed → Type 0) (enters : Enters g y ε limit k Good) where
-  entering : (s : ℕ) (ev : Evaluations) → s < k → T (Holds g y k s) → (N : Type 0) (m : ℕ) → length ev ≤ m → Result g y k Good m N (inSegment (g s) s y ε limit ev)
-  entering s ev l h N m c =
-      let r = enters s ev l h in
-      rw (r .1) (got (record { at = s; base = length ev + 2; few = omega arith; below = l; holds = h; good = r .2 }))
-
+module _ (g : ℕ → Float → Float) (y : Float) (k : ℕ) (Good : ℕ → ℕ → Placed → Type 0) (E : Trial) (tried : (s : ℕ) (ev : Evaluations) → s < k → Tried g y k Good s ev (E s ev)) where
   more : (s n : ℕ) → T (not (Holds g y k s)) → Nothing g y k (suc s) n → Nothing g y k s (suc n)
   more s n h r j a b = elim (eq-or-lt-of-le a) [ inl e ↦ subst (λ (i : ℕ). T (not (Holds g y k i))) e h | inr l ↦ r j l (omega arith) ]
 
-  tries-says : (n s : ℕ) (ev : Evaluations) → s + n ≤ k → Result g y k Good (length ev + 2 * n) (Nothing g y k s n) (tries g y ε limit n s ev)
+  tries-says : (n s : ℕ) (ev : Evaluations) → s + n ≤ k → Result g y k Good (length ev + 2 * n) (Nothing g y k s n) (tries E n s ev)
   unfolding tries
   tries-says zero s ev l = missed {ev = ev} (λ j a b. absurd (omega arith)) (omega arith)
   tries-says (suc n) s ev l =
-      let m = length ev + 2 * suc n in
-      let N = Nothing g y k s (suc n) in
-      branch (Result g y k Good m N) (Holds g y k s)
-      (λ h. entering s (both s ev) (omega arith) h N m (omega arith))
-      (λ h. weaken g y k Good m (length (both s ev) + 2 * n) (omega arith) (more s n h) (tries-says n (suc s) (both s ev) (omega arith)))
+      trying g y k Good s ev (length ev + 2 * suc n) (Nothing g y k s (suc n)) (λ v t. tries E n (suc s) t) (omega arith) (omega arith) (tried s ev (omega arith))
+      (λ h. weaken g y k Good (length ev + 2 * suc n) (length (both s ev) + 2 * n) (omega arith) (more s n h) (tries-says n (suc s) (both s ev) (omega arith)))
 
   -- the last tries are of two segments at most
-  last-says : (l : ℕ) (ev : Evaluations) → l ≤ k → Result g y k Good (length ev + 4) Unit (last g y ε limit k l ev)
+  last-says : (l : ℕ) (ev : Evaluations) → l ≤ k → Result g y k Good (length ev + 4) Unit (last E k l ev)
   unfolding last
   last-says l ev h = let n = min (l - 1 + 2) k - (l - 1) in weaken g y k Good (length ev + 4) (length ev + 2 * n) (omega arith) (λ _. tt) (tries-says n (l - 1) ev (omega arith))
 
@@ -128,7 +126,7 @@ module _ (g : ℕ → Float → Float) (y ε : Float) (limit k : ℕ) (Good : �
             | inr q ↦ r S (omega (arith, two-pow-succ n)) j q (omega arith)
           ]
 
-    halve-says : (rising : Bool) (n l c : ℕ) (ev : Evaluations) → l + c ≤ k → Result g y k Good (length ev + 2 * n + 4) (Missed rising n l c) (halve g y ε limit rising k n l c ev)
+    halve-says : (rising : Bool) (n l c : ℕ) (ev : Evaluations) → l + c ≤ k → Result g y k Good (length ev + 2 * n + 4) (Missed rising n l c) (halve E y rising k n l c ev)
     unfolding halve
     halve-says rising zero l c ev f = weaken g y k Good (length ev + 0 + 4) (length ev + 4) (omega arith) (λ _ S e j a b. absurd (omega arith)) (last-says l ev (omega arith))
     halve-says rising (suc n) l zero ev f = weaken g y k Good (length ev + 2 * suc n + 4) (length ev + 4) (omega arith) (λ _ S e j a b. absurd (omega arith)) (last-says l ev (omega arith))
@@ -137,8 +135,7 @@ module _ (g : ℕ → Float → Float) (y ε : Float) (limit k : ℕ) (Good : �
         let M : m < k = omega arith in
         let t = length ev + 2 * suc n + 4 in
         let N = Missed rising (suc n) l (suc c) in
-        branch (Result g y k Good t N) (Holds g y k m)
-        (λ h. entering m (both m ev) M h N t (omega arith))
+        trying g y k Good m ev t N (λ v t. cond (before rising y v) (halve E y rising k n l (c / 2) t) (halve E y rising k n (suc m) (c - c / 2) t)) M (omega arith) (tried m ev M)
         (λ h.
         branch (Result g y k Good t N) (before rising y (g m nought))
         (λ b. weaken g y k Good t (length (both m ev) + 2 * n + 4) (omega arith) (to-left rising l c n f h b) (halve-says rising n l (c / 2) (both m ev) (omega arith)))
@@ -146,11 +143,11 @@ module _ (g : ℕ → Float → Float) (y ε : Float) (limit k : ℕ) (Good : �
 
     -- the whole search, after the evaluations ev
     pub find-says : (rising : Bool) (ev : Evaluations) → k < 2 ^ 64
-        → Result g y k Good (length ev + probes (leb k 12) k) ((T (not (leb k 12)) → Straight g y k rising) → Nothing g y k 0 k) (find g y ε limit rising k ev)
+        → Result g y k Good (length ev + probes (leb k 12) k) ((T (not (leb k 12)) → Straight g y k rising) → Nothing g y k 0 k) (find E y rising k ev)
     unfolding find
     find-says rising ev w = go (leb k 12) (leb→le k 12)
       where
         go : (b : Bool) → (T b → k ≤ 12)
-            → Result g y k Good (length ev + probes b k) ((T (not b) → Straight g y k rising) → Nothing g y k 0 k) (cond b (tries g y ε limit k 0 ev) (halve g y ε limit rising k (bitsOf k) 0 k ev))
+            → Result g y k Good (length ev + probes b k) ((T (not b) → Straight g y k rising) → Nothing g y k 0 k) (cond b (tries E k 0 ev) (halve E y rising k (bitsOf k) 0 k ev))
         go true h = weaken g y k Good (length ev + 24) (length ev + 2 * k) (omega (arith, h tt)) (λ r _. r) (tries-says k 0 ev (omega arith))
         go false h = weaken g y k Good (length ev + (2 * bitsOf k + 4)) (length ev + 2 * bitsOf k + 4) (omega arith) (λ r s. r (s tt) (bits-enough k w)) (halve-says rising (bitsOf k) 0 k ev (omega arith))

@@ -5,3 +5,4 @@ pub mod Listed
 pub mod First
 pub mod Calls
 pub mod Sound
+pub mod Fewer

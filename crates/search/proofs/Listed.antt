@@ -1,72 +1,82 @@
--- The list of evaluations misses none: two curves that agree at every listed place come to the same outcome, with the same list. Assumes nothing.
-use mathlib.Core.Path.{_≡_, refl}
+-- The list of evaluations misses none: two curves that agree at every listed place come to the same outcome, with the same list. For any weighting. Assumes nothing.
+use mathlib.Core.Path.{_≡_, refl, ap, _∙_}
 use mathlib.Core.Bool.{Bool, cond}
 use Prim.Native.Nat.{ℕ, zero, suc, _+_, _-_, _/_, min}
 use lib.Dec.{leb}
 use lib.Ieee.{Float}
-use Rattle.doubles.specs.Numbers.{nought, one}
 use Rattle.doubles.proofs.Tests.{branch, alike}
 use Rattle.invert.specs.Evaluations.{Evaluations}
-use Rattle.invert.specs.Segment.{Outcome, encloses, inSegment, evaluationsOf}
+use Rattle.invert.specs.Round.{Weighting}
+use Rattle.invert.specs.Segment.{Entry, outside, inside, Outcome, orElse, evaluationsOf}
 use Rattle.invert.specs.Agreed.{Agreed}
-use Rattle.invert.specs.Round.{halving}
-use Rattle.invert.proofs.Ends.{both}
-use Rattle.invert.proofs.Complete.{segment-grows, segment-same}
+use Rattle.invert.proofs.Complete.{seenIn, enter-grows, enter-same}
 use Rattle.search.specs.Bound.{bitsOf}
-use Rattle.search.specs.Search.{before, tries, last, halve, find}
+use Rattle.search.specs.Search.{before, Trial, tries, last, halve, find}
+use Rattle.search.specs.Trial.{trial}
 
-module _ (g h : ℕ → Float → Float) (y ε : Float) (limit : ℕ) where
+module _ (g h : ℕ → Float → Float) where
   abbrev Same : Outcome → Type 0
   Same o = Agreed g h (evaluationsOf o)
 
-  -- where the ends of segment s were evaluated, and then its inversion or `later` went on
-  probe-grows : (s : ℕ) (ev : Evaluations) (later : Outcome) → (Same later → Agreed g h (both s ev))
-      → Same (cond (encloses (g s nought) (g s one) y) (inSegment (g s) s y ε limit (both s ev)) later) → Agreed g h (both s ev)
-  probe-grows s ev later f = branch (λ (o : Outcome). Same o → Agreed g h (both s ev)) (encloses (g s nought) (g s one) y) (λ _ a. segment-grows g h halving s y ε limit (both s ev) a) (λ _ a. f a)
+  -- what follows a trial has the trial's list in its own
+  else-grows : (e : Entry) (f : Float → Evaluations → Outcome) → ((v : Float) (t : Evaluations) → Same (f v t) → Agreed g h t) → Same (orElse e f) → Agreed g h (seenIn e)
+  else-grows (outside v t) f k a = k v t a
+  else-grows (inside p) f k a = a
 
-  tries-grows : (n s : ℕ) (ev : Evaluations) → Same (tries g y ε limit n s ev) → Agreed g h ev
-  unfolding tries
-  tries-grows zero s ev a = a
-  tries-grows (suc n) s ev a = probe-grows s ev (tries g y ε limit n (suc s) (both s ev)) (tries-grows n (suc s) (both s ev)) a .1 .1
+  else-same : (e : Entry) (f q : Float → Evaluations → Outcome) → ((v : Float) (t : Evaluations) → Same (f v t) → f v t ≡ q v t) → Same (orElse e f) → orElse e f ≡ orElse e q
+  else-same (outside v t) f q k a = k v t a
+  else-same (inside p) f q k a = refl
 
-  tries-same : (n s : ℕ) (ev : Evaluations) → Same (tries g y ε limit n s ev) → tries g y ε limit n s ev ≡ tries h y ε limit n s ev
-  unfolding tries
-  tries-same zero s ev a = refl
-  tries-same (suc n) s ev a =
-      let e = probe-grows s ev (tries g y ε limit n (suc s) (both s ev)) (tries-grows n (suc s) (both s ev)) a in
-      rw (← e .0, ← e .1 .0) (alike Same (encloses (g s nought) (g s one) y) (segment-same g h halving s y ε limit (both s ev)) (tries-same n (suc s) (both s ev)) a)
+  -- two trials that come to the same where g and h agree
+  module _ (E F : Trial) (grows : (s : ℕ) (ev : Evaluations) → Agreed g h (seenIn (E s ev)) → Agreed g h ev) (same : (s : ℕ) (ev : Evaluations) → Agreed g h (seenIn (E s ev)) → E s ev ≡ F s ev) where
+    goes : (s : ℕ) (ev : Evaluations) (f q : Float → Evaluations → Outcome) → ((v : Float) (t : Evaluations) → Same (f v t) → Agreed g h t) → ((v : Float) (t : Evaluations) → Same (f v t) → f v t ≡ q v t)
+        → Same (orElse (E s ev) f) → orElse (E s ev) f ≡ orElse (F s ev) q
+    goes s ev f q k j a = else-same (E s ev) f q j a ∙ ap (λ (e : Entry). orElse e q) (same s ev (else-grows (E s ev) f k a))
 
-  last-grows : (k l : ℕ) (ev : Evaluations) → Same (last g y ε limit k l ev) → Agreed g h ev
-  unfolding last
-  last-grows k l ev a = tries-grows (min (l - 1 + 2) k - (l - 1)) (l - 1) ev a
+    tries-grows : (n s : ℕ) (ev : Evaluations) → Same (tries E n s ev) → Agreed g h ev
+    unfolding tries
+    tries-grows zero s ev a = a
+    tries-grows (suc n) s ev a = grows s ev (else-grows (E s ev) (λ v t. tries E n (suc s) t) (λ v t. tries-grows n (suc s) t) a)
 
-  last-same : (k l : ℕ) (ev : Evaluations) → Same (last g y ε limit k l ev) → last g y ε limit k l ev ≡ last h y ε limit k l ev
-  unfolding last
-  last-same k l ev a = tries-same (min (l - 1 + 2) k - (l - 1)) (l - 1) ev a
+    tries-same : (n s : ℕ) (ev : Evaluations) → Same (tries E n s ev) → tries E n s ev ≡ tries F n s ev
+    unfolding tries
+    tries-same zero s ev a = refl
+    tries-same (suc n) s ev a = goes s ev (λ v t. tries E n (suc s) t) (λ v t. tries F n (suc s) t) (λ v t. tries-grows n (suc s) t) (λ v t. tries-same n (suc s) t) a
 
-  halve-grows : (rising : Bool) (k n l c : ℕ) (ev : Evaluations) → Same (halve g y ε limit rising k n l c ev) → Agreed g h ev
-  unfolding halve
-  halve-grows rising k zero l c ev a = last-grows k l ev a
-  halve-grows rising k (suc n) l zero ev a = last-grows k l ev a
-  halve-grows rising k (suc n) l (suc c) ev a =
-      let m = l + c / 2 in
-      probe-grows m ev (cond (before rising y (g m nought)) (halve g y ε limit rising k n l (c / 2) (both m ev)) (halve g y ε limit rising k n (suc m) (c - c / 2) (both m ev)))
-      (branch (λ (o : Outcome). Same o → Agreed g h (both m ev)) (before rising y (g m nought)) (λ _. halve-grows rising k n l (c / 2) (both m ev)) (λ _. halve-grows rising k n (suc m) (c - c / 2) (both m ev))) a .1 .1
+    last-grows : (k l : ℕ) (ev : Evaluations) → Same (last E k l ev) → Agreed g h ev
+    unfolding last
+    last-grows k l ev a = tries-grows (min (l - 1 + 2) k - (l - 1)) (l - 1) ev a
 
-  halve-same : (rising : Bool) (k n l c : ℕ) (ev : Evaluations) → Same (halve g y ε limit rising k n l c ev) → halve g y ε limit rising k n l c ev ≡ halve h y ε limit rising k n l c ev
-  unfolding halve
-  halve-same rising k zero l c ev a = last-same k l ev a
-  halve-same rising k (suc n) l zero ev a = last-same k l ev a
-  halve-same rising k (suc n) l (suc c) ev a =
-      let m = l + c / 2 in
-      let later = cond (before rising y (g m nought)) (halve g y ε limit rising k n l (c / 2) (both m ev)) (halve g y ε limit rising k n (suc m) (c - c / 2) (both m ev)) in
-      let e =
-      probe-grows m ev later
-      (branch (λ (o : Outcome). Same o → Agreed g h (both m ev)) (before rising y (g m nought)) (λ _. halve-grows rising k n l (c / 2) (both m ev)) (λ _. halve-grows rising k n (suc m) (c - c / 2) (both m ev))) a in
-      rw (← e .0, ← e .1 .0)
-      (alike Same (encloses (g m nought) (g m one) y) (segment-same g h halving m y ε limit (both m ev))
-      (alike Same (before rising y (g m nought)) (halve-same rising k n l (c / 2) (both m ev)) (halve-same rising k n (suc m) (c - c / 2) (both m ev))) a)
+    last-same : (k l : ℕ) (ev : Evaluations) → Same (last E k l ev) → last E k l ev ≡ last F k l ev
+    unfolding last
+    last-same k l ev a = tries-same (min (l - 1 + 2) k - (l - 1)) (l - 1) ev a
 
-  pub find-same : (rising : Bool) (k : ℕ) (ev : Evaluations) → Same (find g y ε limit rising k ev) → find g y ε limit rising k ev ≡ find h y ε limit rising k ev
-  unfolding find
-  find-same rising k ev a = alike Same (leb k 12) (tries-same k 0 ev) (halve-same rising k (bitsOf k) 0 k ev) a
+    module _ (y : Float) (rising : Bool) (k : ℕ) where
+      halve-grows : (n l c : ℕ) (ev : Evaluations) → Same (halve E y rising k n l c ev) → Agreed g h ev
+      unfolding halve
+      halve-grows zero l c ev a = last-grows k l ev a
+      halve-grows (suc n) l zero ev a = last-grows k l ev a
+      halve-grows (suc n) l (suc c) ev a =
+          let m = l + c / 2 in
+          let f : Float → Evaluations → Outcome = λ v t. cond (before rising y v) (halve E y rising k n l (c / 2) t) (halve E y rising k n (suc m) (c - c / 2) t) in
+          grows m ev (else-grows (E m ev) f (λ v t. branch (λ (o : Outcome). Same o → Agreed g h t) (before rising y v) (λ _. halve-grows n l (c / 2) t) (λ _. halve-grows n (suc m) (c - c / 2) t)) a)
+
+      halve-same : (n l c : ℕ) (ev : Evaluations) → Same (halve E y rising k n l c ev) → halve E y rising k n l c ev ≡ halve F y rising k n l c ev
+      unfolding halve
+      halve-same zero l c ev a = last-same k l ev a
+      halve-same (suc n) l zero ev a = last-same k l ev a
+      halve-same (suc n) l (suc c) ev a =
+          let m = l + c / 2 in
+          let f : Float → Evaluations → Outcome = λ v t. cond (before rising y v) (halve E y rising k n l (c / 2) t) (halve E y rising k n (suc m) (c - c / 2) t) in
+          let q : Float → Evaluations → Outcome = λ v t. cond (before rising y v) (halve F y rising k n l (c / 2) t) (halve F y rising k n (suc m) (c - c / 2) t) in
+          goes m ev f q
+          (λ v t. branch (λ (o : Outcome). Same o → Agreed g h t) (before rising y v) (λ _. halve-grows n l (c / 2) t) (λ _. halve-grows n (suc m) (c - c / 2) t))
+          (λ v t. alike Same (before rising y v) (halve-same n l (c / 2) t) (halve-same n (suc m) (c - c / 2) t)) a
+
+      find-alike : (ev : Evaluations) → Same (find E y rising k ev) → find E y rising k ev ≡ find F y rising k ev
+      unfolding find
+      find-alike ev a = alike Same (leb k 12) (tries-same k 0 ev) (halve-same (bitsOf k) 0 k ev) a
+
+  pub find-same : (W : Weighting) (y ε : Float) (limit : ℕ) (rising : Bool) (k : ℕ) (ev : Evaluations) → Same (find (trial W g y ε limit) y rising k ev) → find (trial W g y ε limit) y rising k ev ≡ find (trial W h y ε limit) y rising k ev
+  find-same W y ε limit rising k ev a =
+      find-alike (trial W g y ε limit) (trial W h y ε limit) (λ s ev. enter-grows g h W s y ε limit ev) (λ s ev. enter-same g h W s y ε limit ev) y rising k ev a

@@ -8,6 +8,6 @@ use lib.Count.{leadingZeros}
 unfoldable pub bitsOf : ℕ → ℕ
 bitsOf k = 64 - leadingZeros 64 k
 
--- at most so many evaluations for k segments: limit + 26 up to 12, limit + 2b + 6 above
+-- at most so many evaluations for k segments: limit + 24 up to 12, limit + 2b + 4 above
 abbrev pub boundOf : ℕ → ℕ → ℕ
-boundOf k limit = cond (leb k 12) (limit + 26) (limit + 2 * bitsOf k + 6)
+boundOf k limit = cond (leb k 12) (limit + 24) (limit + 2 * bitsOf k + 4)

@@ -1,3 +1,5 @@
 pub mod Bound
 pub mod Search
+pub mod Trial
+pub mod Twice
 pub mod Shown

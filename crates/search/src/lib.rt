@@ -6,9 +6,10 @@ ghost use Rattle.basis.specs.Basis.{stepOf, matrixOf};
 ghost use Rattle.spline.specs.Segment.{weightsOf};
 ghost use Rattle.search.specs.Bound.{bitsOf, boundOf};
 ghost use Rattle.search.specs.Search.{before};
-ghost use Rattle.search.specs.Shown.{TestedIs, TriesIs, LastIs, HalveIs, FindIs};
+ghost use Rattle.search.specs.Shown.{TriesIs, LastIs, HalveIs, FindIs};
 use basis::Basis;
 use invert::Inverted;
+use invert::Tried;
 use spline::Weights;
 
 // The binary digits of k up to the highest one.
@@ -23,17 +24,10 @@ pub fn most_evaluations(k: usize, limit: u16) -> u32
     ensures { λ r. ⌜ r ≡ boundOf k limit ⌝ }
 {
     if k <= 12 {
-        limit as u32 + 26
+        limit as u32 + 24
     } else {
-        limit as u32 + 2 * bits(k) + 6
+        limit as u32 + 2 * bits(k) + 4
     }
-}
-
-// What both ends of a segment tell: its start, and whether they enclose the target; with its row sums.
-pub struct Tested {
-    pub weights: Weights,
-    pub start: f64,
-    pub holds: bool,
 }
 
 // The row sums of segment s: the part of the knots that starts at its place is lent, and nothing copied.
@@ -43,21 +37,6 @@ pub fn weights_at(b: Basis, knots: &[f64], s: usize) -> Weights
 {
     let start = s * basis::step(b);
     spline::segment::weights(b, &knots[start..])
-}
-
-// Both ends of segment s are evaluated.
-pub fn probe(b: Basis, knots: &[f64], s: usize, y: f64) -> Tested
-    requires { ⌜ (s * stepOf b + 4 ≤ length (now knots)) × (length (now knots) ≤ 4096) ⌝ }
-    ensures { λ r. ⌜ TestedIs b (now (knots .entry)) s y r ⌝ }
-{
-    let w = weights_at(b, knots, s);
-    let v0 = spline::segment::horner(w, 0.0);
-    let v1 = spline::segment::horner(w, 1.0);
-    Tested {
-        weights: w,
-        start: v0,
-        holds: invert::encloses(v0, v1, y),
-    }
 }
 
 // The segments from `first` up to below `end` are tried in order.
@@ -77,12 +56,15 @@ pub fn tries(
     let mut s = first;
     let mut made = count;
     while s < end {
-        let p = probe(b, knots, s, y);
-        if p.holds {
-            let w = p.weights;
-            return invert::invert(w, s, y, precision, limit, made + 2);
+        let t = invert::enter(weights_at(b, knots, s), s, y, precision, limit, made);
+        match t {
+            Tried::Inside(p) => {
+                return Inverted::At(p);
+            }
+            Tried::Outside(_) => {
+                made += 2;
+            }
         }
-        made += 2;
         s += 1;
     }
     Inverted::OffCurve(made)
@@ -140,37 +122,16 @@ pub fn halve(
     }
     let half = (wide - 1) / 2;
     let mid = left + half;
-    let p = probe(b, knots, mid, y);
-    if p.holds {
-        let w = p.weights;
-        return invert::invert(w, mid, y, precision, limit, count + 2);
-    }
-    if lies_before(rising, y, p.start) {
-        halve(
-            b,
-            knots,
-            y,
-            precision,
-            limit,
-            rising,
-            k,
-            left,
-            half,
-            count + 2,
-        )
-    } else {
-        halve(
-            b,
-            knots,
-            y,
-            precision,
-            limit,
-            rising,
-            k,
-            mid + 1,
-            wide - 1 - half,
-            count + 2,
-        )
+    let t = invert::enter(weights_at(b, knots, mid), mid, y, precision, limit, count);
+    match t {
+        Tried::Inside(p) => Inverted::At(p),
+        Tried::Outside(start) => {
+            if lies_before(rising, y, start) {
+                halve(b, knots, y, precision, limit, rising, k, left, half, count + 2)
+            } else {
+                halve(b, knots, y, precision, limit, rising, k, mid + 1, wide - 1 - half, count + 2)
+            }
+        }
     }
 }
 

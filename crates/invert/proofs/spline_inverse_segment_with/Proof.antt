@@ -1,5 +1,5 @@
+use Rattle.invert.proofs.Verdicts.{four-for, refused-is, place-is, off-is}
 use borrow.Author.Needs.{needs}
-use Rattle.invert.proofs.Verdicts.{four-for, refused-is, answer-is}
 use Rattle.invert.proofs.spline_inverse_segment_with.Statement.{statement}
 use Rattle.invert.proofs.spline_inverse_segment_with.Tie as tie
 
@@ -15,14 +15,23 @@ enum-told c = search needs
 weights-requires : tie.Need-weights-requires
 weights-requires c κs = four-for (c .before .before .before .before .args .b) (c .before .before .before .before .args .y) (c .before .before .before .before .args .cv .now) (c .before .before .before .before .args .limit) (c .before .before .before .before .args .precision) (c .before .before .segment-verdict .ensures) (c .enum-told .given .1)
 
-invert-requires : tie.Need-invert-requires
-invert-requires c κs = search needs
+enter-requires : tie.Need-enter-requires
+enter-requires c κs = search needs
+
+enum-known-t : tie.Need-enum-known-t
+enum-known-t c = search needs
+
+enum-told-2 : tie.Need-enum-told-2
+enum-told-2 c = search needs
 
 returns : tie.Need-returns
-returns c = refused-is (c .before .before .before .before .before .args .b) (c .before .before .before .before .before .args .y) (c .before .before .before .before .before .args .cv .now) (c .before .before .before .before .before .args .limit) (c .before .before .before .before .before .args .precision) (c .before .before .before .segment-verdict .ensures) (c .before .v .given .1)
+returns c = off-is (c .before .before .before .before .before .before .before .before .args .b) (c .before .before .before .before .before .before .before .before .args .y) (c .before .before .before .before .before .before .before .before .args .cv .now) (c .before .before .before .before .before .before .before .before .args .limit) (c .before .before .before .before .before .before .before .before .args .precision) (c .before .before .before .before .before .before .segment-verdict .ensures) (c .before .before .before .before .enum-told .given .1) (c .before .before .before .weights .result) (c .before .before .before .weights .ensures) (c .before .before .enter .result) (c .before .before .enter .ensures) (c .enum-told2 .given .1)
 
 returns-2 : tie.Need-returns-2
-returns-2 c = answer-is (c .before .before .before .before .before .before .args .b) (c .before .before .before .before .before .before .args .y) (c .before .before .before .before .before .before .args .cv .now) (c .before .before .before .before .before .before .args .limit) (c .before .before .before .before .before .before .args .precision) (c .before .before .before .before .segment-verdict .ensures) (c .before .weights .result) (c .invert .result) (c .before .before .enum-told .given .1) (c .before .weights .ensures) (c .invert .ensures)
+returns-2 c = refused-is (c .before .before .before .before .before .args .b) (c .before .before .before .before .before .args .y) (c .before .before .before .before .before .args .cv .now) (c .before .before .before .before .before .args .limit) (c .before .before .before .before .before .args .precision) (c .before .before .before .segment-verdict .ensures) (c .before .v .given .1)
+
+returns-3 : tie.Need-returns-3
+returns-3 c = place-is (c .before .before .before .before .before .before .before .before .before .args .b) (c .before .before .before .before .before .before .before .before .before .args .y) (c .before .before .before .before .before .before .before .before .before .args .cv .now) (c .before .before .before .before .before .before .before .before .before .args .limit) (c .before .before .before .before .before .before .before .before .before .args .precision) (c .before .before .before .before .before .before .before .segment-verdict .ensures) (c .before .before .before .before .before .enum-told .given .1) (c .before .before .before .before .weights .result) (c .before .before .before .before .weights .ensures) (c .before .before .before .enter .result) (c .before .before .before .enter .ensures) (c .before .t .given .1)
 
 pub spline-inverse-segment-with-spec : {M : Type 1} → statement M
 spline-inverse-segment-with-spec =
@@ -32,6 +41,9 @@ spline-inverse-segment-with-spec =
     enum-known-v
     enum-told
     weights-requires
-    invert-requires
+    enter-requires
+    enum-known-t
+    enum-told-2
     returns
-    returns-2)
+    returns-2
+    returns-3)
