@@ -18,28 +18,48 @@ numberOf BadPrecision = 6
 numberOf NoRounds = 7
 numberOf LinearOutput = 8
 numberOf ShortBuffer = 9
-numberOf BadKnot = 4
-numberOf TurnsBack = 10
+numberOf (BadKnot i) = 4
+numberOf (TurnsBack i) = 10
 numberOf OffCurve = 11
 numberOf BadLine = 12
 
--- the rows, in the table's order
-abbrev pub rows : List Refusal
-rows = TooFew ∷ BadPattern ∷ TooMany ∷ NotANumber ∷ BadPrecision ∷ NoRounds ∷ LinearOutput ∷ ShortBuffer ∷ BadKnot ∷ TurnsBack ∷ OffCurve ∷ BadLine ∷ []
+-- the place that it tells besides: a knot's number, from 0; most tell none
+abbrev pub placesOf : Refusal → List ℕ
+placesOf TooFew = []
+placesOf BadPattern = []
+placesOf TooMany = []
+placesOf NotANumber = []
+placesOf BadPrecision = []
+placesOf NoRounds = []
+placesOf LinearOutput = []
+placesOf ShortBuffer = []
+placesOf (BadKnot i) = i ∷ []
+placesOf (TurnsBack i) = i ∷ []
+placesOf OffCurve = []
+placesOf BadLine = []
 
--- the rows that a call uses, in any order, each with whether it applies
+-- the rows of the table by their numbers, in its order
+abbrev pub rows : List ℕ
+rows = 1 ∷ 2 ∷ 3 ∷ 5 ∷ 6 ∷ 7 ∷ 8 ∷ 9 ∷ 4 ∷ 10 ∷ 11 ∷ 12 ∷ []
+
+-- the refusals that a call has use for, in any order, each with whether its row applies
 abbrev pub Uses : Type 0
 Uses = List (Refusal × Bool)
 
--- whether a row applies; one that the call has no use for never does
-abbrev pub applies : Refusal → Uses → Bool
-applies r [] = false
-applies r (u ∷ us) = cond (eqb (numberOf r) (numberOf (u .0))) (u .1) (applies r us)
+-- whether the row with a number applies; one that the call has no use for never does
+abbrev pub applies : ℕ → Uses → Bool
+applies n [] = false
+applies n (u ∷ us) = cond (eqb n (numberOf (u .0))) (u .1) (applies n us)
 
--- the first of the rows that applies
-abbrev pub firstOf : List Refusal → Uses → Verdict
+-- the refusal by that row
+abbrev pub refusalBy : ℕ → Uses → Refusal
+refusalBy n [] = BadLine
+refusalBy n (u ∷ us) = cond (eqb n (numberOf (u .0))) (u .0) (refusalBy n us)
+
+-- by the first of the rows that applies
+abbrev pub firstOf : List ℕ → Uses → Verdict
 firstOf [] us = Passed
-firstOf (r ∷ rs) us = cond (applies r us) (Failed r) (firstOf rs us)
+firstOf (n ∷ ns) us = cond (applies n us) (Failed (refusalBy n us)) (firstOf ns us)
 
 abbrev pub first : Uses → Verdict
 first us = firstOf rows us

@@ -2,6 +2,7 @@
 ghost use mathlib.Core.Path.{_≡_};
 ghost use Rattle.error.specs.Refusals.{numberOf};
 
+// A bad knot and a turn back tell the knot's number, from 0.
 pub enum Refusal {
     TooFew,
     BadPattern,
@@ -11,8 +12,8 @@ pub enum Refusal {
     NoRounds,
     LinearOutput,
     ShortBuffer,
-    BadKnot,
-    TurnsBack,
+    BadKnot(u16),
+    TurnsBack(u16),
     OffCurve,
     BadLine,
 }
@@ -35,8 +36,8 @@ pub fn number(r: Refusal) -> u8
         Refusal::NoRounds => 7,
         Refusal::LinearOutput => 8,
         Refusal::ShortBuffer => 9,
-        Refusal::BadKnot => 4,
-        Refusal::TurnsBack => 10,
+        Refusal::BadKnot(_) => 4,
+        Refusal::TurnsBack(_) => 10,
         Refusal::OffCurve => 11,
         Refusal::BadLine => 12,
     }

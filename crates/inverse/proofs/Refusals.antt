@@ -1,15 +1,15 @@
 -- Which refusal the inversion of a curve gives, and when it says that the knots turn back. Assumes nothing.
-use mathlib.Core.Path.{_≡_, refl, sym}
+use mathlib.Core.Path.{_≡_, refl, sym, subst}
 use mathlib.Core.Bool.{Bool, true, _&&_}
 use mathlib.Core.List.{List, [], _∷_}
-use Prim.Native.Nat.{ℕ}
+use Prim.Native.Nat.{ℕ, _≤_}
 use lib.Dec.{T}
 use lib.ListN.{length}
 use lib.Ieee.{Float}
 use lib.Ieee.Bits.{is-true}
 use lib.Ieee.Fits.{and-l, and-r}
 use Rattle.error.specs.declared.Refusal.{Refusal}
-use Rattle.error.specs.declared.Refusal.the-variants.{TooFew, BadPattern, TooMany, NotANumber, BadPrecision, NoRounds, LinearOutput, ShortBuffer, BadKnot, TurnsBack, OffCurve as OffCurveRow, BadLine}
+use Rattle.error.specs.declared.Refusal.the-variants.{TurnsBack}
 use Rattle.error.specs.declared.Verdict.the-variants.{Failed}
 use Rattle.error.specs.Refusals.{Uses, rows, firstOf, first}
 use Rattle.error.proofs.First.{goes-past, None, none-pass, First, first-sound, first-complete, first-applies}
@@ -22,15 +22,15 @@ use Rattle.invert.proofs.Verdicts.{Past, answered-past, refused-by}
 use Rattle.invert.specs.Round.{halving}
 use Rattle.search.specs.Trial.{trial}
 use Rattle.search.specs.Search.{find}
-use Rattle.inverse.specs.Order.{turnsBack}
+use Rattle.inverse.specs.Order.{turnsBack, turningKnot}
 use Rattle.inverse.specs.EndRule.{atLow, atHigh, knotEnds}
 use Rattle.inverse.specs.Curve.{parameterOf, located}
 use Rattle.inverse.specs.Inverse.{inverseUses, inverseOf}
-use Rattle.inverse.proofs.TurnsBack.{AgainstAt, turns-back-at, turns-back-where}
+use Rattle.inverse.proofs.TurnsBack.{AgainstAt, turning-first, turns-back-where}
 
 -- every row before refusal 10
-abbrev pub earlier : List Refusal
-earlier = TooFew ∷ BadPattern ∷ TooMany ∷ NotANumber ∷ BadPrecision ∷ NoRounds ∷ LinearOutput ∷ ShortBuffer ∷ BadKnot ∷ []
+abbrev pub earlier : List ℕ
+earlier = 1 ∷ 2 ∷ 3 ∷ 5 ∷ 6 ∷ 7 ∷ 8 ∷ 9 ∷ 4 ∷ []
 
 module _ (b : Basis) (y : Float) (ks : List Float) (check : Bool) (limit : ℕ) (ε : Float) where
   abbrev uses : Uses
@@ -54,19 +54,23 @@ module _ (b : Basis) (y : Float) (ks : List Float) (check : Bool) (limit : ℕ) 
   inverse-refused-where r f = rw (first-complete rows uses r f)
 
   -- ---- refusal 10
-  -- only where the order check is wanted and some neighbouring pair from knot 1 on goes against the direction
-  pub inverse-turns-back : inverseOf b y ks check limit ε ≡ Refused TurnsBack → T check × ((i : ℕ) × AgainstAt ks i)
-  inverse-turns-back e =
-      let p : (check && turnsBack ks) ≡ true = first-applies uses rows TurnsBack (inverse-refused-only TurnsBack e) in
-      let t : T (check && turnsBack ks) = rw p tt in
-      (and-l check (turnsBack ks) t, turns-back-at ks (and-r check (turnsBack ks) t))
+  -- only where the order check is wanted, and with the first knot whose step to the next goes against the direction
+  pub inverse-turns-back : (i : ℕ) → inverseOf b y ks check limit ε ≡ Refused (TurnsBack i) → T check × AgainstAt ks i × ((j : ℕ) → AgainstAt ks j → i ≤ j)
+  inverse-turns-back i e =
+      let p = first-applies uses rows (TurnsBack i) (inverse-refused-only (TurnsBack i) e) in
+      let a : (check && turnsBack ks) ≡ true = p .0 in
+      let w : TurnsBack (turningKnot ks) ≡ TurnsBack i = p .1 in
+      let q : turningKnot ks ≡ i = cc in
+      let t : T (check && turnsBack ks) = rw a tt in
+      let f = turning-first ks (and-r check (turnsBack ks) t) in
+      (and-l check (turnsBack ks) t, subst (AgainstAt ks) q (f .0), subst (λ (i : ℕ). (j : ℕ) → AgainstAt ks j → i ≤ j) q (f .1))
 
   -- and everywhere there where no earlier row applies
-  pub inverse-turns-back-where : None earlier (inverseUses b y ks check limit ε) → T check → (i : ℕ) → AgainstAt ks i → inverseOf b y ks check limit ε ≡ Refused TurnsBack
+  pub inverse-turns-back-where : None earlier (inverseUses b y ks check limit ε) → T check → (i : ℕ) → AgainstAt ks i → inverseOf b y ks check limit ε ≡ Refused (TurnsBack (turningKnot ks))
   unfolding inverseOf
   inverse-turns-back-where n c i a =
-      let later : List Refusal = OffCurveRow ∷ BadLine ∷ [] in
+      let later : List ℕ = 11 ∷ 12 ∷ [] in
       let q : (check && turnsBack ks) ≡ true = rw (is-true check c, is-true (turnsBack ks) (turns-back-where ks i a)) in
-      let s : firstOf (TurnsBack ∷ later) uses ≡ Failed TurnsBack = simp q in
-      let v : first uses ≡ Failed TurnsBack = sym (goes-past earlier (TurnsBack ∷ later) uses (sym (none-pass earlier uses n)) refl (sym s)) in
+      let s : firstOf (10 ∷ later) uses ≡ Failed (TurnsBack (turningKnot ks)) = simp q in
+      let v : first uses ≡ Failed (TurnsBack (turningKnot ks)) = sym (goes-past earlier (10 ∷ later) uses (sym (none-pass earlier uses n)) refl (sym s)) in
       rw v

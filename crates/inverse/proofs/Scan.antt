@@ -16,7 +16,7 @@ use Rattle.inverse.specs.Order.{ordered}
 use Rattle.inverse.specs.Scan.{follows, kept}
 
 -- ---- the loop
-next : (ks : List Float) (i : ℕ) → i < length ks → drop i ks ≡ getD ks i nan ∷ drop (i + 1) ks
+pub next : (ks : List Float) (i : ℕ) → i < length ks → drop i ks ≡ getD ks i nan ∷ drop (i + 1) ks
 next ks i h = let q : suc i ≡ i + 1 = omega arith in drop-cons ks i nan h ∙ ap (λ (n : ℕ). getD ks i nan ∷ drop n ks) q
 
 kept-pair : (rising : Bool) (ks : List Float) (i : ℕ) → i + 1 < length ks → kept rising (drop i ks) ≡ (follows rising (getD ks i nan) (getD ks (i + 1) nan) && kept rising (drop (i + 1) ks))

@@ -17,13 +17,13 @@ use Rattle.basis.specs.declared.Basis.{Basis}
 use Rattle.basis.specs.Basis.{segmentsOf}
 use Rattle.doubles.proofs.Tests.{holds, fails}
 use Rattle.spline.specs.Segment.{segmentOf}
-use Rattle.spline.specs.Rows.{inRange, allInRange, curveLength}
+use Rattle.spline.specs.Rows.{inRange, allInRange, firstBad, curveLength}
 use Rattle.invert.specs.declared.Inverted.{Inverted}
 use Rattle.invert.specs.declared.Inverted.the-variants.{Refused}
 use Rattle.invert.specs.Answer.{asked}
 use Rattle.invert.specs.Round.{halving}
 use Rattle.invert.proofs.Verdicts.{askedRows, lastRows}
-use Rattle.inverse.specs.Order.{rises, turnsBack}
+use Rattle.inverse.specs.Order.{rises, turnsBack, turningKnot}
 use Rattle.inverse.specs.EndRule.{knotEnds}
 use Rattle.inverse.specs.Curve.{located}
 use Rattle.inverse.specs.Inverse.{inverseUses, inverseOf}
@@ -47,33 +47,33 @@ one-out (x ∷ xs) (suc i) h e = let q = one-out xs i (omega arith) e in rw q (a
 pub sound-out : (ks : List Float) (i : ℕ) → i < length ks → inRange (getD ks i nan) ≡ false → false ≡ (allInRange ks && not (turnsBack ks))
 sound-out ks i h e = rw (one-out ks i h e)
 
--- ---- the knots' two rows: a is that all are in range, t that they turn back
-abbrev knotRows : Bool → Bool → Bool → Uses
-knotRows a t check = (BadKnot, not a) ∷ (TurnsBack, check && t) ∷ []
+-- ---- the knots' two rows: a is that all are in range, t that they turn back; p and q are the knots told
+abbrev knotRows : ℕ → ℕ → Bool → Bool → Bool → Uses
+knotRows p q a t check = (BadKnot p, not a) ∷ (TurnsBack q, check && t) ∷ []
 
-module _ (a t check : Bool) where
-  pub knots-sound : (a && not t) ≡ true → Passed ≡ first (knotRows a t check)
+module _ (p q : ℕ) (a t check : Bool) where
+  pub knots-sound : (a && not t) ≡ true → Passed ≡ first (knotRows p q a t check)
   knots-sound = go a t check
     where
-      go : (a t check : Bool) → (a && not t) ≡ true → Passed ≡ first (knotRows a t check)
+      go : (a t check : Bool) → (a && not t) ≡ true → Passed ≡ first (knotRows p q a t check)
       go true false true e = refl
       go true false false e = refl
       go true true check e = absurd (holds e)
       go false t check e = absurd (holds e)
 
-  pub knots-turn : check ≡ true → (a && not t) ≡ false → a ≡ true → Failed TurnsBack ≡ first (knotRows a t check)
-  knots-turn c = go a t check c
+  pub knots-turn : {r : Refusal} → check ≡ true → (a && not t) ≡ false → a ≡ true → r ≡ TurnsBack q → Failed r ≡ first (knotRows p q a t check)
+  knots-turn {r} c e h k = ap Failed k ∙ go a t check c e h
     where
-      go : (a t check : Bool) → check ≡ true → (a && not t) ≡ false → a ≡ true → Failed TurnsBack ≡ first (knotRows a t check)
+      go : (a t check : Bool) → check ≡ true → (a && not t) ≡ false → a ≡ true → Failed (TurnsBack q) ≡ first (knotRows p q a t check)
       go true true true c e h = refl
       go true true false c e h = absurd (holds c)
       go true false check c e h = absurd (fails e)
       go false t check c e h = absurd (holds h)
 
-  pub knots-bad : a ≡ false → Failed BadKnot ≡ first (knotRows a t check)
-  knots-bad h = rw h
+  pub knots-bad : {r : Refusal} → a ≡ false → r ≡ BadKnot p → Failed r ≡ first (knotRows p q a t check)
+  knots-bad h k = rw h (ap Failed k)
 
-  pub knots-unchecked : check ≡ false → a ≡ true → Passed ≡ first (knotRows a t check)
+  pub knots-unchecked : check ≡ false → a ≡ true → Passed ≡ first (knotRows p q a t check)
   knots-unchecked c h = rw (c, h)
 
 -- ---- the call's rows, in the order of its tests
@@ -88,7 +88,7 @@ module _ (b : Basis) (y : Float) (ks : List Float) (check : Bool) (limit : ℕ) 
     pub by-asked : {r : Refusal} → a ≡ Failed r → a ≡ first uses
     by-asked d = goes-on uses e k (stops-in askedRows lastRows uses e-a d)
 
-    pub by-knots : {w : Verdict} → a ≡ Passed → w ≡ first (knotRows (allInRange ks) (turnsBack ks) check) → w ≡ first uses
+    pub by-knots : {w : Verdict} → a ≡ Passed → w ≡ first (knotRows (firstBad ks) (turningKnot ks) (allInRange ks) (turnsBack ks) check) → w ≡ first uses
     by-knots p d = goes-on uses e k (goes-past askedRows lastRows uses e-a p d)
 
 -- ---- what a passed verdict says

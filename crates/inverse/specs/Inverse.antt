@@ -1,27 +1,26 @@
 -- The call that inverts a curve: what it refuses, and what it answers. Definitions only.
 use mathlib.Core.List.{List, [], _∷_, _++_}
-use mathlib.Core.Bool.{Bool, not, _&&_}
+use mathlib.Core.Bool.{Bool}
 use Prim.Native.Nat.{ℕ}
 use lib.ListN.{length}
 use lib.Ieee.{Float}
-use Rattle.error.specs.declared.Refusal.the-variants.{BadKnot, TurnsBack}
 use Rattle.error.specs.declared.Verdict.{Verdict}
 use Rattle.error.specs.declared.Verdict.the-variants.{Passed, Failed}
 use Rattle.error.specs.Refusals.{Uses, first}
 use Rattle.basis.specs.declared.Basis.{Basis}
 use Rattle.basis.specs.Basis.{segmentsOf}
 use Rattle.spline.specs.Segment.{segmentOf}
-use Rattle.spline.specs.Rows.{curveLength, allInRange}
+use Rattle.spline.specs.Rows.{curveLength, badKnot}
 use Rattle.invert.specs.declared.Inverted.{Inverted}
 use Rattle.invert.specs.Evaluations.{Evaluations}
 use Rattle.invert.specs.Answer.{inverted, asked}
 use Rattle.invert.specs.Round.{halving}
-use Rattle.inverse.specs.Order.{turnsBack}
+use Rattle.inverse.specs.Order.{turnBack}
 use Rattle.inverse.specs.EndRule.{knotEnds}
 use Rattle.inverse.specs.Curve.{located, evaluations}
 
 abbrev pub inverseUses : Basis → Float → List Float → Bool → ℕ → Float → Uses
-inverseUses b y ks check limit ε = curveLength b (length ks) ++ asked y limit ε ++ ((BadKnot, not (allInRange ks)) ∷ (TurnsBack, check && turnsBack ks) ∷ [])
+inverseUses b y ks check limit ε = curveLength b (length ks) ++ asked y limit ε ++ (badKnot ks ∷ turnBack check ks ∷ [])
 
 unfoldable pub inverseOf : Basis → Float → List Float → Bool → ℕ → Float → Inverted
 inverseOf b y ks check limit ε =

@@ -1,9 +1,11 @@
 -- The direction of the knots, and the order check. Definitions only.
 use mathlib.Core.List.{List, [], _∷_}
-use mathlib.Core.Bool.{Bool, true, not, _&&_}
-use Prim.Native.Nat.{ℕ, _-_}
+use mathlib.Core.Bool.{Bool, true, not, cond, _&&_}
+use Prim.Native.Nat.{ℕ, suc, _-_}
 use lib.ListN.{length, getD, drop}
 use lib.Ieee.{Float, nan, lt}
+use Rattle.error.specs.declared.Refusal.{Refusal}
+use Rattle.error.specs.declared.Refusal.the-variants.{TurnsBack}
 use Rattle.search.specs.Search.{before}
 
 abbrev pub knot : List Float → ℕ → Float
@@ -22,3 +24,17 @@ ordered rising (x ∷ (z ∷ r)) = not (before rising z x) && ordered rising (z 
 -- from knot 1 on: knot 0 is not looked at
 abbrev pub turnsBack : List Float → Bool
 turnsBack ks = not (ordered (rises ks) (drop 1 ks))
+
+-- the number of the first knot whose step to the next goes against the direction, where the list begins with knot i
+unfoldable pub turnsAt : Bool → ℕ → List Float → ℕ
+turnsAt rising i [] = i
+turnsAt rising i (x ∷ []) = i
+turnsAt rising i (x ∷ (z ∷ r)) = cond (before rising z x) i (turnsAt rising (suc i) (z ∷ r))
+
+-- looked for from knot 1 on
+abbrev pub turningKnot : List Float → ℕ
+turningKnot ks = turnsAt (rises ks) 1 (drop 1 ks)
+
+-- the row of the order check
+abbrev pub turnBack : Bool → List Float → Refusal × Bool
+turnBack check ks = (TurnsBack (turningKnot ks), check && turnsBack ks)

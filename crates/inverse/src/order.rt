@@ -4,10 +4,10 @@ ghost use mathlib.Core.Bool.{not, _&&_};
 ghost use mathlib.Core.List.{[], _∷_};
 ghost use Prim.Native.Nat.{_≤_};
 ghost use lib.ListN.{length, drop};
-ghost use Rattle.error.specs.declared.Refusal.the-variants.{BadKnot, TurnsBack};
+ghost use Rattle.error.specs.declared.Refusal.the-variants.{TurnsBack};
 ghost use Rattle.error.specs.Refusals.{first};
-ghost use Rattle.spline.specs.Rows.{allInRange};
-ghost use Rattle.inverse.specs.Order.{rises, turnsBack};
+ghost use Rattle.spline.specs.Rows.{allInRange, badKnot};
+ghost use Rattle.inverse.specs.Order.{rises, turnsBack, turnsAt, turningKnot, turnBack};
 ghost use Rattle.inverse.specs.Inverse.{inverseUses};
 ghost use Rattle.inverse.specs.Scan.{follows, kept};
 use basis::Basis;
@@ -54,24 +54,47 @@ fn is_sound(knots: &[f64]) -> bool
     false
 }
 
+// From knot 1 on, the first whose step to the next goes against the direction; the last where none does.
+fn first_turn(rising: bool, knots: &[f64]) -> usize
+    requires { ⌜ 4 ≤ length (now knots) ⌝ }
+    ensures { λ r. ⌜ (r ≡ turnsAt rising 1 (drop 1 (now (knots .entry)))) × (r ≤ length (now (knots .entry))) ⌝ }
+{
+    let mut i = 1;
+    while i + 1 < knots.len() {
+        if search::lies_before(rising, knots[i + 1], knots[i]) {
+            return i;
+        }
+        i += 1;
+    }
+    i
+}
+
+// Which knot turns back; looked for only where one does.
+fn turning_knot(knots: &[f64]) -> Refusal
+    requires { ⌜ (4 ≤ length (now knots)) × (length (now knots) ≤ 4096) ⌝ }
+    ensures { λ r. ⌜ r ≡ TurnsBack (turningKnot (now (knots .entry))) ⌝ }
+{
+    Refusal::TurnsBack(first_turn(rising(knots), knots) as u16)
+}
+
 // One scan where nothing is wrong; a second tells which row applies.
 pub fn knots_verdict(knots: &[f64], check: bool) -> Verdict
-    requires { ⌜ 4 ≤ length (now knots) ⌝ }
-    ensures { λ r. ⌜ r ≡ first ((BadKnot, not (allInRange (now (knots .entry)))) ∷ (TurnsBack, check && turnsBack (now (knots .entry))) ∷ []) ⌝ }
+    requires { ⌜ (4 ≤ length (now knots)) × (length (now knots) ≤ 4096) ⌝ }
+    ensures { λ r. ⌜ r ≡ first (badKnot (now (knots .entry)) ∷ turnBack check (now (knots .entry)) ∷ []) ⌝ }
 {
     if check {
         if is_sound(knots) {
             return Verdict::Passed;
         }
         if spline::rows::all_in_range(knots) {
-            return Verdict::Failed(Refusal::TurnsBack);
+            return Verdict::Failed(turning_knot(knots));
         }
-        return Verdict::Failed(Refusal::BadKnot);
+        return Verdict::Failed(spline::rows::bad_knot(knots));
     }
     if spline::rows::all_in_range(knots) {
         Verdict::Passed
     } else {
-        Verdict::Failed(Refusal::BadKnot)
+        Verdict::Failed(spline::rows::bad_knot(knots))
     }
 }
 

@@ -9,7 +9,7 @@ use borrow.Author.Tests.{ltb-false, eqb-false, not-false}
 use lib.ListN.{length, drop}
 use lib.Ieee.{Float, isNan}
 use Rattle.error.specs.declared.Refusal.{Refusal}
-use Rattle.error.specs.declared.Refusal.the-variants.{NotANumber, BadPrecision, NoRounds, LinearOutput, ShortBuffer, BadKnot, TurnsBack, OffCurve, BadLine}
+use Rattle.error.specs.declared.Refusal.the-variants.{BadKnot}
 use Rattle.error.specs.declared.Verdict.{Verdict}
 use Rattle.error.specs.declared.Verdict.the-variants.{Passed, Failed}
 use Rattle.error.specs.Refusals.{Uses, rows, first}
@@ -18,7 +18,7 @@ use Rattle.basis.specs.declared.Basis.{Basis}
 use Rattle.basis.specs.Basis.{stepOf, matrixOf}
 use Rattle.spline.specs.declared.Weights.{Weights}
 use Rattle.spline.specs.Segment.{weightsOf, hornerOf}
-use Rattle.spline.specs.Rows.{segmentLength, allInRange}
+use Rattle.spline.specs.Rows.{segmentLength, allInRange, firstBad}
 use Rattle.invert.specs.declared.Inverted.{Inverted}
 use Rattle.invert.specs.declared.Inverted.the-variants.{Refused, OffCurve as OffSegment, At}
 use Rattle.invert.specs.Evaluations.{Evaluations}
@@ -32,11 +32,11 @@ use Rattle.invert.proofs.Turns.{was-outside, was-inside}
 use Rattle.invert.specs.Answer.{answered, alone, inverted, precise, asked, inverseSegmentUses, inverseSegmentOf}
 
 -- ---- the rows of the target, the precision and the limit, and those after them
-abbrev pub askedRows : List Refusal
-askedRows = NotANumber ∷ BadPrecision ∷ NoRounds ∷ []
+abbrev pub askedRows : List ℕ
+askedRows = 5 ∷ 6 ∷ 7 ∷ []
 
-abbrev pub lastRows : List Refusal
-lastRows = LinearOutput ∷ ShortBuffer ∷ BadKnot ∷ TurnsBack ∷ OffCurve ∷ BadLine ∷ []
+abbrev pub lastRows : List ℕ
+lastRows = 8 ∷ 9 ∷ 4 ∷ 10 ∷ 11 ∷ 12 ∷ []
 
 module _ (y : Float) (cv : List Float) (limit : ℕ) (ε : Float) {l : Verdict} (e : l ≡ first (segmentLength (length cv))) where
   abbrev uses : Uses
@@ -52,8 +52,8 @@ module _ (y : Float) (cv : List Float) (limit : ℕ) (ε : Float) {l : Verdict} 
     pub by-none : a ≡ Passed → allInRange cv ≡ true → Passed ≡ first uses
     by-none p d = goes-on uses e k (goes-past askedRows lastRows uses e-a p (simp d))
 
-    pub by-knots : a ≡ Passed → allInRange cv ≡ false → Failed BadKnot ≡ first uses
-    by-knots p d = goes-on uses e k (goes-past askedRows lastRows uses e-a p (simp d))
+    pub by-knots : a ≡ Passed → allInRange cv ≡ false → {r : Refusal} → r ≡ BadKnot (firstBad cv) → Failed r ≡ first uses
+    by-knots p d q = goes-on uses e k (goes-past askedRows lastRows uses e-a p (simp d (ap Failed q)))
 
 -- ---- what a passed verdict says
 pub record Passes (y : Float) (cv : List Float) (limit : ℕ) (ε : Float) : Type 0 where

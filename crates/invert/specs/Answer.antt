@@ -5,13 +5,13 @@ use Prim.Native.Nat.{ℕ}
 use lib.Dec.{eqb}
 use lib.ListN.{length}
 use lib.Ieee.{Float, inf, binary64, ofBits, lt, isNan}
-use Rattle.error.specs.declared.Refusal.the-variants.{NotANumber, BadPrecision, NoRounds, BadKnot, OffCurve as OffCurveRow}
+use Rattle.error.specs.declared.Refusal.the-variants.{NotANumber, BadPrecision, NoRounds, OffCurve as OffCurveRow}
 use Rattle.error.specs.declared.Verdict.{Verdict}
 use Rattle.error.specs.declared.Verdict.the-variants.{Passed, Failed}
 use Rattle.error.specs.Refusals.{numberOf, Uses, first}
 use Rattle.basis.specs.declared.Basis.{Basis}
 use Rattle.spline.specs.Segment.{segmentOf}
-use Rattle.spline.specs.Rows.{segmentLength, allInRange}
+use Rattle.spline.specs.Rows.{segmentLength, badKnot}
 use Rattle.doubles.specs.Numbers.{nought}
 use Rattle.invert.specs.declared.Place.{Place}
 use Rattle.invert.specs.declared.Inverted.{Inverted}
@@ -60,7 +60,7 @@ abbrev pub asked : Float → ℕ → Float → Uses
 asked y limit ε = (NotANumber, isNan y) ∷ (BadPrecision, not (precise ε)) ∷ (NoRounds, eqb limit 0) ∷ []
 
 abbrev pub inverseSegmentUses : Float → List Float → ℕ → Float → Uses
-inverseSegmentUses y cv limit ε = segmentLength (length cv) ++ asked y limit ε ++ ((BadKnot, not (allInRange cv)) ∷ [])
+inverseSegmentUses y cv limit ε = segmentLength (length cv) ++ asked y limit ε ++ (badKnot cv ∷ [])
 
 -- ---- the call
 -- the defaults: 32 rounds, and the double nearest to 1e-10

@@ -40,5 +40,5 @@ pub fn segment_verdict(y: f64, cv: &[f64], limit: u16, precision: f64) -> Verdic
     if spline::rows::all_in_range(cv) {
         return Verdict::Passed;
     }
-    Verdict::Failed(Refusal::BadKnot)
+    Verdict::Failed(spline::rows::bad_knot(cv))
 }

@@ -1,11 +1,12 @@
 -- When the rows of the refusal table apply to knots and parameters. Definitions only.
-use mathlib.Core.Bool.{Bool, true, false, not, _&&_}
+use mathlib.Core.Bool.{Bool, true, false, not, cond, _&&_}
 use mathlib.Core.List.{List, [], _∷_}
-use Prim.Native.Nat.{ℕ}
+use Prim.Native.Nat.{ℕ, suc}
 use lib.Dec.{ltb}
 use lib.IntN.{pos}
 use lib.Ieee.{Float, fin, neg, le}
-use Rattle.error.specs.declared.Refusal.the-variants.{TooFew, BadPattern, TooMany}
+use Rattle.error.specs.declared.Refusal.the-variants.{TooFew, BadPattern, TooMany, BadKnot}
+use Rattle.error.specs.declared.Refusal.{Refusal}
 use Rattle.error.specs.Refusals.{Uses}
 use Rattle.basis.specs.declared.Basis.{Basis}
 use Rattle.basis.specs.Basis.{regular}
@@ -21,6 +22,15 @@ inRange x = le (neg bound) x && le x bound
 unfoldable pub allInRange : List Float → Bool
 allInRange [] = true
 allInRange (x ∷ xs) = inRange x && allInRange xs
+
+-- the number of the first that is not, from 0
+unfoldable pub firstBad : List Float → ℕ
+firstBad [] = 0
+firstBad (x ∷ xs) = cond (inRange x) (suc (firstBad xs)) 0
+
+-- the row of the knots
+abbrev pub badKnot : List Float → Refusal × Bool
+badKnot ks = (BadKnot (firstBad ks), not (allInRange ks))
 
 -- a curve of n knots: fewer than 4; (n − 4) is no multiple of STEP; more than 4,096
 abbrev pub curveLength : Basis → ℕ → Uses

@@ -1,9 +1,11 @@
 // The refusals of evaluation, apart from the computing; lengths and ranges serve the other calls too.
 ghost use mathlib.Core.Path.{_≡_};
 ghost use Prim.Native.Nat.{_≤_};
+ghost use lib.ListN.{length};
+ghost use Rattle.error.specs.declared.Refusal.the-variants.{BadKnot};
 ghost use Rattle.error.specs.Refusals.{first};
 ghost use Rattle.basis.specs.Basis.{regular};
-ghost use Rattle.spline.specs.Rows.{inRange, allInRange, curveLength, segmentLength};
+ghost use Rattle.spline.specs.Rows.{inRange, allInRange, firstBad, curveLength, segmentLength};
 ghost use Rattle.spline.specs.Evaluation.{splineUses, splineSegmentUses};
 use basis::Basis;
 use error::Refusal;
@@ -73,6 +75,28 @@ pub fn all_in_range(knots: &[f64]) -> bool
     good
 }
 
+fn first_bad(knots: &[f64]) -> usize
+    ensures { λ r. ⌜ (r ≡ firstBad (now (knots .entry))) × (r ≤ length (now (knots .entry))) ⌝ }
+{
+    let mut i = 0;
+    while i < knots.len() {
+        if in_range(knots[i]) {
+            i += 1;
+        } else {
+            return i;
+        }
+    }
+    i
+}
+
+// Which knot is out of range; looked for only where one is.
+pub fn bad_knot(knots: &[f64]) -> Refusal
+    requires { ⌜ length (now knots) ≤ 4096 ⌝ }
+    ensures { λ r. ⌜ r ≡ BadKnot (firstBad (now (knots .entry))) ⌝ }
+{
+    Refusal::BadKnot(first_bad(knots) as u16)
+}
+
 pub fn curve_verdict(b: Basis, x: f64, knots: &[f64]) -> Verdict
     ensures { λ r. ⌜ r ≡ first (splineUses b x (now (knots .entry))) ⌝ }
 {
@@ -86,7 +110,7 @@ pub fn curve_verdict(b: Basis, x: f64, knots: &[f64]) -> Verdict
     if all_in_range(knots) {
         Verdict::Passed
     } else {
-        Verdict::Failed(Refusal::BadKnot)
+        Verdict::Failed(bad_knot(knots))
     }
 }
 
@@ -102,7 +126,7 @@ pub fn segment_verdict(x: f64, cv: &[f64]) -> Verdict
             if all_in_range(cv) {
                 return Verdict::Passed;
             }
-            return Verdict::Failed(Refusal::BadKnot);
+            return Verdict::Failed(bad_knot(cv));
         }
     }
     Verdict::Failed(Refusal::NotANumber)

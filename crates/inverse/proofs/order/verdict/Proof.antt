@@ -31,7 +31,7 @@ returns-2 : tie.Need-returns-2
 returns-2 c = by-asked (c .before .before .before .before .before .before .before .args .b) (c .before .before .before .before .before .before .before .args .y) (c .before .before .before .before .before .before .before .args .knots .now) (c .before .before .before .before .before .before .before .args .check) (c .before .before .before .before .before .before .before .args .limit) (c .before .before .before .before .before .before .before .args .precision) (c .before .before .before .before .before .curve-length .ensures) (c .before .before .before .enum-told .given .1) (c .before .before .asked .ensures) (c .enum-told4 .given .1)
 
 knots-verdict-requires : tie.Need-knots-verdict-requires
-knots-verdict-requires c κs = length-passed (c .before .before .before .before .before .before .before .args .b) (length (c .before .before .before .before .before .before .before .args .knots .now)) (sym (c .before .before .before .before .before .curve-length .ensures) ∙ c .before .before .before .enum-told .given .1) .least
+knots-verdict-requires c κs = let p = length-passed (c .before .before .before .before .before .before .before .args .b) (length (c .before .before .before .before .before .before .before .args .knots .now)) (sym (c .before .before .before .before .before .curve-length .ensures) ∙ c .before .before .before .enum-told .given .1) in (p .least, p .most)
 
 returns-3 : tie.Need-returns-3
 returns-3 c = by-knots (c .before .before .before .before .before .before .before .before .args .b) (c .before .before .before .before .before .before .before .before .args .y) (c .before .before .before .before .before .before .before .before .args .knots .now) (c .before .before .before .before .before .before .before .before .args .check) (c .before .before .before .before .before .before .before .before .args .limit) (c .before .before .before .before .before .before .before .before .args .precision) (c .before .before .before .before .before .before .curve-length .ensures) (c .before .before .before .before .enum-told .given .1) (c .before .before .before .asked .ensures) (c .before .enum-told3 .given .1) (c .knots-verdict .ensures)

@@ -1,5 +1,7 @@
 use mathlib.Core.Path.{sym, _∙_}
 use Rattle.invert.proofs.Verdicts.{by-length, by-asked, by-none, by-knots}
+use lib.ListN.{length}
+use Rattle.spline.proofs.Verdicts.{segment-length-passed}
 use borrow.Author.Needs.{needs}
 use Rattle.invert.proofs.rows.segment_verdict.Statement.{statement}
 use Rattle.invert.proofs.rows.segment_verdict.Tie as tie
@@ -34,8 +36,11 @@ all-in-range-requires c κs = search needs
 returns-3 : tie.Need-returns-3
 returns-3 c = by-none (c .before .before .before .before .before .before .before .before .before .args .y) (c .before .before .before .before .before .before .before .before .before .args .cv .now) (c .before .before .before .before .before .before .before .before .before .args .limit) (c .before .before .before .before .before .before .before .before .before .args .precision) (c .before .before .before .before .before .before .before .segment-length .ensures) (c .before .before .before .before .before .enum-told .given .1) (c .before .before .before .before .asked .ensures) (c .before .before .enum-told3 .given .1) (sym (c .before .all-in-range .ensures) ∙ c .if1 .taken)
 
+bad-knot-requires : tie.Need-bad-knot-requires
+bad-knot-requires c κs = segment-length-passed (length (c .before .before .before .before .before .before .before .before .before .args .cv .now)) (sym (c .before .before .before .before .before .before .before .segment-length .ensures) ∙ c .before .before .before .before .before .enum-told .given .1)
+
 returns-4 : tie.Need-returns-4
-returns-4 c = by-knots (c .before .before .before .before .before .before .before .before .before .args .y) (c .before .before .before .before .before .before .before .before .before .args .cv .now) (c .before .before .before .before .before .before .before .before .before .args .limit) (c .before .before .before .before .before .before .before .before .before .args .precision) (c .before .before .before .before .before .before .before .segment-length .ensures) (c .before .before .before .before .before .enum-told .given .1) (c .before .before .before .before .asked .ensures) (c .before .before .enum-told3 .given .1) (sym (c .before .all-in-range .ensures) ∙ c .if1 .left)
+returns-4 c = by-knots (c .before .before .before .before .before .before .before .before .before .before .args .y) (c .before .before .before .before .before .before .before .before .before .before .args .cv .now) (c .before .before .before .before .before .before .before .before .before .before .args .limit) (c .before .before .before .before .before .before .before .before .before .before .args .precision) (c .before .before .before .before .before .before .before .before .segment-length .ensures) (c .before .before .before .before .before .before .enum-told .given .1) (c .before .before .before .before .before .asked .ensures) (c .before .before .before .enum-told3 .given .1) (sym (c .before .before .all-in-range .ensures) ∙ c .before .if1 .left) (c .bad-knot .ensures)
 
 pub segment-verdict-spec : {M : Type 1} → statement M
 segment-verdict-spec =
@@ -51,4 +56,5 @@ segment-verdict-spec =
     returns-2
     all-in-range-requires
     returns-3
+    bad-knot-requires
     returns-4)

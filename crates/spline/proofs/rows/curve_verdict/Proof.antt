@@ -1,5 +1,6 @@
 use mathlib.Core.Path.{sym, _∙_}
-use Rattle.spline.proofs.Verdicts.{curve-stops, curve-number, curve-passes, curve-knot}
+use Rattle.spline.proofs.Verdicts.{curve-stops, curve-number, curve-passes, curve-knot, length-passed}
+use lib.ListN.{length}
 use borrow.Author.Needs.{needs}
 use Rattle.spline.proofs.rows.curve_verdict.Statement.{statement}
 use Rattle.spline.proofs.rows.curve_verdict.Tie as tie
@@ -25,8 +26,11 @@ all-in-range-requires c κs = search needs
 returns-3 : tie.Need-returns-3
 returns-3 c = curve-passes (c .before .before .before .before .before .before .before .args .b) (c .before .before .before .before .before .before .before .args .x) (c .before .before .before .before .before .before .before .args .knots .now) (c .before .before .before .before .before .curve-length .ensures) (c .before .before .before .enum-told .given .1) (c .before .before .if1 .left) (sym (c .before .all-in-range .ensures) ∙ c .if2 .taken)
 
+bad-knot-requires : tie.Need-bad-knot-requires
+bad-knot-requires c κs = length-passed (c .before .before .before .before .before .before .before .args .b) (length (c .before .before .before .before .before .before .before .args .knots .now)) (sym (c .before .before .before .before .before .curve-length .ensures) ∙ c .before .before .before .enum-told .given .1) .most
+
 returns-4 : tie.Need-returns-4
-returns-4 c = curve-knot (c .before .before .before .before .before .before .before .args .b) (c .before .before .before .before .before .before .before .args .x) (c .before .before .before .before .before .before .before .args .knots .now) (c .before .before .before .before .before .curve-length .ensures) (c .before .before .before .enum-told .given .1) (c .before .before .if1 .left) (sym (c .before .all-in-range .ensures) ∙ c .if2 .left)
+returns-4 c = curve-knot (c .before .before .before .before .before .before .before .before .args .b) (c .before .before .before .before .before .before .before .before .args .x) (c .before .before .before .before .before .before .before .before .args .knots .now) (c .before .before .before .before .before .before .curve-length .ensures) (c .before .before .before .before .enum-told .given .1) (c .before .before .before .if1 .left) (sym (c .before .before .all-in-range .ensures) ∙ c .before .if2 .left) (c .bad-knot .ensures)
 
 pub curve-verdict-spec : {M : Type 1} → statement M
 curve-verdict-spec =
@@ -38,5 +42,6 @@ curve-verdict-spec =
     returns
     returns-2
     all-in-range-requires
+    bad-knot-requires
     returns-3
     returns-4)

@@ -1,6 +1,7 @@
 use mathlib.Core.Path.{sym, _∙_}
 use lib.Ieee.{ofBits}
-use Rattle.spline.proofs.Verdicts.{segment-stops, segment-below, segment-above, segment-passes, segment-knot}
+use Rattle.spline.proofs.Verdicts.{segment-stops, segment-below, segment-above, segment-passes, segment-knot, segment-length-passed}
+use lib.ListN.{length}
 use borrow.Author.Needs.{needs}
 use Rattle.spline.proofs.rows.segment_verdict.Statement.{statement}
 use Rattle.spline.proofs.rows.segment_verdict.Tie as tie
@@ -24,9 +25,12 @@ returns-2 : tie.Need-returns-2
 unfolding ofBits
 returns-2 c = segment-passes (c .before .before .before .before .before .before .before .before .args .x) (c .before .before .before .before .before .before .before .before .args .cv .now) (c .before .before .before .before .before .before .segment-length .ensures) (c .before .before .before .before .enum-told .given .1) (c .before .before .before .if1 .taken) (c .before .before .if2 .taken) (sym (c .before .all-in-range .ensures) ∙ c .if3 .taken)
 
+bad-knot-requires : tie.Need-bad-knot-requires
+bad-knot-requires c κs = segment-length-passed (length (c .before .before .before .before .before .before .before .before .args .cv .now)) (sym (c .before .before .before .before .before .before .segment-length .ensures) ∙ c .before .before .before .before .enum-told .given .1)
+
 returns-3 : tie.Need-returns-3
 unfolding ofBits
-returns-3 c = segment-knot (c .before .before .before .before .before .before .before .before .args .x) (c .before .before .before .before .before .before .before .before .args .cv .now) (c .before .before .before .before .before .before .segment-length .ensures) (c .before .before .before .before .enum-told .given .1) (c .before .before .before .if1 .taken) (c .before .before .if2 .taken) (sym (c .before .all-in-range .ensures) ∙ c .if3 .left)
+returns-3 c = segment-knot (c .before .before .before .before .before .before .before .before .before .args .x) (c .before .before .before .before .before .before .before .before .before .args .cv .now) (c .before .before .before .before .before .before .before .segment-length .ensures) (c .before .before .before .before .before .enum-told .given .1) (c .before .before .before .before .if1 .taken) (c .before .before .before .if2 .taken) (sym (c .before .before .all-in-range .ensures) ∙ c .before .if3 .left) (c .bad-knot .ensures)
 
 returns-4 : tie.Need-returns-4
 unfolding ofBits
@@ -46,6 +50,7 @@ segment-verdict-spec =
     returns
     all-in-range-requires
     returns-2
+    bad-knot-requires
     returns-3
     returns-4
     returns-5)
