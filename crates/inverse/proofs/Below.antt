@@ -1,11 +1,13 @@
 -- The segment that a search enters is one of the curve's. Assumes nothing.
 use mathlib.Core.Path.{_≡_, subst, sym, _∙_}
 use mathlib.Core.Bool.{Bool, true, false}
-use mathlib.Core.List.{List, []}
+use mathlib.Core.List.{List}
 use Prim.Native.Nat.{ℕ, _+_, _*_, _≤_, _<_}
 use native.Mathlib.Nat.{lt-of-le-of-lt}
 use lib.Dec.{lit<}
-use lib.ListN.{length}
+use lib.ListN.{length, replicate, length-replicate}
+use Rattle.doubles.specs.Numbers.{nought}
+use Rattle.invert.specs.Evaluations.{Evaluations}
 use lib.Ieee.{Float, isNan}
 use Rattle.error.proofs.First.{never}
 use Rattle.basis.specs.declared.Basis.{Basis}
@@ -39,8 +41,9 @@ module _ (b : Basis) (y ε : Float) (ks : List Float) (limit k : ℕ) (e : k ≡
   below m N (off t) p (missed n c) h = never (cc)
   below m N (placed q) p (got r) h = let s : p .segment ≡ q .segment = cc in subst (λ (i : ℕ). i < k) (sym (s ∙ r .good .1)) (r .below)
 
-  pub found-below : (rising : Bool) (p : Place) → isNan y ≡ false → allInRange ks ≡ true → At p ≡ answered alone (find (trial halving (segmentOf b ks) y ε limit) y rising k []) → p .segment < k
-  found-below rising p n t h =
+  pub found-below : (rising : Bool) (p : Place) → isNan y ≡ false → allInRange ks ≡ true → (n : ℕ) → ((ev : Evaluations) → length ev ≡ n → At p ≡ answered alone (find (trial halving (segmentOf b ks) y ε limit) y rising k ev)) → p .segment < k
+  found-below rising p n t m h =
+      let ev : Evaluations = replicate m (0, nought) in
       let g = segmentOf b ks in
       let numbers : (s : ℕ) → s < k → Numbers (segmentOf b ks s) y = λ s l. curve-numbers b y ks long n t s (subst (λ (z : ℕ). s < z) e l) in
-      below _ _ (find (trial halving g y ε limit) y rising k []) p (find-sound g y ε limit halving halving-keeps k k-some (lt-of-le-of-lt k-few (lit< tt)) numbers rising []) h
+      below _ _ (find (trial halving g y ε limit) y rising k ev) p (find-sound g y ε limit halving halving-keeps k k-some (lt-of-le-of-lt k-few (lit< tt)) numbers rising ev) (h ev (length-replicate m (0, nought)))

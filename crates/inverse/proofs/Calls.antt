@@ -1,10 +1,10 @@
 -- The inversion of a curve, put together from what the code's calls give. Assumes nothing.
-use mathlib.Core.Path.{_≡_, ap, _∙_, subst}
-use mathlib.Core.List.{[], _∷_}
+use mathlib.Core.Path.{_≡_, refl, sym, ap, _∙_, subst}
+use mathlib.Core.List.{List, [], _∷_}
 use mathlib.Core.Bool.{true, false}
-use Prim.Native.Nat.{ℕ, _-_}
-use lib.ListN.{length}
-use lib.Ieee.{Float}
+use Prim.Native.Nat.{ℕ, _-_, _*_}
+use lib.ListN.{length, drop}
+use lib.Ieee.{Float, lt}
 use types.Run.{OneOf, miss}
 use Rattle.error.proofs.First.{never}
 use Rattle.doubles.specs.Numbers.{nought, one}
@@ -13,11 +13,19 @@ use Rattle.invert.specs.declared.Inverted.{Inverted}
 use Rattle.invert.specs.declared.Inverted.the-variants.{At}
 use Rattle.invert.specs.Segment.{Outcome, off, placed}
 use Rattle.invert.specs.Answer.{answered, alone}
-use Rattle.invert.specs.Round.{Weighting}
+use Rattle.basis.specs.declared.Basis.{Basis}
+use Rattle.basis.specs.Basis.{stepOf, matrixOf, segmentsOf}
+use Rattle.spline.specs.declared.Weights.{Weights}
+use Rattle.spline.specs.Segment.{weightsOf, hornerOf, segmentOf}
+use Rattle.invert.specs.Evaluations.{Evaluations}
+use Rattle.invert.specs.Round.{Weighting, halving}
 use Rattle.search.specs.Trial.{trial}
 use Rattle.search.specs.Search.{find}
 use Rattle.inverse.specs.declared.Ends.{Ends}
-use Rattle.inverse.specs.EndRule.{atLow, atHigh}
+use Rattle.inverse.specs.declared.Mode.{Mode}
+use Rattle.inverse.specs.declared.Mode.the-variants.{Knots, Curve}
+use Rattle.inverse.specs.Shown.{LocatedIs}
+use Rattle.inverse.specs.EndRule.{atLow, atHigh, knotEnds, curveRule, ruleOf}
 use Rattle.inverse.specs.Curve.{parameterOf, ended, located}
 
 -- ---- the search's answer, with another parameter
@@ -33,16 +41,46 @@ module _ (P : ℕ → Float → Float) where
       let s : p ≡ record { parameter = q .local; ground = q .ground; segment = q .segment; local = q .local; lower = q .lower; upper = q .upper; count = length (q .made) } = cc in
       rw (h, s)
 
--- ---- the end rule's two tests, then the search: e' is what the end rule goes by, as the code has it
-module _ (W : Weighting) (e : Ends) (g : ℕ → Float → Float) (k : ℕ) (y ε : Float) (limit : ℕ) (e' : Ends) (q : e' ≡ e) {r : Inverted} where
-  pub located-low : atLow e' y ≡ true → r ≡ ended [] 0 nought → r ≡ located W e [] g k y ε limit
+-- ---- the end rule's two tests, then the search
+module _ (W : Weighting) (e : Ends) (ev : Evaluations) (g : ℕ → Float → Float) (k : ℕ) (y ε : Float) (limit : ℕ) {r : Inverted} where
+  pub located-low : atLow e y ≡ true → r ≡ ended ev 0 nought → r ≡ located W e ev g k y ε limit
   unfolding located
-  located-low t h = subst (λ (z : Ends). r ≡ located W z [] g k y ε limit) q (h ∙ simp t)
+  located-low t h = h ∙ simp t
 
-  pub located-high : atLow e' y ≡ false → atHigh e' y ≡ true → r ≡ ended [] (k - 1) one → r ≡ located W e [] g k y ε limit
+  pub located-high : atLow e y ≡ false → atHigh e y ≡ true → r ≡ ended ev (k - 1) one → r ≡ located W e ev g k y ε limit
   unfolding located
-  located-high t u h = subst (λ (z : Ends). r ≡ located W z [] g k y ε limit) q (h ∙ simp (t, u))
+  located-high t u h = h ∙ simp (t, u)
 
-  pub located-searched : atLow e' y ≡ false → atHigh e' y ≡ false → r ≡ answered (parameterOf k) (find (trial W g y ε limit) y (e' .rising) k []) → r ≡ located W e [] g k y ε limit
+  pub located-searched : atLow e y ≡ false → atHigh e y ≡ false → r ≡ answered (parameterOf k) (find (trial W g y ε limit) y (e .rising) k ev) → r ≡ located W e ev g k y ε limit
   unfolding located
-  located-searched t u h = subst (λ (z : Ends). r ≡ located W z [] g k y ε limit) q (h ∙ simp (t, u))
+  located-searched t u h = h ∙ simp (t, u)
+
+-- ---- the mode's end rule: e is what it goes by, as the code has it
+module _ (b : Basis) (ks : List Float) (y ε : Float) (limit k : ℕ) (q : k ≡ segmentsOf b (length ks)) where
+  abbrev Located : Inverted → Mode → Type 0
+  Located r m = r ≡ located halving (ruleOf m b ks (segmentOf b ks) .ends) (ruleOf m b ks (segmentOf b ks) .made) (segmentOf b ks) (segmentsOf b (length ks)) y ε limit
+
+  knots-located : {r : Inverted} (e : Ends) → e ≡ knotEnds b ks → LocatedIs e b y ks limit ε k 0 r → Located r Knots
+  knots-located e p i = i [] refl ∙ ap (λ (z : Ends). located halving z [] (segmentOf b ks) k y ε limit) p ∙ ap (λ (z : ℕ). located halving (knotEnds b ks) [] (segmentOf b ks) z y ε limit) q
+
+  curve-located : {r : Inverted} (e : Ends) → e ≡ curveRule (segmentOf b ks) k .ends → LocatedIs e b y ks limit ε k 2 r → Located r Curve
+  curve-located e p i =
+      let m = curveRule (segmentOf b ks) k .made in
+      i m refl ∙ ap (λ (z : Ends). located halving z m (segmentOf b ks) k y ε limit) p ∙ ap (λ (z : ℕ). located halving (curveRule (segmentOf b ks) z .ends) (curveRule (segmentOf b ks) z .made) (segmentOf b ks) z y ε limit) q
+
+  -- m is the mode, as the code's match tells it
+  pub by-knots : {r : Inverted} {m : Mode} → m ≡ Knots → (e : Ends) → e ≡ knotEnds b ks → LocatedIs e b y ks limit ε k 0 r
+      → r ≡ located halving (ruleOf m b ks (segmentOf b ks) .ends) (ruleOf m b ks (segmentOf b ks) .made) (segmentOf b ks) (segmentsOf b (length ks)) y ε limit
+  by-knots {r} t e p i = subst (Located r) (sym t) (knots-located e p i)
+
+  pub by-curve : {r : Inverted} {m : Mode} → m ≡ Curve → (e : Ends) → e ≡ curveRule (segmentOf b ks) k .ends → LocatedIs e b y ks limit ε k 2 r
+      → r ≡ located halving (ruleOf m b ks (segmentOf b ks) .ends) (ruleOf m b ks (segmentOf b ks) .made) (segmentOf b ks) (segmentsOf b (length ks)) y ε limit
+  by-curve {r} t e p i = subst (Located r) (sym t) (curve-located e p i)
+
+-- ---- the curve's own ends, from the row sums of its first and last segment
+pub ends-are : (b : Basis) (ks : List Float) (k : ℕ) {w0 w1 : Weights} {v0 v1 : Float} → w0 ≡ weightsOf (matrixOf b) (drop (0 * stepOf b) ks) → v0 ≡ hornerOf w0 nought → w1 ≡ weightsOf (matrixOf b) (drop ((k - 1) * stepOf b) ks) → v1 ≡ hornerOf w1 one
+    → _≡_ {A = Ends} (record { rising = lt v0 v1; low = v0; high = v1 }) (curveRule (segmentOf b ks) k .ends)
+ends-are b ks k {w0} {w1} {v0} {v1} a c d e =
+    let p : v0 ≡ segmentOf b ks 0 nought = c ∙ ap (λ (w : Weights). hornerOf w nought) a in
+    let q : v1 ≡ segmentOf b ks (k - 1) one = e ∙ ap (λ (w : Weights). hornerOf w one) d in
+    rw (p, q)

@@ -25,7 +25,7 @@ use Rattle.search.specs.Search.{tries, last, halve, find}
 use Rattle.search.proofs.Found.{Holds, Straight}
 use Rattle.inverse.specs.Order.{ordered}
 use Rattle.inverse.specs.Curve.{parameterOf, located}
-use Rattle.inverse.specs.Inverse.{inverseOf}
+use Rattle.inverse.specs.Inverse.{inverseBy, inverseOf}
 
 -- 6·a, 6·(a + 1), and so on
 sixes : ℕ → ℕ → List Float
@@ -71,5 +71,5 @@ unfolding zeros
 jumping = nought ∷ nought ∷ one ∷ nought ∷ zeros 44 (nought ∷ nought ∷ one ∷ one ∷ [])
 
 pub premise-needed : T (Holds (segmentOf Power jumping) half 13 0) × (inverseOf Power half jumping false defaultLimit defaultPrecision ≡ OffCurve 12)
-unfolding zeros jumping matrixOf row frac round ofInt ofBits add sub mul div lt le eq ne neg isNan inRange allInRange precise ordered bitsOf leadingZeros magnitudeOf lerpOf narrow halving weighed kept fraction moved settled probed turn rounds entered enter tries last halve find parameterOf located inverseOf
+unfolding zeros jumping matrixOf row frac round ofInt ofBits add sub mul div lt le eq ne neg isNan inRange allInRange precise ordered bitsOf leadingZeros magnitudeOf lerpOf narrow halving weighed kept fraction moved settled probed turn rounds entered enter tries last halve find parameterOf located inverseBy
 premise-needed = (tt, refl)

@@ -9,6 +9,7 @@ use lib.Dec.{T, T-not}
 use lib.ListN.{length}
 use lib.Ieee.{Float, binary64, sub, lt, le}
 use Rattle.doubles.specs.Numbers.{nought, one, magnitudeOf}
+use Rattle.doubles.proofs.Tests.{branch}
 use Rattle.doubles.proofs.Order.{le-trans-float}
 use Rattle.doubles.proofs.Bounds.{InOne}
 use Rattle.doubles.proofs.Units.{InUnit, nought-in, one-in, nought-le}
@@ -29,7 +30,7 @@ use Rattle.search.specs.Trial.{trial}
 use Rattle.invert.proofs.Weighting.{Keeps}
 use Rattle.search.specs.Search.{find}
 use Rattle.search.proofs.Found.{Holds}
-use Rattle.search.proofs.Listed.{find-same}
+use Rattle.search.proofs.Listed.{find-grows, find-same}
 use Rattle.inverse.specs.declared.Ends.{Ends}
 use Rattle.inverse.specs.EndRule.{atLow, atHigh}
 use Rattle.inverse.specs.Curve.{parameterOf, ended, located, evaluations}
@@ -103,6 +104,13 @@ module _ (W : Weighting) (e : Ends) (ev : Evaluations) (g : ℕ → Float → Fl
       go true b = refl
       go false true = refl
       go false false = answered-count (parameterOf k) (find (trial W g y ε limit) y (e .rising) k ev)
+
+  -- those made for the end rule are listed
+  pub rule-listed : (h : ℕ → Float → Float) → Agreed g h (evaluations W e ev g k y ε limit) → Agreed g h ev
+  unfolding evaluations
+  rule-listed h =
+      let P : Evaluations → Type 0 = λ l. Agreed g h l → Agreed g h ev in
+      branch P (atLow e y) (λ _ a. a) (λ _. branch P (atHigh e y) (λ _ a. a) (λ _ a. find-grows g h W y ε limit (e .rising) k ev a))
 
   -- the list misses none: a curve that agrees at every listed place gets the same answer
   pub none-unlisted : (h : ℕ → Float → Float) → Agreed g h (evaluations W e ev g k y ε limit) → located W e ev g k y ε limit ≡ located W e ev h k y ε limit

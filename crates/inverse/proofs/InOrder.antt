@@ -22,14 +22,15 @@ use Rattle.search.specs.Trial.{trial}
 use Rattle.invert.specs.Round.{halving}
 use Rattle.invert.proofs.Weighting.{halving-keeps}
 use Rattle.search.proofs.Sound.{SoundIn, trial-tried}
-use Rattle.inverse.specs.EndRule.{atLow, atHigh, knotEnds}
+use Rattle.inverse.specs.declared.Mode.{Mode}
+use Rattle.inverse.specs.EndRule.{atLow, atHigh, ruleOf}
 use Rattle.inverse.specs.Curve.{parameterOf, located}
-use Rattle.inverse.specs.Inverse.{inverseOf}
+use Rattle.inverse.specs.Inverse.{inverseBy}
 use Rattle.inverse.proofs.Curve.{curve-numbers}
 use Rattle.inverse.proofs.Verdicts.{admitted}
 use Rattle.inverse.proofs.Promises.{Pass, Quiet}
 
-module _ (b : Basis) (y : Float) (ks : List Float) (check : Bool) (limit : ℕ) (ε : Float) where
+module _ (m : Mode) (b : Basis) (y : Float) (ks : List Float) (check : Bool) (limit : ℕ) (ε : Float) where
   abbrev k : ℕ
   k = segmentsOf b (length ks)
 
@@ -40,16 +41,16 @@ module _ (b : Basis) (y : Float) (ks : List Float) (check : Bool) (limit : ℕ) 
   placed-in : (s : ℕ) (o : Outcome) (p : Placed) → o ≡ placed p → p .segment ≡ s → In s (answered (parameterOf k) o)
   placed-in s o p e q = (_, ap (answered (parameterOf k)) e, q)
 
-  located-first : Pass b y ks check limit ε → Quiet b y ks check limit ε → k ≤ 12 → (s : ℕ) → s < k → T (Holds (segmentOf b ks) y k s) → Nothing (segmentOf b ks) y k 0 s
-      → In s (located halving (knotEnds b ks) [] (segmentOf b ks) k y ε limit)
+  located-first : Pass m b y ks check limit ε → Quiet m b y ks check limit ε → k ≤ 12 → (s : ℕ) → s < k → T (Holds (segmentOf b ks) y k s) → Nothing (segmentOf b ks) y k 0 s
+      → In s (located halving (ruleOf m b ks (segmentOf b ks) .ends) (ruleOf m b ks (segmentOf b ks) .made) (segmentOf b ks) k y ε limit)
   unfolding located
   located-first v q f s l H N =
       let a = admitted b y ks check limit ε v in
       let g = segmentOf b ks in
-      let u = first-entered g y k (SoundIn g y ε limit) (trial halving g y ε limit) (trial-tried g y ε limit halving halving-keeps k (curve-numbers b y ks (a .long) (a .number) (a .in-range))) (knotEnds b ks .rising) s [] f l H N in
-      simp (is-false (atLow (knotEnds b ks) y) (q .0), is-false (atHigh (knotEnds b ks) y) (q .1)) (placed-in s _ (u .0) (u .1) (u .2 .1))
+      let u = first-entered g y k (SoundIn g y ε limit) (trial halving g y ε limit) (trial-tried g y ε limit halving halving-keeps k (curve-numbers b y ks (a .long) (a .number) (a .in-range))) (ruleOf m b ks (segmentOf b ks) .ends .rising) s (ruleOf m b ks (segmentOf b ks) .made) f l H N in
+      simp (is-false (atLow (ruleOf m b ks (segmentOf b ks) .ends) y) (q .0), is-false (atHigh (ruleOf m b ks (segmentOf b ks) .ends) y) (q .1)) (placed-in s _ (u .0) (u .1) (u .2 .1))
 
   -- so of the call
-  pub inverse-first-entered : Pass b y ks check limit ε → Quiet b y ks check limit ε → k ≤ 12 → (s : ℕ) → s < k → T (Holds (segmentOf b ks) y k s) → Nothing (segmentOf b ks) y k 0 s → In s (inverseOf b y ks check limit ε)
-  unfolding inverseOf
+  pub inverse-first-entered : Pass m b y ks check limit ε → Quiet m b y ks check limit ε → k ≤ 12 → (s : ℕ) → s < k → T (Holds (segmentOf b ks) y k s) → Nothing (segmentOf b ks) y k 0 s → In s (inverseBy m b y ks check limit ε)
+  unfolding inverseBy
   inverse-first-entered v q f s l H N = rw v (located-first v q f s l H N)

@@ -1,9 +1,9 @@
--- What the inversion of a curve promises on every input. b, y, ks, check, limit and ε are the call's arguments: basis, target, knots, order check yes or no, limit, precision. Assumes nothing.
-use mathlib.Core.Path.{_≡_, refl, sym, subst}
+-- What the inversion of a curve promises on every input, in either mode m of the end rule. b, y, ks, check, limit and ε are the call's arguments: basis, target, knots, order check yes or no, limit, precision. Assumes nothing.
+use mathlib.Core.Path.{_≡_, refl, sym, ap, _∙_, subst}
 use mathlib.Core.Bool.{Bool}
 use mathlib.Core.List.{List, []}
 use Prim.Native.Nat.{ℕ, _+_, _*_, _≤_, _<_}
-use native.Mathlib.Nat.{le-trans, le-of-eq}
+use native.Mathlib.Nat.{le-trans}
 use native.Mathlib.Omega.{arith}
 use borrow.Author.Tests.{le-leb, lt-leb}
 use lib.Dec.{T}
@@ -26,26 +26,46 @@ use Rattle.invert.proofs.Weighting.{halving-keeps}
 use Rattle.invert.proofs.Enclosing.{Numbers}
 use Rattle.search.specs.Bound.{bitsOf, boundOf}
 use Rattle.search.proofs.Found.{Holds}
-use Rattle.inverse.specs.EndRule.{knotEnds}
+use Rattle.inverse.specs.declared.Mode.{Mode}
+use Rattle.inverse.specs.declared.Mode.the-variants.{Knots, Curve}
+use Rattle.inverse.specs.EndRule.{Rule, ruleOf}
 use Rattle.inverse.specs.Curve.{located, evaluations}
-use Rattle.inverse.specs.Inverse.{inverseUses, inverseOf, unlessRefused, inverseEvaluations}
+use Rattle.inverse.specs.Inverse.{inverseUses, inverseBy, unlessRefused, evaluationsBy}
 use Rattle.inverse.proofs.Told.{Silent, NoneHolds, Supposed}
-use Rattle.inverse.proofs.Facts.{AtPlace, IfOff, Proper, Enclosed, GroundSays, count-is-length, none-unlisted, count-bounded, place-proper, place-enclosed, ground-says, off-only, off-where, place-where}
+use Rattle.inverse.proofs.Facts.{AtPlace, IfOff, Proper, Enclosed, GroundSays, count-is-length, rule-listed, none-unlisted, count-bounded, place-proper, place-enclosed, ground-says, off-only, off-where, place-where}
 use Rattle.inverse.proofs.Curve.{segments-some, segments-few, curve-numbers}
 use Rattle.inverse.proofs.Verdicts.{Admitted, admitted}
+
+-- the evaluations made for the end rule
+abbrev pub own : Mode → ℕ
+own Knots = 0
+own Curve = 2
+
+rule-made : (m : Mode) (b : Basis) (ks : List Float) (g : ℕ → Float → Float) → length (ruleOf m b ks g .made) ≡ own m
+rule-made Knots b ks g = refl
+rule-made Curve b ks g = refl
+
+-- curves that agree at these have the same rule
+rule-same : (m : Mode) (b : Basis) (ks : List Float) (g h : ℕ → Float → Float) → Agreed g h (ruleOf m b ks g .made) → ruleOf m b ks g ≡ ruleOf m b ks h
+rule-same Knots b ks g h a = refl
+rule-same Curve b ks g h a = rw (a .0, a .1 .0)
 
 with-pass : (P Q R : Type 0) (r : Inverted) → P → IfOff (Q × R) r → IfOff (P × Q × R) r
 with-pass P Q R (At p) e h = tt
 with-pass P Q R (OffCurve n) e h = (e, h .0, h .1)
 with-pass P Q R (Refused r) e h = tt
 
-module _ (b : Basis) (y : Float) (ks : List Float) (check : Bool) (limit : ℕ) (ε : Float) where
+module _ (m : Mode) (b : Basis) (y : Float) (ks : List Float) (check : Bool) (limit : ℕ) (ε : Float) where
   abbrev pub k : ℕ
   k = segmentsOf b (length ks)
 
+  -- what the end rule goes by
+  abbrev pub rule : Rule
+  rule = ruleOf m b ks (segmentOf b ks)
+
   -- the answer past the refusals
   abbrev pub here : Inverted
-  here = located halving (knotEnds b ks) [] (segmentOf b ks) (segmentsOf b (length ks)) y ε limit
+  here = located halving (rule .ends) (rule .made) (segmentOf b ks) (segmentsOf b (length ks)) y ε limit
 
   -- no row of the refusal table applies
   abbrev pub Pass : Type 0
@@ -53,18 +73,18 @@ module _ (b : Basis) (y : Float) (ks : List Float) (check : Bool) (limit : ℕ) 
 
   -- the end rule is silent
   abbrev pub Quiet : Type 0
-  Quiet = Silent (knotEnds b ks) [] (segmentOf b ks) k y ε limit
+  Quiet = Silent (rule .ends) (rule .made) (segmentOf b ks) k y ε limit
 
   -- no segment's ends enclose the target
   abbrev pub Nowhere : Type 0
-  Nowhere = NoneHolds (knotEnds b ks) [] (segmentOf b ks) k y ε limit
+  Nowhere = NoneHolds (rule .ends) (rule .made) (segmentOf b ks) k y ε limit
 
-  -- above 12 segments: evaluated starts, and ends, never turn against the knots' direction, and no start lies past its own end
+  -- above 12 segments: evaluated starts, and ends, never turn against the rule's direction, and no start lies past its own end
   abbrev pub Premise : Type 0
-  Premise = Supposed (knotEnds b ks) [] (segmentOf b ks) k y ε limit
+  Premise = Supposed (rule .ends) (rule .made) (segmentOf b ks) k y ε limit
 
-  by-verdict : (P : Inverted → Type 0) → ((r : Refusal) → P (Refused r)) → (Admitted b y ks check → P here) → P (inverseOf b y ks check limit ε)
-  unfolding inverseOf
+  by-verdict : (P : Inverted → Type 0) → ((r : Refusal) → P (Refused r)) → (Admitted b y ks check → P here) → P (inverseBy m b y ks check limit ε)
+  unfolding inverseBy
   by-verdict P f h = go (first (inverseUses b y ks check limit ε)) refl
     where
       go : (v : Verdict) → first (inverseUses b y ks check limit ε) ≡ v → P (inverted v here)
@@ -82,27 +102,30 @@ module _ (b : Basis) (y : Float) (ks : List Float) (check : Bool) (limit : ℕ) 
 
   -- ---- the list of evaluations
   -- the count is its length
-  pub inverse-count : countTold (inverseOf b y ks check limit ε) ≡ length (inverseEvaluations b y ks check limit ε)
-  unfolding inverseOf inverseEvaluations
+  pub inverse-count : countTold (inverseBy m b y ks check limit ε) ≡ length (evaluationsBy m b y ks check limit ε)
+  unfolding inverseBy evaluationsBy
   inverse-count = go (first (inverseUses b y ks check limit ε))
     where
-      go : (v : Verdict) → countTold (inverted v here) ≡ length (unlessRefused v (evaluations halving (knotEnds b ks) [] (segmentOf b ks) k y ε limit))
-      go Passed = count-is-length halving (knotEnds b ks) [] (segmentOf b ks) k y ε limit
+      go : (v : Verdict) → countTold (inverted v here) ≡ length (unlessRefused v (evaluations halving (rule .ends) (rule .made) (segmentOf b ks) k y ε limit))
+      go Passed = count-is-length halving (rule .ends) (rule .made) (segmentOf b ks) k y ε limit
       go (Failed r) = refl
 
   -- it misses none: a curve h that agrees with this one at every listed place gets the same answer
-  pub inverse-unlisted : (h : ℕ → Float → Float) → Agreed (segmentOf b ks) h (inverseEvaluations b y ks check limit ε)
-      → inverseOf b y ks check limit ε ≡ inverted (first (inverseUses b y ks check limit ε)) (located halving (knotEnds b ks) [] h k y ε limit)
-  unfolding inverseOf inverseEvaluations
+  pub inverse-unlisted : (h : ℕ → Float → Float) → Agreed (segmentOf b ks) h (evaluationsBy m b y ks check limit ε)
+      → inverseBy m b y ks check limit ε ≡ inverted (first (inverseUses b y ks check limit ε)) (located halving (ruleOf m b ks h .ends) (ruleOf m b ks h .made) h k y ε limit)
+  unfolding inverseBy evaluationsBy
   inverse-unlisted h = go (first (inverseUses b y ks check limit ε))
     where
-      go : (v : Verdict) → Agreed (segmentOf b ks) h (unlessRefused v (evaluations halving (knotEnds b ks) [] (segmentOf b ks) k y ε limit)) → inverted v here ≡ inverted v (located halving (knotEnds b ks) [] h k y ε limit)
-      go Passed a = none-unlisted halving (knotEnds b ks) [] (segmentOf b ks) k y ε limit h a
+      go : (v : Verdict) → Agreed (segmentOf b ks) h (unlessRefused v (evaluations halving (rule .ends) (rule .made) (segmentOf b ks) k y ε limit))
+          → inverted v here ≡ inverted v (located halving (ruleOf m b ks h .ends) (ruleOf m b ks h .made) h k y ε limit)
+      go Passed a =
+          none-unlisted halving (rule .ends) (rule .made) (segmentOf b ks) k y ε limit h a
+          ∙ ap (λ (r : Rule). located halving (r .ends) (r .made) h k y ε limit) (rule-same m b ks (segmentOf b ks) h (rule-listed halving (rule .ends) (rule .made) (segmentOf b ks) k y ε limit h a))
       go (Failed r) a = refl
 
   -- a place and refusal 11 carry at most so many
-  pub inverse-bounded : countTold (inverseOf b y ks check limit ε) ≤ boundOf k limit
-  inverse-bounded = by-verdict (λ r. countTold r ≤ boundOf k limit) (λ r. omega arith) (λ a. le-trans (count-bounded halving halving-keeps (knotEnds b ks) [] (segmentOf b ks) k y ε limit some (fits a) (numbers a)) (omega arith))
+  pub inverse-bounded : countTold (inverseBy m b y ks check limit ε) ≤ own m + boundOf k limit
+  inverse-bounded = by-verdict (λ r. countTold r ≤ own m + boundOf k limit) (λ r. omega arith) (λ a. le-trans (count-bounded halving halving-keeps (rule .ends) (rule .made) (segmentOf b ks) k y ε limit some (fits a) (numbers a)) (omega (arith, rule-made m b ks (segmentOf b ks))))
 
   pub few-bound : k ≤ 12 → boundOf k limit ≡ limit + 24
   few-bound h = rw (le-leb k 12 h)
@@ -111,62 +134,62 @@ module _ (b : Basis) (y : Float) (ks : List Float) (check : Bool) (limit : ℕ) 
   many-bound h = rw (lt-leb k 12 h)
 
   -- ---- parameter, local place and both bracket ends lie in 0 to 1, lower not above upper
-  pub inverse-proper : AtPlace Proper (inverseOf b y ks check limit ε)
-  inverse-proper = by-verdict (AtPlace Proper) (λ r. tt) (λ a. place-proper halving halving-keeps (knotEnds b ks) [] (segmentOf b ks) k y ε limit some (fits a) (numbers a))
+  pub inverse-proper : AtPlace Proper (inverseBy m b y ks check limit ε)
+  inverse-proper = by-verdict (AtPlace Proper) (λ r. tt) (λ a. place-proper halving halving-keeps (rule .ends) (rule .made) (segmentOf b ks) k y ε limit some (fits a) (numbers a))
 
   -- ---- where a segment was entered, its values at the two bracket ends enclose the target, and so do those at its own ends
-  pub inverse-enclosed : AtPlace (λ p. Enclosed (knotEnds b ks) [] (segmentOf b ks) k y ε limit (p .ground) p) (inverseOf b y ks check limit ε)
+  pub inverse-enclosed : AtPlace (λ p. Enclosed (rule .ends) (rule .made) (segmentOf b ks) k y ε limit (p .ground) p) (inverseBy m b y ks check limit ε)
   inverse-enclosed =
-      by-verdict (AtPlace (λ p. Enclosed (knotEnds b ks) [] (segmentOf b ks) k y ε limit (p .ground) p)) (λ r. tt) (λ a. place-enclosed halving halving-keeps (knotEnds b ks) [] (segmentOf b ks) k y ε limit some (fits a) (numbers a))
+      by-verdict (AtPlace (λ p. Enclosed (rule .ends) (rule .made) (segmentOf b ks) k y ε limit (p .ground) p)) (λ r. tt) (λ a. place-enclosed halving halving-keeps (rule .ends) (rule .made) (segmentOf b ks) k y ε limit some (fits a) (numbers a))
 
   -- ---- what the ground says
-  pub inverse-ground : AtPlace (λ p. GroundSays (knotEnds b ks) [] (segmentOf b ks) k y ε limit (p .ground) p) (inverseOf b y ks check limit ε)
+  pub inverse-ground : AtPlace (λ p. GroundSays (rule .ends) (rule .made) (segmentOf b ks) k y ε limit (p .ground) p) (inverseBy m b y ks check limit ε)
   inverse-ground =
-      by-verdict (AtPlace (λ p. GroundSays (knotEnds b ks) [] (segmentOf b ks) k y ε limit (p .ground) p)) (λ r. tt) (λ a. ground-says halving halving-keeps (knotEnds b ks) [] (segmentOf b ks) k y ε limit some (fits a) (numbers a))
+      by-verdict (AtPlace (λ p. GroundSays (rule .ends) (rule .made) (segmentOf b ks) k y ε limit (p .ground) p)) (λ r. tt) (λ a. ground-says halving halving-keeps (rule .ends) (rule .made) (segmentOf b ks) k y ε limit some (fits a) (numbers a))
 
   -- ---- where some segment's ends enclose the target, and the end rule is silent, a segment is entered and not refused
   pub inverse-entered : Pass → Quiet → Premise
-      → (s : ℕ) → s < k → T (Holds (segmentOf b ks) y k s) → (p : Place) × (inverseOf b y ks check limit ε ≡ At p)
-  unfolding inverseOf
+      → (s : ℕ) → s < k → T (Holds (segmentOf b ks) y k s) → (p : Place) × (inverseBy m b y ks check limit ε ≡ At p)
+  unfolding inverseBy
   inverse-entered v q S s l H =
       let a = admitted b y ks check limit ε v in
-      rw v (place-where halving halving-keeps (knotEnds b ks) [] (segmentOf b ks) k y ε limit some (fits a) (numbers a) q S s l H)
+      rw v (place-where halving halving-keeps (rule .ends) (rule .made) (segmentOf b ks) k y ε limit some (fits a) (numbers a) q S s l H)
 
   -- ---- refusal 11 only where no row applies, the end rule is silent and no segment's ends enclose the target
-  pub inverse-off-only : IfOff (Pass × Quiet × (Premise → Nowhere)) (inverseOf b y ks check limit ε)
-  unfolding inverseOf
+  pub inverse-off-only : IfOff (Pass × Quiet × (Premise → Nowhere)) (inverseBy m b y ks check limit ε)
+  unfolding inverseBy
   inverse-off-only = go (first (inverseUses b y ks check limit ε)) refl
     where
       go : (v : Verdict) → first (inverseUses b y ks check limit ε) ≡ v → IfOff (Pass × Quiet × (Premise → Nowhere)) (inverted v here)
-      go Passed e = let a = admitted b y ks check limit ε e in with-pass Pass Quiet (Premise → Nowhere) here e (off-only halving halving-keeps (knotEnds b ks) [] (segmentOf b ks) k y ε limit some (fits a) (numbers a))
+      go Passed e = let a = admitted b y ks check limit ε e in with-pass Pass Quiet (Premise → Nowhere) here e (off-only halving halving-keeps (rule .ends) (rule .made) (segmentOf b ks) k y ε limit some (fits a) (numbers a))
       go (Failed r) e = tt
 
   -- and everywhere there
   pub inverse-off-where : Pass → Quiet → Nowhere
-      → (n : ℕ) × (inverseOf b y ks check limit ε ≡ OffCurve n)
-  unfolding inverseOf
+      → (n : ℕ) × (inverseBy m b y ks check limit ε ≡ OffCurve n)
+  unfolding inverseBy
   inverse-off-where v q N =
       let a = admitted b y ks check limit ε v in
-      rw v (off-where halving halving-keeps (knotEnds b ks) [] (segmentOf b ks) k y ε limit some (fits a) (numbers a) q N)
+      rw v (off-where halving halving-keeps (rule .ends) (rule .made) (segmentOf b ks) k y ε limit some (fits a) (numbers a) q N)
 
   -- ---- all of these of a reply r, as the call's contract gives it
   pub record Promised (r : Inverted) : Type 0 where
-    pub count : countTold r ≡ length (inverseEvaluations b y ks check limit ε)
-    pub few : k ≤ 12 → countTold r ≤ limit + 24
-    pub many : 12 < k → countTold r ≤ limit + 2 * bitsOf k + 4
+    pub count : countTold r ≡ length (evaluationsBy m b y ks check limit ε)
+    pub few : k ≤ 12 → countTold r ≤ own m + (limit + 24)
+    pub many : 12 < k → countTold r ≤ own m + (limit + 2 * bitsOf k + 4)
     pub proper : AtPlace Proper r
-    pub enclosed : AtPlace (λ p. Enclosed (knotEnds b ks) [] (segmentOf b ks) k y ε limit (p .ground) p) r
-    pub ground : AtPlace (λ p. GroundSays (knotEnds b ks) [] (segmentOf b ks) k y ε limit (p .ground) p) r
+    pub enclosed : AtPlace (λ p. Enclosed (rule .ends) (rule .made) (segmentOf b ks) k y ε limit (p .ground) p) r
+    pub ground : AtPlace (λ p. GroundSays (rule .ends) (rule .made) (segmentOf b ks) k y ε limit (p .ground) p) r
     pub off-only : IfOff (Pass × Quiet × (Premise → Nowhere)) r
     pub off-where : Pass → Quiet → Nowhere → (n : ℕ) × (r ≡ OffCurve n)
 
-  pub reply-promised : (r : Inverted) → r ≡ inverseOf b y ks check limit ε → Promised r
+  pub reply-promised : (r : Inverted) → r ≡ inverseBy m b y ks check limit ε → Promised r
   reply-promised r e =
       subst Promised (sym e)
       (record {
         count = inverse-count;
-        few = λ h. le-trans inverse-bounded (le-of-eq (few-bound h));
-        many = λ h. le-trans inverse-bounded (le-of-eq (many-bound h));
+        few = λ h. omega (arith, inverse-bounded, few-bound h);
+        many = λ h. omega (arith, inverse-bounded, many-bound h);
         proper = inverse-proper;
         enclosed = inverse-enclosed;
         ground = inverse-ground;

@@ -23,39 +23,40 @@ use Rattle.invert.specs.Round.{halving}
 use Rattle.search.specs.Trial.{trial}
 use Rattle.search.specs.Search.{find}
 use Rattle.inverse.specs.Order.{turnsBack, turningKnot}
-use Rattle.inverse.specs.EndRule.{atLow, atHigh, knotEnds}
+use Rattle.inverse.specs.declared.Mode.{Mode}
+use Rattle.inverse.specs.EndRule.{atLow, atHigh, ruleOf}
 use Rattle.inverse.specs.Curve.{parameterOf, located}
-use Rattle.inverse.specs.Inverse.{inverseUses, inverseOf}
+use Rattle.inverse.specs.Inverse.{inverseUses, inverseBy}
 use Rattle.inverse.proofs.TurnsBack.{AgainstAt, turning-first, turns-back-where}
 
 -- every row before refusal 10
 abbrev pub earlier : List ℕ
 earlier = 1 ∷ 2 ∷ 3 ∷ 5 ∷ 6 ∷ 7 ∷ 8 ∷ 9 ∷ 4 ∷ []
 
-module _ (b : Basis) (y : Float) (ks : List Float) (check : Bool) (limit : ℕ) (ε : Float) where
+module _ (m : Mode) (b : Basis) (y : Float) (ks : List Float) (check : Bool) (limit : ℕ) (ε : Float) where
   abbrev uses : Uses
   uses = inverseUses b y ks check limit ε
 
-  located-past : Past (located halving (knotEnds b ks) [] (segmentOf b ks) (segmentsOf b (length ks)) y ε limit)
+  located-past : Past (located halving (ruleOf m b ks (segmentOf b ks) .ends) (ruleOf m b ks (segmentOf b ks) .made) (segmentOf b ks) (segmentsOf b (length ks)) y ε limit)
   unfolding located
   located-past =
-      branch Past (atLow (knotEnds b ks) y) (λ _. tt)
-      (λ _. branch Past (atHigh (knotEnds b ks) y) (λ _. tt) (λ _. answered-past (parameterOf (segmentsOf b (length ks))) (find (trial halving (segmentOf b ks) y ε limit) y (knotEnds b ks .rising) (segmentsOf b (length ks)) [])))
+      branch Past (atLow (ruleOf m b ks (segmentOf b ks) .ends) y) (λ _. tt)
+      (λ _. branch Past (atHigh (ruleOf m b ks (segmentOf b ks) .ends) y) (λ _. tt) (λ _. answered-past (parameterOf (segmentsOf b (length ks))) (find (trial halving (segmentOf b ks) y ε limit) y (ruleOf m b ks (segmentOf b ks) .ends .rising) (segmentsOf b (length ks)) (ruleOf m b ks (segmentOf b ks) .made))))
 
   -- ---- by a row
   -- only where that row applies and none before it
-  pub inverse-refused-only : (r : Refusal) → inverseOf b y ks check limit ε ≡ Refused r → First (inverseUses b y ks check limit ε) rows r
-  unfolding inverseOf
-  inverse-refused-only r e = first-sound rows uses r (refused-by (first uses) (located halving (knotEnds b ks) [] (segmentOf b ks) (segmentsOf b (length ks)) y ε limit) r located-past e)
+  pub inverse-refused-only : (r : Refusal) → inverseBy m b y ks check limit ε ≡ Refused r → First (inverseUses b y ks check limit ε) rows r
+  unfolding inverseBy
+  inverse-refused-only r e = first-sound rows uses r (refused-by (first uses) (located halving (ruleOf m b ks (segmentOf b ks) .ends) (ruleOf m b ks (segmentOf b ks) .made) (segmentOf b ks) (segmentsOf b (length ks)) y ε limit) r located-past e)
 
   -- and everywhere there
-  pub inverse-refused-where : (r : Refusal) → First (inverseUses b y ks check limit ε) rows r → inverseOf b y ks check limit ε ≡ Refused r
-  unfolding inverseOf
+  pub inverse-refused-where : (r : Refusal) → First (inverseUses b y ks check limit ε) rows r → inverseBy m b y ks check limit ε ≡ Refused r
+  unfolding inverseBy
   inverse-refused-where r f = rw (first-complete rows uses r f)
 
   -- ---- refusal 10
   -- only where the order check is wanted, and with the first knot whose step to the next goes against the direction
-  pub inverse-turns-back : (i : ℕ) → inverseOf b y ks check limit ε ≡ Refused (TurnsBack i) → T check × AgainstAt ks i × ((j : ℕ) → AgainstAt ks j → i ≤ j)
+  pub inverse-turns-back : (i : ℕ) → inverseBy m b y ks check limit ε ≡ Refused (TurnsBack i) → T check × AgainstAt ks i × ((j : ℕ) → AgainstAt ks j → i ≤ j)
   inverse-turns-back i e =
       let p = first-applies uses rows (TurnsBack i) (inverse-refused-only (TurnsBack i) e) in
       let a : (check && turnsBack ks) ≡ true = p .0 in
@@ -66,8 +67,8 @@ module _ (b : Basis) (y : Float) (ks : List Float) (check : Bool) (limit : ℕ) 
       (and-l check (turnsBack ks) t, subst (AgainstAt ks) q (f .0), subst (λ (i : ℕ). (j : ℕ) → AgainstAt ks j → i ≤ j) q (f .1))
 
   -- and everywhere there where no earlier row applies
-  pub inverse-turns-back-where : None earlier (inverseUses b y ks check limit ε) → T check → (i : ℕ) → AgainstAt ks i → inverseOf b y ks check limit ε ≡ Refused (TurnsBack (turningKnot ks))
-  unfolding inverseOf
+  pub inverse-turns-back-where : None earlier (inverseUses b y ks check limit ε) → T check → (i : ℕ) → AgainstAt ks i → inverseBy m b y ks check limit ε ≡ Refused (TurnsBack (turningKnot ks))
+  unfolding inverseBy
   inverse-turns-back-where n c i a =
       let later : List ℕ = 11 ∷ 12 ∷ [] in
       let q : (check && turnsBack ks) ≡ true = rw (is-true check c, is-true (turnsBack ks) (turns-back-where ks i a)) in

@@ -23,10 +23,11 @@ use Rattle.invert.specs.declared.Inverted.the-variants.{Refused}
 use Rattle.invert.specs.Answer.{asked}
 use Rattle.invert.specs.Round.{halving}
 use Rattle.invert.proofs.Verdicts.{askedRows, lastRows}
+use Rattle.inverse.specs.declared.Mode.{Mode}
 use Rattle.inverse.specs.Order.{rises, turnsBack, turningKnot}
-use Rattle.inverse.specs.EndRule.{knotEnds}
+use Rattle.inverse.specs.EndRule.{ruleOf}
 use Rattle.inverse.specs.Curve.{located}
-use Rattle.inverse.specs.Inverse.{inverseUses, inverseOf}
+use Rattle.inverse.specs.Inverse.{inverseUses, inverseBy}
 use Rattle.inverse.specs.Scan.{kept}
 use Rattle.inverse.proofs.Scan.{all-sound}
 
@@ -111,11 +112,11 @@ admitted b y ks check limit ε e =
     }
 
 -- ---- the answer
-module _ (b : Basis) (y : Float) (ks : List Float) (check : Bool) (limit : ℕ) (ε : Float) {v : Verdict} (e : v ≡ first (inverseUses b y ks check limit ε)) where
-  pub refused-is : {r : Refusal} → v ≡ Failed r → Refused r ≡ inverseOf b y ks check limit ε
-  unfolding inverseOf
+module _ (m : Mode) (b : Basis) (y : Float) (ks : List Float) (check : Bool) (limit : ℕ) (ε : Float) {v : Verdict} (e : v ≡ first (inverseUses b y ks check limit ε)) where
+  pub refused-is : {r : Refusal} → v ≡ Failed r → Refused r ≡ inverseBy m b y ks check limit ε
+  unfolding inverseBy
   refused-is k = rw (sym e ∙ k)
 
-  pub answer-is : {a : Inverted} → v ≡ Passed → a ≡ located halving (knotEnds b ks) [] (segmentOf b ks) (segmentsOf b (length ks)) y ε limit → a ≡ inverseOf b y ks check limit ε
-  unfolding inverseOf
+  pub answer-is : {a : Inverted} → v ≡ Passed → a ≡ located halving (ruleOf m b ks (segmentOf b ks) .ends) (ruleOf m b ks (segmentOf b ks) .made) (segmentOf b ks) (segmentsOf b (length ks)) y ε limit → a ≡ inverseBy m b y ks check limit ε
+  unfolding inverseBy
   answer-is k h = h ∙ rw (sym e ∙ k)

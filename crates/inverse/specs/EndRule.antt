@@ -1,13 +1,17 @@
--- The end rule, with its direction. Definitions only.
-use mathlib.Core.List.{List}
+-- The end rule, with its direction: by the knots, or by the curve's own ends. Definitions only.
+use mathlib.Core.List.{List, []}
 use mathlib.Core.Bool.{Bool, cond}
-use Prim.Native.Nat.{_-_}
+use Prim.Native.Nat.{ℕ, _-_}
 use lib.Dec.{eqb}
 use lib.ListN.{length}
-use lib.Ieee.{Float, le}
+use lib.Ieee.{Float, lt, le}
 use Rattle.basis.specs.declared.Basis.{Basis}
-use Rattle.basis.specs.Basis.{stepOf}
+use Rattle.basis.specs.Basis.{stepOf, segmentsOf}
+use Rattle.doubles.specs.Numbers.{nought, one}
+use Rattle.invert.specs.Evaluations.{Evaluations, see}
 use Rattle.inverse.specs.declared.Ends.{Ends}
+use Rattle.inverse.specs.declared.Mode.{Mode}
+use Rattle.inverse.specs.declared.Mode.the-variants.{Knots, Curve}
 use Rattle.inverse.specs.Order.{knot, rises}
 
 -- it goes by a direction, and a value at either end. Rising: y ≤ low gives 0, y ≥ high gives 1; otherwise with ≥ and ≤
@@ -23,3 +27,20 @@ knotEnds b ks =
     cond (eqb (stepOf b) 1)
     (record { rising = rises ks; low = knot ks 1; high = knot ks (length ks - 2) })
     (record { rising = rises ks; low = knot ks 0; high = knot ks (length ks - 1) })
+
+-- what it goes by, and the evaluations made for that
+pub record Rule : Type 0 where
+  pub ends : Ends
+  pub made : Evaluations
+
+-- the evaluated start of the first of k segments and the evaluated end of the last; rising means start < end
+abbrev pub curveRule : (ℕ → Float → Float) → ℕ → Rule
+curveRule g k =
+    let a = see (g 0) 0 nought [] in
+    let b = see (g (k - 1)) (k - 1) one (a .made) in
+    record { ends = record { rising = lt (a .value) (b .value); low = a .value; high = b .value }; made = b .made }
+
+-- in each mode; g s is segment s of the curve of the knots ks
+abbrev pub ruleOf : Mode → Basis → List Float → (ℕ → Float → Float) → Rule
+ruleOf Knots b ks g = record { ends = knotEnds b ks; made = [] }
+ruleOf Curve b ks g = curveRule g (segmentsOf b (length ks))

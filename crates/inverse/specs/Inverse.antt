@@ -15,22 +15,33 @@ use Rattle.invert.specs.declared.Inverted.{Inverted}
 use Rattle.invert.specs.Evaluations.{Evaluations}
 use Rattle.invert.specs.Answer.{inverted, asked}
 use Rattle.invert.specs.Round.{halving}
+use Rattle.inverse.specs.declared.Mode.{Mode}
+use Rattle.inverse.specs.declared.Mode.the-variants.{Knots}
 use Rattle.inverse.specs.Order.{turnBack}
-use Rattle.inverse.specs.EndRule.{knotEnds}
+use Rattle.inverse.specs.EndRule.{ruleOf}
 use Rattle.inverse.specs.Curve.{located, evaluations}
 
 abbrev pub inverseUses : Basis → Float → List Float → Bool → ℕ → Float → Uses
 inverseUses b y ks check limit ε = curveLength b (length ks) ++ asked y limit ε ++ (badKnot ks ∷ turnBack check ks ∷ [])
 
-unfoldable pub inverseOf : Basis → Float → List Float → Bool → ℕ → Float → Inverted
-inverseOf b y ks check limit ε =
-    inverted (first (inverseUses b y ks check limit ε)) (located halving (knotEnds b ks) [] (segmentOf b ks) (segmentsOf b (length ks)) y ε limit)
+unfoldable pub inverseBy : Mode → Basis → Float → List Float → Bool → ℕ → Float → Inverted
+inverseBy m b y ks check limit ε =
+    let r = ruleOf m b ks (segmentOf b ks) in
+    inverted (first (inverseUses b y ks check limit ε)) (located halving (r .ends) (r .made) (segmentOf b ks) (segmentsOf b (length ks)) y ε limit)
 
 -- the evaluations that the call makes: none where it refuses by a row
 abbrev pub unlessRefused : Verdict → Evaluations → Evaluations
 unlessRefused Passed ev = ev
 unlessRefused (Failed r) ev = []
 
-unfoldable pub inverseEvaluations : Basis → Float → List Float → Bool → ℕ → Float → Evaluations
-inverseEvaluations b y ks check limit ε =
-    unlessRefused (first (inverseUses b y ks check limit ε)) (evaluations halving (knotEnds b ks) [] (segmentOf b ks) (segmentsOf b (length ks)) y ε limit)
+unfoldable pub evaluationsBy : Mode → Basis → Float → List Float → Bool → ℕ → Float → Evaluations
+evaluationsBy m b y ks check limit ε =
+    let r = ruleOf m b ks (segmentOf b ks) in
+    unlessRefused (first (inverseUses b y ks check limit ε)) (evaluations halving (r .ends) (r .made) (segmentOf b ks) (segmentsOf b (length ks)) y ε limit)
+
+-- the crate's mode
+abbrev pub inverseOf : Basis → Float → List Float → Bool → ℕ → Float → Inverted
+inverseOf = inverseBy Knots
+
+abbrev pub inverseEvaluations : Basis → Float → List Float → Bool → ℕ → Float → Evaluations
+inverseEvaluations = evaluationsBy Knots

@@ -3,3 +3,4 @@ pub mod EndRule
 pub mod Curve
 pub mod Inverse
 pub mod Scan
+pub mod Shown

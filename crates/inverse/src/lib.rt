@@ -1,20 +1,18 @@
 // Inversion of a curve. Rust: `spline_inverse` of src/spline_trait.rs.
 ghost use mathlib.Core.Path.{_≡_};
 ghost use mathlib.Core.Bool.{true, false};
-ghost use mathlib.Core.List.{[]};
 ghost use Prim.Native.Nat.{_+_, _*_, _≤_, _<_};
 ghost use lib.ListN.{length};
 ghost use lib.Ieee.{isNan};
 ghost use Rattle.basis.specs.Basis.{segmentsOf};
 ghost use Rattle.spline.specs.Segment.{segmentOf};
 ghost use Rattle.spline.specs.Rows.{allInRange};
-ghost use Rattle.invert.specs.Answer.{answered, defaultLimit, defaultPrecision};
+ghost use Rattle.invert.specs.Answer.{defaultLimit, defaultPrecision};
 ghost use Rattle.invert.specs.Round.{halving};
-ghost use Rattle.search.specs.Search.{find};
-ghost use Rattle.search.specs.Trial.{trial};
-ghost use Rattle.inverse.specs.EndRule.{atLow, atHigh, knotEnds};
-ghost use Rattle.inverse.specs.Curve.{parameterOf, ended, located};
-ghost use Rattle.inverse.specs.Inverse.{inverseOf};
+ghost use Rattle.inverse.specs.EndRule.{atLow, atHigh, knotEnds, curveRule, ruleOf};
+ghost use Rattle.inverse.specs.Curve.{parameterOf, located};
+ghost use Rattle.inverse.specs.Inverse.{inverseBy, inverseOf};
+ghost use Rattle.inverse.specs.Shown.{EndedIs, SearchedIs, LocatedIs};
 use basis::Basis;
 use error::Verdict;
 use invert::Ground;
@@ -22,6 +20,12 @@ use invert::Inverted;
 use invert::Place;
 
 pub mod order;
+
+// Whether the end rule goes by the knots, as in the crate, or by the curve's own ends.
+pub enum Mode {
+    Knots,
+    Curve,
+}
 
 // What the end rule goes by: the direction, and a value at either end.
 pub struct Ends {
@@ -62,9 +66,23 @@ fn is_at_high(e: Ends, y: f64) -> bool
     if e.rising { e.high <= y } else { y <= e.high }
 }
 
-// The end rule's answer at a local place of segment s; nothing was evaluated.
-fn end_place(s: usize, x: f64) -> Inverted
-    ensures { λ r. ⌜ r ≡ ended [] s x ⌝ }
+// By the curve's own ends, of k segments: two evaluations.
+fn curve_ends(b: Basis, knots: &[f64], k: usize) -> Ends
+    requires { ⌜ (k ≡ segmentsOf b (length (now knots))) × (4 ≤ length (now knots)) × (length (now knots) ≤ 4096) ⌝ }
+    ensures { λ r. ⌜ r ≡ curveRule (segmentOf b (now (knots .entry))) k .ends ⌝ }
+{
+    let start = spline::segment::horner(search::weights_at(b, knots, 0), 0.0);
+    let end = spline::segment::horner(search::weights_at(b, knots, k - 1), 1.0);
+    Ends {
+        rising: start < end,
+        low: start,
+        high: end,
+    }
+}
+
+// The end rule's answer at a local place of segment s; n evaluations were made.
+fn end_place(s: usize, x: f64, n: u32) -> Inverted
+    ensures { λ r. ⌜ EndedIs n s x r ⌝ }
 {
     Inverted::At(Place {
         parameter: x,
@@ -73,7 +91,7 @@ fn end_place(s: usize, x: f64) -> Inverted
         local: x,
         lower: x,
         upper: x,
-        count: 0,
+        count: n,
     })
 }
 
@@ -84,7 +102,7 @@ fn parameter(k: usize, s: usize, x: f64) -> f64
     (doubles::whole::double_of(s) + x) * (1.0 / doubles::whole::double_of(k))
 }
 
-// The search's answer, with the parameter of its place on the whole curve.
+// The search's answer, with the parameter of its place on the whole curve; n evaluations have been made before.
 fn searched(
     b: Basis,
     y: f64,
@@ -93,11 +111,12 @@ fn searched(
     precision: f64,
     rising: bool,
     k: usize,
+    n: u32,
 ) -> Inverted
-    requires { ⌜ (k ≡ segmentsOf b (length (now knots))) × (4 ≤ length (now knots)) × (length (now knots) ≤ 4096) × (isNan y ≡ false) × (allInRange (now knots) ≡ true) ⌝ }
-    ensures { λ r. ⌜ r ≡ answered (parameterOf k) (find (trial halving (segmentOf b (now (knots .entry))) y precision limit) y rising k []) ⌝ }
+    requires { ⌜ (k ≡ segmentsOf b (length (now knots))) × (4 ≤ length (now knots)) × (length (now knots) ≤ 4096) × (isNan y ≡ false) × (allInRange (now knots) ≡ true) × (n ≤ 1000) ⌝ }
+    ensures { λ r. ⌜ SearchedIs b y (now (knots .entry)) limit precision rising k n r ⌝ }
 {
-    let a = search::find(b, knots, y, precision, limit, rising, k, 0);
+    let a = search::find(b, knots, y, precision, limit, rising, k, n);
     let Inverted::At(p) = a else {
         return a;
     };
@@ -114,20 +133,58 @@ fn searched(
     })
 }
 
-// Past the refusals: the end rule, then the search.
-fn locate(b: Basis, y: f64, knots: &[f64], limit: u16, precision: f64) -> Inverted
-    requires { ⌜ (4 ≤ length (now knots)) × (length (now knots) ≤ 4096) × (isNan y ≡ false) × (allInRange (now knots) ≡ true) ⌝ }
-    ensures { λ r. ⌜ r ≡ located halving (knotEnds b (now (knots .entry))) [] (segmentOf b (now (knots .entry))) (segmentsOf b (length (now (knots .entry)))) y precision limit ⌝ }
+// The end rule, then the search; n evaluations have been made for the rule.
+fn located(
+    e: Ends,
+    n: u32,
+    b: Basis,
+    y: f64,
+    knots: &[f64],
+    limit: u16,
+    precision: f64,
+    k: usize,
+) -> Inverted
+    requires { ⌜ (k ≡ segmentsOf b (length (now knots))) × (4 ≤ length (now knots)) × (length (now knots) ≤ 4096) × (isNan y ≡ false) × (allInRange (now knots) ≡ true) × (n ≤ 1000) ⌝ }
+    ensures { λ r. ⌜ LocatedIs e b y (now (knots .entry)) limit precision k n r ⌝ }
 {
-    let k = basis::segments(b, knots.len());
-    let e = knot_ends(b, knots);
     if is_at_low(e, y) {
-        return end_place(0, 0.0);
+        return end_place(0, 0.0, n);
     }
     if is_at_high(e, y) {
-        return end_place(k - 1, 1.0);
+        return end_place(k - 1, 1.0, n);
     }
-    searched(b, y, knots, limit, precision, e.rising, k)
+    searched(b, y, knots, limit, precision, e.rising, k, n)
+}
+
+// Past the refusals, by the mode's end rule.
+fn locate(m: Mode, b: Basis, y: f64, knots: &[f64], limit: u16, precision: f64) -> Inverted
+    requires { ⌜ (4 ≤ length (now knots)) × (length (now knots) ≤ 4096) × (isNan y ≡ false) × (allInRange (now knots) ≡ true) ⌝ }
+    ensures { λ r. ⌜ r ≡ located halving (ruleOf m b (now (knots .entry)) (segmentOf b (now (knots .entry))) .ends) (ruleOf m b (now (knots .entry)) (segmentOf b (now (knots .entry))) .made) (segmentOf b (now (knots .entry))) (segmentsOf b (length (now (knots .entry)))) y precision limit ⌝ }
+{
+    let k = basis::segments(b, knots.len());
+    match m {
+        Mode::Knots => located(knot_ends(b, knots), 0, b, y, knots, limit, precision, k),
+        Mode::Curve => located(curve_ends(b, knots, k), 2, b, y, knots, limit, precision, k),
+    }
+}
+
+// The place of y on the curve, with the end rule of the mode; with `check`, knots that turn back are refused.
+pub fn spline_inverse_by(
+    m: Mode,
+    b: Basis,
+    y: f64,
+    knots: &[f64],
+    check: bool,
+    limit: u16,
+    precision: f64,
+) -> Inverted
+    ensures { λ r. ⌜ r ≡ inverseBy m b y (now (knots .entry)) check limit precision ⌝ }
+{
+    let v = order::verdict(b, y, knots, check, limit, precision);
+    match v {
+        Verdict::Failed(r) => Inverted::Refused(r),
+        Verdict::Passed => locate(m, b, y, knots, limit, precision),
+    }
 }
 
 // The place of y on the curve; with `check`, knots that turn back are refused.
@@ -141,11 +198,7 @@ pub fn spline_inverse_with(
 ) -> Inverted
     ensures { λ r. ⌜ r ≡ inverseOf b y (now (knots .entry)) check limit precision ⌝ }
 {
-    let v = order::verdict(b, y, knots, check, limit, precision);
-    match v {
-        Verdict::Failed(r) => Inverted::Refused(r),
-        Verdict::Passed => locate(b, y, knots, limit, precision),
-    }
+    spline_inverse_by(Mode::Knots, b, y, knots, check, limit, precision)
 }
 
 // The same with limit 32 and precision 1e-10.

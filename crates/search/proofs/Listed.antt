@@ -73,6 +73,10 @@ module _ (g h : ℕ → Float → Float) where
           (λ v t. branch (λ (o : Outcome). Same o → Agreed g h t) (before rising y v) (λ _. halve-grows n l (c / 2) t) (λ _. halve-grows n (suc m) (c - c / 2) t))
           (λ v t. alike Same (before rising y v) (halve-same n l (c / 2) t) (halve-same n (suc m) (c - c / 2) t)) a
 
+      find-grown : (ev : Evaluations) → Same (find E y rising k ev) → Agreed g h ev
+      unfolding find
+      find-grown ev = branch (λ (o : Outcome). Same o → Agreed g h ev) (leb k 12) (λ _. tries-grows k 0 ev) (λ _. halve-grows (bitsOf k) 0 k ev)
+
       find-alike : (ev : Evaluations) → Same (find E y rising k ev) → find E y rising k ev ≡ find F y rising k ev
       unfolding find
       find-alike ev a = alike Same (leb k 12) (tries-same k 0 ev) (halve-same (bitsOf k) 0 k ev) a
@@ -80,3 +84,7 @@ module _ (g h : ℕ → Float → Float) where
   pub find-same : (W : Weighting) (y ε : Float) (limit : ℕ) (rising : Bool) (k : ℕ) (ev : Evaluations) → Same (find (trial W g y ε limit) y rising k ev) → find (trial W g y ε limit) y rising k ev ≡ find (trial W h y ε limit) y rising k ev
   find-same W y ε limit rising k ev a =
       find-alike (trial W g y ε limit) (trial W h y ε limit) (λ s ev. enter-grows g h W s y ε limit ev) (λ s ev. enter-same g h W s y ε limit ev) y rising k ev a
+
+  pub find-grows : (W : Weighting) (y ε : Float) (limit : ℕ) (rising : Bool) (k : ℕ) (ev : Evaluations) → Same (find (trial W g y ε limit) y rising k ev) → Agreed g h ev
+  find-grows W y ε limit rising k ev a =
+      find-grown (trial W g y ε limit) (trial W h y ε limit) (λ s ev. enter-grows g h W s y ε limit ev) (λ s ev. enter-same g h W s y ε limit ev) y rising k ev a

@@ -1,0 +1,26 @@
+-- The definitions' results as the code has them: a count stands for each list of evaluations. Definitions only.
+use mathlib.Core.Path.{_≡_}
+use mathlib.Core.List.{List}
+use mathlib.Core.Bool.{Bool}
+use Prim.Native.Nat.{ℕ}
+use lib.ListN.{length}
+use lib.Ieee.{Float}
+use Rattle.basis.specs.declared.Basis.{Basis}
+use Rattle.spline.specs.Segment.{segmentOf}
+use Rattle.invert.specs.declared.Inverted.{Inverted}
+use Rattle.invert.specs.Evaluations.{Evaluations}
+use Rattle.invert.specs.Round.{halving}
+use Rattle.invert.specs.Answer.{answered}
+use Rattle.search.specs.Search.{find}
+use Rattle.search.specs.Trial.{trial}
+use Rattle.inverse.specs.declared.Ends.{Ends}
+use Rattle.inverse.specs.Curve.{parameterOf, ended, located}
+
+abbrev pub EndedIs : ℕ → ℕ → Float → Inverted → Type 0
+EndedIs n s x r = (ev : Evaluations) → length ev ≡ n → r ≡ ended ev s x
+
+abbrev pub SearchedIs : Basis → Float → List Float → ℕ → Float → Bool → ℕ → ℕ → Inverted → Type 0
+SearchedIs b y ks limit ε rising k n r = (ev : Evaluations) → length ev ≡ n → r ≡ answered (parameterOf k) (find (trial halving (segmentOf b ks) y ε limit) y rising k ev)
+
+abbrev pub LocatedIs : Ends → Basis → Float → List Float → ℕ → Float → ℕ → ℕ → Inverted → Type 0
+LocatedIs e b y ks limit ε k n r = (ev : Evaluations) → length ev ≡ n → r ≡ located halving e ev (segmentOf b ks) k y ε limit
