@@ -1,18 +1,17 @@
 -- The two calls of conversion: what each refuses, and what it gives. Definitions only.
-use mathlib.Core.Bool.{not}
 use mathlib.Core.List.{List, [], _∷_, _++_}
 use Prim.Native.Nat.{ℕ}
 use lib.Dec.{ltb}
 use lib.ListN.{length}
 use lib.Ieee.{Float}
 use Rattle.error.specs.declared.Refusal.{Refusal}
-use Rattle.error.specs.declared.Refusal.the-variants.{LinearOutput, ShortBuffer, BadKnot}
+use Rattle.error.specs.declared.Refusal.the-variants.{LinearOutput, ShortBuffer}
 use Rattle.error.specs.declared.Verdict.{Verdict}
 use Rattle.error.specs.declared.Verdict.the-variants.{Passed, Failed}
 use Rattle.error.specs.Refusals.{Uses, first}
 use Rattle.basis.specs.declared.Basis.{Basis}
 use Rattle.basis.specs.Basis.{isLinear}
-use Rattle.spline.specs.Rows.{curveLength, segmentLength, allInRange}
+use Rattle.spline.specs.Rows.{curveLength, segmentLength, badKnot}
 use Rattle.convert.specs.Output.{segmentOutput, splineOutput, outputLength}
 
 -- the doubles to be written, or a refusal
@@ -26,7 +25,7 @@ unless (Failed r) l = refuses r
 
 -- the output's basis, the room for need doubles, and the knots
 abbrev pub outputUses : Basis → List Float → ℕ → ℕ → Uses
-outputUses to ks need room = (LinearOutput, isLinear to) ∷ (ShortBuffer, ltb room need) ∷ (BadKnot, not (allInRange ks)) ∷ []
+outputUses to ks need room = (LinearOutput, isLinear to) ∷ (ShortBuffer, ltb room need) ∷ badKnot ks ∷ []
 
 -- one segment, into a buffer of room places
 abbrev pub convertSegmentUses : Basis → List Float → ℕ → Uses

@@ -1,6 +1,7 @@
 // The refusals of conversion, all decided before the first write.
 ghost use mathlib.Core.Path.{_≡_};
 ghost use Prim.Native.Nat.{_≤_};
+ghost use lib.ListN.{length};
 ghost use Rattle.error.specs.Refusals.{first};
 ghost use Rattle.basis.specs.Basis.{isLinear};
 ghost use Rattle.convert.specs.Output.{outputLength};
@@ -23,6 +24,7 @@ pub fn is_linear(b: Basis) -> bool
 }
 
 fn output_verdict(to: Basis, knots: &[f64], need: usize, room: usize) -> Verdict
+    requires { ⌜ length (now knots) ≤ 4096 ⌝ }
     ensures { λ r. ⌜ r ≡ first (outputUses to (now (knots .entry)) need room) ⌝ }
 {
     if is_linear(to) {
@@ -34,7 +36,7 @@ fn output_verdict(to: Basis, knots: &[f64], need: usize, room: usize) -> Verdict
     if spline::rows::all_in_range(knots) {
         Verdict::Passed
     } else {
-        Verdict::Failed(Refusal::BadKnot)
+        Verdict::Failed(spline::rows::bad_knot(knots))
     }
 }
 

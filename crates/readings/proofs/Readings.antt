@@ -8,7 +8,7 @@ use Rattle.basis.specs.Basis.{matrixOf}
 use Rattle.doubles.specs.Numbers.{magnitudeOf, clamp}
 use Rattle.doubles.specs.Lerp.{lerpOf}
 use Rattle.doubles.specs.Whole.{wholeUpTo}
-use Rattle.spline.specs.Rows.{inRange, allInRange}
+use Rattle.spline.specs.Rows.{inRange, allInRange, firstBad}
 use Rattle.spline.specs.Curve.{curveValue}
 use Rattle.spline.specs.Evaluation.{splineOf}
 use Rattle.invert.specs.Answer.{precise}
@@ -17,9 +17,9 @@ use Rattle.invert.specs.Rounds.{rounds}
 use Rattle.invert.specs.Segment.{entered, enter}
 use Rattle.search.specs.Bound.{bitsOf}
 use Rattle.search.specs.Search.{tries, last, halve, find}
-use Rattle.inverse.specs.Order.{ordered}
+use Rattle.inverse.specs.Order.{ordered, turnsAt}
 use Rattle.inverse.specs.Curve.{parameterOf, located, evaluations}
-use Rattle.inverse.specs.Inverse.{inverseOf, inverseEvaluations}
+use Rattle.inverse.specs.Inverse.{inverseBy, evaluationsBy}
 use Rattle.convert.specs.Conversion.{convertedOf}
 use Rattle.readings.specs.Readings.{minusFourTenths, fourTenths, nineTenths, nineteenTenths, Reading, tells, Hold, lengths, values, longest, places, halvings, conversions, table}
 
@@ -34,23 +34,23 @@ unfolding lengths
 lengths-hold = (refl, (refl, (refl, (refl, (refl, (refl, (refl, tt)))))))
 
 values-hold : Hold values
-unfolding values splineOf inRange allInRange curveValue wholeUpTo clamp matrixOf ofBits ofInt round add sub mul lt le eq neg isNan
+unfolding values splineOf inRange allInRange firstBad curveValue wholeUpTo clamp matrixOf ofBits ofInt round add sub mul lt le eq neg isNan
 values-hold = (refl, (refl, (refl, (refl, (refl, (refl, (refl, (refl, tt))))))))
 
 longest-hold : Hold longest
-unfolding longest splineOf inRange allInRange curveValue wholeUpTo clamp matrixOf ofBits ofInt round add sub mul lt le eq neg isNan
+unfolding longest splineOf inRange allInRange firstBad curveValue wholeUpTo clamp matrixOf ofBits ofInt round add sub mul lt le eq neg isNan
 longest-hold = (refl, (refl, tt))
 
 places-hold : Hold places
-unfolding places inverseOf located find tries last halve bitsOf enter entered rounds turn probed settled moved fraction kept weighed halving narrow ordered precise parameterOf inRange allInRange magnitudeOf lerpOf matrixOf ofBits ofInt round add sub mul div lt le eq neg isNan leadingZeros
+unfolding places inverseBy located find tries last halve bitsOf enter entered rounds turn probed settled moved fraction kept weighed halving narrow ordered turnsAt precise parameterOf inRange allInRange firstBad magnitudeOf lerpOf matrixOf ofBits ofInt round add sub mul div lt le eq neg isNan leadingZeros
 places-hold = (refl, (refl, (refl, (refl, (refl, (refl, tt))))))
 
 halvings-hold : Hold halvings
-unfolding halvings inverseOf inverseEvaluations located evaluations find tries last halve bitsOf enter entered rounds turn probed settled moved fraction kept weighed halving narrow ordered precise parameterOf inRange allInRange magnitudeOf lerpOf matrixOf ofBits ofInt round add sub mul div lt le eq neg isNan leadingZeros
-halvings-hold = (refl, (refl, (refl, tt)))
+unfolding halvings inverseBy evaluationsBy located evaluations find tries last halve bitsOf enter entered rounds turn probed settled moved fraction kept weighed halving narrow ordered turnsAt precise parameterOf inRange allInRange firstBad magnitudeOf lerpOf matrixOf ofBits ofInt round add sub mul div lt le eq neg isNan leadingZeros
+halvings-hold = (refl, (refl, (refl, (refl, tt))))
 
 conversions-hold : Hold conversions
-unfolding conversions convertedOf inRange allInRange matrixOf ofBits ofInt round add sub mul div lt le eq neg isNan
+unfolding conversions convertedOf inRange allInRange firstBad matrixOf ofBits ofInt round add sub mul div lt le eq neg isNan
 conversions-hold = (refl, (refl, (refl, tt)))
 
 both : (rs qs : List Reading) → Hold rs → Hold qs → Hold (rs ++ qs)

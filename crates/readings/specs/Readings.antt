@@ -7,7 +7,8 @@ use lib.IntN.{pos}
 use lib.Ieee.{Float, binary64, ofBits, ofInt, round}
 use Rattle.error.specs.declared.Verdict.{Verdict}
 use Rattle.error.specs.declared.Verdict.the-variants.{Passed, Failed}
-use Rattle.error.specs.Refusals.{numberOf, first}
+use Rattle.error.specs.declared.Refusal.{Refusal}
+use Rattle.error.specs.Refusals.{numberOf, placesOf, first}
 use Rattle.basis.specs.declared.Basis.{Basis}
 use Rattle.basis.specs.declared.Basis.the-variants.{Bspline, Bezier, CatmullRom, Hermite, Linear, Power}
 use Rattle.doubles.specs.Numbers.{nought, one, half}
@@ -20,7 +21,8 @@ use Rattle.invert.specs.declared.Ground.the-variants.{End, Edge, Value}
 use Rattle.invert.specs.declared.Inverted.{Inverted}
 use Rattle.invert.specs.declared.Inverted.the-variants as I
 use Rattle.invert.specs.Answer.{defaultLimit, defaultPrecision}
-use Rattle.inverse.specs.Inverse.{inverseOf, inverseEvaluations}
+use Rattle.inverse.specs.Inverse.{inverseBy, inverseOf, inverseEvaluations}
+use Rattle.inverse.specs.declared.Mode.the-variants.{Curve}
 use Rattle.convert.specs.Conversion.{Conversion, gives, refuses, convertedOf}
 
 -- ---- what a reading tells: a value or the knots, a place by its parameter, ground and count, or a refusal's number, 11 with its count; that a length is accepted; segments
@@ -29,26 +31,35 @@ pub data Told : Type 0 where
   place : Float → Ground → ℕ → Told
   knots : List Float → Told
   refused : ℕ → Told
+  -- with the knot's number
+  refused-at : ℕ → ℕ → Told
   off : ℕ → Told
   accepted : Told
   segments : List ℕ → Told
 
+abbrev pub told : ℕ → List ℕ → Told
+told n [] = refused n
+told n (i ∷ is) = refused-at n i
+
+abbrev pub ofRefusal : Refusal → Told
+ofRefusal r = told (numberOf r) (placesOf r)
+
 abbrev pub ofEvaluated : Evaluated → Told
 ofEvaluated (E.Value x) = value x
-ofEvaluated (E.Refused r) = refused (numberOf r)
+ofEvaluated (E.Refused r) = ofRefusal r
 
 abbrev pub ofInverted : Inverted → Told
-ofInverted (I.Refused r) = refused (numberOf r)
+ofInverted (I.Refused r) = ofRefusal r
 ofInverted (I.OffCurve n) = off n
 ofInverted (I.At p) = place (p .parameter) (p .ground) (p .count)
 
 abbrev pub ofConversion : Conversion → Told
 ofConversion (gives l) = knots l
-ofConversion (refuses r) = refused (numberOf r)
+ofConversion (refuses r) = ofRefusal r
 
 abbrev pub ofVerdict : Verdict → Told
 ofVerdict Passed = accepted
-ofVerdict (Failed r) = refused (numberOf r)
+ofVerdict (Failed r) = ofRefusal r
 
 -- ---- a reading: what is asked, and what is told
 pub data Asked : Type 0 where
@@ -58,6 +69,8 @@ pub data Asked : Type 0 where
   at : Basis → List Float → Float → Asked
   -- the place of a target: with the order check or without, to a precision
   place-of : Basis → List Float → Float → Bool → Float → Asked
+  -- the same by the curve's own ends
+  own-place-of : Basis → List Float → Float → Bool → Float → Asked
   -- the segments that are evaluated for it, the first one first
   visited : Basis → List Float → Float → Asked
   -- a knot vector in another basis
@@ -70,6 +83,7 @@ abbrev pub answer : Asked → Told
 answer (knots-of b n) = ofVerdict (first (curveLength b n))
 answer (at b ks x) = ofEvaluated (splineOf b x ks)
 answer (place-of b ks y check ε) = ofInverted (inverseOf b y ks check defaultLimit ε)
+answer (own-place-of b ks y check ε) = ofInverted (inverseBy Curve b y ks check defaultLimit ε)
 answer (visited b ks y) = segments (reverse (map (λ e. e .0) (inverseEvaluations b y ks true defaultLimit defaultPrecision)))
 answer (turned from to ks) = ofConversion (convertedOf from to ks 4096)
 
@@ -141,7 +155,7 @@ values =
     ∷ tells (at Bezier (copies 5 one) half) (refused 2)
     ∷ tells (at Bezier (copies 11 one) half) (refused 2)
     ∷ tells (at Linear (copies 4 bound) half) (value bound)
-    ∷ tells (at Linear (copies 4 beyond) half) (refused 4)
+    ∷ tells (at Linear (copies 4 beyond) half) (refused-at 4 0)
     ∷ []
 
 -- the most knots, and one more
@@ -159,8 +173,8 @@ places =
     ∷ tells (place-of Linear (nought ∷ nought ∷ one ∷ one ∷ []) eighth true eighth) (place nought Edge 2)
     ∷ tells (place-of Linear (nought ∷ nought ∷ one ∷ one ∷ []) quarter true eighth) (place quarter Value 3)
     ∷ tells (place-of Bezier (nought ∷ half ∷ half ∷ one ∷ []) quarter false defaultPrecision) (place nought End 0)
-    ∷ tells (place-of Bezier (nought ∷ half ∷ half ∷ one ∷ []) quarter true defaultPrecision) (refused 10)
-    ∷ tells (place-of CatmullRom (nought ∷ nought ∷ whole 3 ∷ whole 2 ∷ whole 5 ∷ whole 5 ∷ []) one true defaultPrecision) (refused 10)
+    ∷ tells (place-of Bezier (nought ∷ half ∷ half ∷ one ∷ []) quarter true defaultPrecision) (refused-at 10 2)
+    ∷ tells (place-of CatmullRom (nought ∷ nought ∷ whole 3 ∷ whole 2 ∷ whole 5 ∷ whole 5 ∷ []) one true defaultPrecision) (refused-at 10 2)
     ∷ []
 
 -- a target that no segment encloses: 13 segments by halving, with the last tries at segments 0 and 1; 12 in order
@@ -168,6 +182,7 @@ unfoldable pub halvings : List Reading
 unfolding sixes
 halvings =
     tells (place-of Bspline (nought ∷ sixes 0 15) half true defaultPrecision) (off 10)
+    ∷ tells (own-place-of Bspline (nought ∷ sixes 0 15) half true defaultPrecision) (place nought End 2)
     ∷ tells (visited Bspline (nought ∷ sixes 0 15) half) (segments (6 ∷ 6 ∷ 2 ∷ 2 ∷ 0 ∷ 0 ∷ 0 ∷ 0 ∷ 1 ∷ 1 ∷ []))
     ∷ tells (place-of Bspline (nought ∷ sixes 0 14) half true defaultPrecision) (off 24)
     ∷ []

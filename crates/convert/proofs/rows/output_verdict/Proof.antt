@@ -1,5 +1,7 @@
 use borrow.Author.Tests.{lt-ltb, le-ltb}
-use mathlib.Core.Path.{sym, _∙_}
+use mathlib.Core.Path.{sym, ap, _∙_}
+use Rattle.error.specs.declared.Refusal.{Refusal}
+use Rattle.error.specs.declared.Verdict.the-variants.{Failed}
 use borrow.Author.Needs.{needs}
 use Rattle.convert.proofs.rows.output_verdict.Statement.{statement}
 use Rattle.convert.proofs.rows.output_verdict.Tie as tie
@@ -23,12 +25,15 @@ returns-3 c =
     let a = c .before .before .before .before .before .before .args in
     simp (sym (c .before .before .before .before .is-linear .ensures) ∙ c .before .before .before .if1 .left, le-ltb (a .room) (a .need) (c .before .before .if2 .left), sym (c .before .all-in-range .ensures) ∙ c .if3 .taken)
 
+bad-knot-requires : tie.Need-bad-knot-requires
+bad-knot-requires c κs = search needs
+
 returns-4 : tie.Need-returns-4
 returns-4 c =
-    let a = c .before .before .before .before .before .before .args in
-    simp (sym (c .before .before .before .before .is-linear .ensures) ∙ c .before .before .before .if1 .left, le-ltb (a .room) (a .need) (c .before .before .if2 .left), sym (c .before .all-in-range .ensures) ∙ c .if3 .left)
+    let a = c .before .before .before .before .before .before .before .args in
+    simp (sym (c .before .before .before .before .before .is-linear .ensures) ∙ c .before .before .before .before .if1 .left, le-ltb (a .room) (a .need) (c .before .before .before .if2 .left), sym (c .before .before .all-in-range .ensures) ∙ c .before .if3 .left) (ap (λ (r : Refusal). Failed r) (c .bad-knot .ensures))
 
 pub output-verdict-spec : {M : Type 1} → statement M
 output-verdict-spec =
     tie.close
-    (tie.spec is-linear-requires returns returns-2 all-in-range-requires returns-3 returns-4)
+    (tie.spec is-linear-requires returns returns-2 all-in-range-requires bad-knot-requires returns-3 returns-4)

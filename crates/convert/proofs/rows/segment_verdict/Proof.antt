@@ -1,3 +1,5 @@
+use mathlib.Core.Path.{sym, _∙_}
+use Rattle.spline.proofs.Verdicts.{segment-length-passed}
 use Rattle.convert.proofs.Verdicts.{segment-stops, segment-goes-on}
 use borrow.Author.Needs.{needs}
 use Rattle.convert.proofs.rows.segment_verdict.Statement.{statement}
@@ -13,7 +15,7 @@ enum-told : tie.Need-enum-told
 enum-told c = search needs
 
 output-verdict-requires : tie.Need-output-verdict-requires
-output-verdict-requires c κs = search needs
+output-verdict-requires c κs = segment-length-passed _ (sym (c .before .before .segment-length .ensures) ∙ c .enum-told .given .1)
 
 returns : tie.Need-returns
 returns c =

@@ -20,7 +20,7 @@ output-length-requires c κs =
     (h .least, h .most)
 
 output-verdict-requires : tie.Need-output-verdict-requires
-output-verdict-requires c κs = search needs
+output-verdict-requires c κs = length-passed (c .before .before .before .before .before .args .from) _ (sym (c .before .before .before .curve-length .ensures) ∙ c .before .enum-told .given .1) .most
 
 returns : tie.Need-returns
 returns c =
