@@ -4,7 +4,7 @@ use Prim.Native.Nat.{ℕ}
 use lib.Ieee.{Float}
 use Rattle.basis.specs.declared.Basis.{Basis}
 use Rattle.error.specs.declared.Refusal.{Refusal}
-use Rattle.error.specs.Refusals.{numberOf}
+use Rattle.error.specs.Refusals.{numberOf, placesOf}
 use Rattle.invert.specs.declared.Ground.{Ground}
 use Rattle.invert.specs.declared.Ground.the-variants.{End, Edge, Value, Width, Spent}
 use Rattle.record.specs.Record.{nameOf}
@@ -17,9 +17,14 @@ pub data Reply : Type 0 where
   place : Float → Ground → ℕ → Reply
   curve : Basis → List Float → Reply
 
--- `refused` and its number alone
+-- each place that a refusal tells, after a tab
+abbrev pub placesText : List ℕ → List ℕ
+placesText [] = []
+placesText (i ∷ is) = (TAB ∷ []) ++ decText 4 i ++ placesText is
+
+-- `refused`, its number, and the knot's number where it tells one
 abbrev pub refusedText : Refusal → List ℕ
-refusedText r = bytes "refused\t" ++ decText 2 (numberOf r) ++ (LF ∷ [])
+refusedText r = bytes "refused\t" ++ decText 2 (numberOf r) ++ placesText (placesOf r) ++ (LF ∷ [])
 
 -- a word and a double
 abbrev pub lineText : List ℕ → Float → List ℕ

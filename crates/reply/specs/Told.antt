@@ -1,10 +1,12 @@
 -- How the program holds a reply. Definitions only.
-use mathlib.Core.List.{List}
+use mathlib.Core.List.{List, [], _∷_}
 use Prim.Native.Nat.{ℕ}
 use lib.Ieee.{Float}
 use lib.ListN.{take}
 use Rattle.reply.specs.declared.Told.{Told}
 use Rattle.reply.specs.declared.Told.the-variants.{Nothing, Refused, Value, Place, Curve}
+use Rattle.reply.specs.declared.Where.{Where}
+use Rattle.reply.specs.declared.Where.the-variants.{Nowhere, Knot}
 use Rattle.reply.specs.Reply.{Reply, silence, refused, value, place, curve}
 
 -- the bytes of the longest reply, a curve of 4,096 knots over CatmullRom
@@ -26,3 +28,8 @@ replyOf (Refused r) lent = refused r
 replyOf (Value x) lent = value x
 replyOf (Place x g n) lent = place x g n
 replyOf (Curve b n) lent = curve b (take n lent)
+
+-- the place told, as the code has it
+abbrev pub placesIn : Where → List ℕ
+placesIn Nowhere = []
+placesIn (Knot i) = i ∷ []

@@ -2,10 +2,12 @@
 ghost use mathlib.Core.Path.{_≡_};
 ghost use Prim.Native.Nat.{_+_, _*_, _≤_};
 ghost use lib.ListN.{length};
+ghost use mathlib.Core.List.{[], _∷_};
+ghost use Rattle.error.specs.Refusals.{placesOf};
 ghost use Rattle.text.specs.Wrote.{Wrote};
 ghost use Rattle.record.specs.Record.{nameOf};
-ghost use Rattle.reply.specs.Reply.{groundName, refusedText, lineText, placeText, knotsText, curveText, textOf};
-ghost use Rattle.reply.specs.Told.{longest, lentOf, replyOf};
+ghost use Rattle.reply.specs.Reply.{groundName, placesText, refusedText, lineText, placeText, knotsText, curveText, textOf};
+ghost use Rattle.reply.specs.Told.{longest, lentOf, replyOf, placesIn};
 use basis::Basis;
 use error::Refusal;
 use invert::Ground;
@@ -22,13 +24,58 @@ pub enum Told {
     Curve(Basis, usize),
 }
 
+// A knot's number, after a tab.
+fn put_knot(out: &mut [u8], at: usize, i: u16) -> usize
+    requires { ⌜ at + 6 ≤ length (now out) ⌝ }
+    ensures { λ n. ⌜ Wrote (now (out .entry)) at (placesText (i ∷ [])) (now (out .exit)) n × (n ≤ at + 6) ⌝ }
+{
+    let a = text::put_byte(&mut *out, at, b'\t');
+    text::put_decimal(out, a, i as u32, 4)
+}
+
+// The knot that a refusal tells.
+pub enum Where {
+    Nowhere,
+    Knot(u16),
+}
+
+fn knot_of(r: Refusal) -> Where
+    ensures { λ w. ⌜ placesIn w ≡ placesOf r ⌝ }
+{
+    match r {
+        Refusal::TooFew => Where::Nowhere,
+        Refusal::BadPattern => Where::Nowhere,
+        Refusal::TooMany => Where::Nowhere,
+        Refusal::NotANumber => Where::Nowhere,
+        Refusal::BadPrecision => Where::Nowhere,
+        Refusal::NoRounds => Where::Nowhere,
+        Refusal::LinearOutput => Where::Nowhere,
+        Refusal::ShortBuffer => Where::Nowhere,
+        Refusal::BadKnot(i) => Where::Knot(i),
+        Refusal::TurnsBack(i) => Where::Knot(i),
+        Refusal::OffCurve => Where::Nowhere,
+        Refusal::BadLine => Where::Nowhere,
+    }
+}
+
+fn put_places(out: &mut [u8], at: usize, w: Where) -> usize
+    requires { ⌜ at + 6 ≤ length (now out) ⌝ }
+    ensures { λ n. ⌜ Wrote (now (out .entry)) at (placesText (placesIn w)) (now (out .exit)) n × (n ≤ at + 6) ⌝ }
+{
+    match w {
+        Where::Knot(i) => put_knot(out, at, i),
+        Where::Nowhere => at,
+    }
+}
+
 fn put_refused(out: &mut [u8], at: usize, r: Refusal) -> usize
-    requires { ⌜ at + 12 ≤ length (now out) ⌝ }
-    ensures { λ n. ⌜ Wrote (now (out .entry)) at (refusedText r) (now (out .exit)) n × (n ≤ at + 12) ⌝ }
+    requires { ⌜ at + 18 ≤ length (now out) ⌝ }
+    ensures { λ n. ⌜ Wrote (now (out .entry)) at (refusedText r) (now (out .exit)) n × (n ≤ at + 18) ⌝ }
 {
     let a = text::put_word(&mut *out, at, b"refused\t");
     let b = text::put_decimal(&mut *out, a, error::number(r) as u32, 2);
-    text::put_byte(out, b, b'\n')
+    let c = put_places(&mut *out, b, knot_of(r));
+    text::put_byte(out, c, b'\n')
 }
 
 // A word and a double.

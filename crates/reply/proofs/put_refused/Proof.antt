@@ -19,6 +19,12 @@ cast-put-decimal c = search needs
 put-decimal-requires : tie.Need-put-decimal-requires
 put-decimal-requires c κs = search needs
 
+knot-of-requires : tie.Need-knot-of-requires
+knot-of-requires c κs = search needs
+
+put-places-requires : tie.Need-put-places-requires
+put-places-requires c κs = search needs
+
 put-byte-requires : tie.Need-put-byte-requires
 put-byte-requires c κs = search needs
 
@@ -26,10 +32,7 @@ same-length : tie.Need-same-length
 same-length c = search needs
 
 returns : tie.Need-returns
-returns c = (
-  then (then (c .before .before .before .before .before .before .before .before .before .before .before .put-word .ensures) (rw (c .before .before .before .before .before .before .before .number .ensures) at (c .before .before .before .before .before .before .put-decimal .ensures .0))) (c .before .before .put-byte .ensures),
-  omega (arith, c .before .before .before .before .before .before .before .before .before .before .before .put-word .ensures .next, c .before .before .before .before .before .before .put-decimal .ensures .1, c .before .before .put-byte .ensures .next),
-)
+returns c = (then (then (then (c .before .before .before .before .before .before .before .before .before .before .before .before .before .before .before .before .put-word .ensures) (rw (c .before .before .before .before .before .before .before .before .before .before .before .before .number .ensures) at (c .before .before .before .before .before .before .before .before .before .before .before .put-decimal .ensures .0))) (rw (c .before .before .before .before .before .before .before .knot-of .ensures) at (c .before .before .before .before .before .before .put-places .ensures .0))) (c .before .before .put-byte .ensures), omega (arith, c .before .before .before .before .before .before .before .before .before .before .before .before .before .before .before .before .put-word .ensures .next, c .before .before .before .before .before .before .before .before .before .before .before .put-decimal .ensures .1, c .before .before .before .before .before .before .put-places .ensures .1, c .before .before .put-byte .ensures .next))
 
 pub put-refused-spec : {M : Type 1} → statement M
 put-refused-spec =
@@ -40,6 +43,8 @@ put-refused-spec =
     number-requires
     cast-put-decimal
     put-decimal-requires
+    knot-of-requires
+    put-places-requires
     put-byte-requires
     same-length
     returns)
