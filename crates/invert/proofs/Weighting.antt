@@ -3,7 +3,9 @@ use mathlib.Core.Path.{_≡_, refl}
 use mathlib.Core.Bool.{Bool, true, false}
 use lib.Ieee.{Float}
 use Rattle.invert.specs.declared.Bracket.{Bracket}
-use Rattle.invert.specs.Round.{Weighting, halving}
+use Rattle.invert.specs.declared.Weighing.{Weighing}
+use Rattle.invert.specs.declared.Weighing.the-variants.{Value, Distance}
+use Rattle.invert.specs.Round.{Weighting, halving, drawing, weightingOf}
 
 pub record Keeps (W : Weighting) : Type 0 where
   pub keeps-lower : (y : Float) (lower : Bool) (b : Bracket) → W y lower b .lower ≡ b .lower
@@ -21,3 +23,17 @@ halving-upper y false b = refl
 
 pub halving-keeps : Keeps halving
 halving-keeps = record { keeps-lower = halving-lower; keeps-upper = halving-upper }
+
+drawing-lower : (y : Float) (lower : Bool) (b : Bracket) → drawing y lower b .lower ≡ b .lower
+unfolding drawing
+drawing-lower y true b = refl
+drawing-lower y false b = refl
+
+drawing-upper : (y : Float) (lower : Bool) (b : Bracket) → drawing y lower b .upper ≡ b .upper
+unfolding drawing
+drawing-upper y true b = refl
+drawing-upper y false b = refl
+
+pub weighing-keeps : (m : Weighing) → Keeps (weightingOf m)
+weighing-keeps Value = halving-keeps
+weighing-keeps Distance = record { keeps-lower = drawing-lower; keeps-upper = drawing-upper }

@@ -2,13 +2,15 @@
 use mathlib.Core.Bool.{Bool, true, false, cond, _&&_, Bool·beq}
 use Prim.Native.Nat.{ℕ, suc, _*_, _/_}
 use lib.Dec.{ltb, eqb}
-use lib.Ieee.{Float, binary64, sub, mul, div, lt}
+use lib.Ieee.{Float, binary64, add, sub, mul, div, lt}
 use Rattle.doubles.specs.Numbers.{half, hundredth, ninetyNineHundredths, trillionth, magnitudeOf}
 use Rattle.doubles.specs.Lerp.{lerpOf}
 use Rattle.invert.specs.declared.Ground.{Ground}
 use Rattle.invert.specs.declared.Ground.the-variants.{Value, Width}
 use Rattle.invert.specs.declared.Bracket.{Bracket}
 use Rattle.invert.specs.declared.State.{State}
+use Rattle.invert.specs.declared.Weighing.{Weighing}
+use Rattle.invert.specs.declared.Weighing.the-variants.{Value as ByValue, Distance}
 use Rattle.invert.specs.Evaluations.{Evaluations, see}
 
 -- ---- the width test
@@ -34,6 +36,18 @@ Weighting = Float → Bool → Bracket → Bracket
 unfoldable pub halving : Weighting
 halving y true b = record { lower = b .lower; upper = b .upper; v0 = mul binary64 (b .v0) half; v1 = b .v1 }
 halving y false b = record { lower = b .lower; upper = b .upper; v0 = b .v0; v1 = mul binary64 (b .v1) half }
+
+-- as it is taught: the distance to the target is halved at the end that did not move last
+abbrev pub nearer : Float → Float → Float
+nearer y w = add binary64 y (mul binary64 (sub binary64 w y) half)
+
+unfoldable pub drawing : Weighting
+drawing y true b = record { lower = b .lower; upper = b .upper; v0 = b .v0; v1 = nearer y (b .v1) }
+drawing y false b = record { lower = b .lower; upper = b .upper; v0 = nearer y (b .v0); v1 = b .v1 }
+
+abbrev pub weightingOf : Weighing → Weighting
+weightingOf ByValue = halving
+weightingOf Distance = drawing
 
 -- ---- the fraction
 -- whether a round goes by regula falsi: its number, from 0, is below 3·limit/4 rounded down, and the same-side count below 3

@@ -9,13 +9,14 @@ use Rattle.spline.specs.Segment.{hornerOf}
 use Rattle.invert.specs.declared.Ground.{Ground}
 use Rattle.invert.specs.declared.Bracket.{Bracket}
 use Rattle.invert.specs.declared.State.{State}
+use Rattle.invert.specs.declared.Weighing.{Weighing}
 use Rattle.invert.specs.declared.Turned.{Turned}
 use Rattle.invert.specs.declared.Turned.the-variants.{Done, Next}
 use Rattle.invert.specs.declared.Place.{Place}
 use Rattle.invert.specs.declared.Tried.{Tried}
 use Rattle.invert.specs.declared.Tried.the-variants.{Outside, Inside}
 use Rattle.invert.specs.Evaluations.{Evaluations}
-use Rattle.invert.specs.Round.{halving, Turn, found, on, turn}
+use Rattle.invert.specs.Round.{weightingOf, Turn, found, on, turn}
 use Rattle.invert.specs.Rounds.{rounds}
 use Rattle.invert.specs.Segment.{start, entered, Entry, outside, inside, enter}
 use Rattle.invert.specs.Answer.{placeOf, alone}
@@ -42,14 +43,14 @@ tried (outside v ev) = Outside v
 tried (inside p) = Inside (placeOf alone p)
 
 -- r is what the definition gives, whatever the n evaluations before it were
-abbrev pub TurnIs : Weights → Float → Float → Bool → Bool → State → ℕ → Turned → Type 0
-TurnIs w y ε rising regula st n r = (s : ℕ) (ev : Evaluations) → length ev ≡ n → r ≡ shown (turn halving (hornerOf w) s y ε rising regula st ev)
+abbrev pub TurnIs : Weighing → Weights → Float → Float → Bool → Bool → State → ℕ → Turned → Type 0
+TurnIs m w y ε rising regula st n r = (s : ℕ) (ev : Evaluations) → length ev ≡ n → r ≡ shown (turn (weightingOf m) (hornerOf w) s y ε rising regula st ev)
 
-abbrev pub RoundsIs : Weights → ℕ → Float → Float → Bool → Bracket → ℕ → ℕ → Place → Type 0
-RoundsIs w s y ε rising b limit n r = (ev : Evaluations) → length ev ≡ n → r ≡ placeOf alone (rounds halving (hornerOf w) s y ε rising limit limit 0 (on (start b) ev))
+abbrev pub RoundsIs : Weighing → Weights → ℕ → Float → Float → Bool → Bracket → ℕ → ℕ → Place → Type 0
+RoundsIs m w s y ε rising b limit n r = (ev : Evaluations) → length ev ≡ n → r ≡ placeOf alone (rounds (weightingOf m) (hornerOf w) s y ε rising limit limit 0 (on (start b) ev))
 
-abbrev pub EnteredIs : Weights → ℕ → Float → Float → ℕ → Float → Float → ℕ → Place → Type 0
-EnteredIs w s y ε limit v0 v1 n r = (ev : Evaluations) → length ev ≡ n → r ≡ placeOf alone (entered halving (hornerOf w) s y ε limit v0 v1 ev)
+abbrev pub EnteredIs : Weighing → Weights → ℕ → Float → Float → ℕ → Float → Float → ℕ → Place → Type 0
+EnteredIs m w s y ε limit v0 v1 n r = (ev : Evaluations) → length ev ≡ n → r ≡ placeOf alone (entered (weightingOf m) (hornerOf w) s y ε limit v0 v1 ev)
 
-abbrev pub EnterIs : Weights → ℕ → Float → Float → ℕ → ℕ → Tried → Type 0
-EnterIs w s y ε limit n r = (ev : Evaluations) → length ev ≡ n → r ≡ tried (enter halving (hornerOf w) s y ε limit ev)
+abbrev pub EnterIs : Weighing → Weights → ℕ → Float → Float → ℕ → ℕ → Tried → Type 0
+EnterIs m w s y ε limit n r = (ev : Evaluations) → length ev ≡ n → r ≡ tried (enter (weightingOf m) (hornerOf w) s y ε limit ev)

@@ -21,6 +21,13 @@ pub enum Ground {
     Spent,
 }
 
+// What is weighed where a side repeats: the value of the end that moved last is halved, as in the crate; or, as it is taught, the distance to the
+// target at the other end.
+pub enum Weighing {
+    Value,
+    Distance,
+}
+
 // Two local places and two weighed values.
 pub struct Bracket {
     pub lower: f64,
@@ -83,6 +90,7 @@ fn told_at(s: usize, ground: Ground, x: f64, b: Bracket, n: u32) -> Place
 
 // The rounds, from the bracket that is given; n evaluations have been made before them.
 fn rounds(
+    m: Weighing,
     w: Weights,
     s: usize,
     y: f64,
@@ -93,7 +101,7 @@ fn rounds(
     n: u32,
 ) -> Place
     requires { ⌜ n ≤ 1000000 ⌝ }
-    ensures { λ r. ⌜ RoundsIs w s y precision rising first limit n r ⌝ }
+    ensures { λ r. ⌜ RoundsIs m w s y precision rising first limit n r ⌝ }
 {
     let most = limit as u32;
     let early = 3 * most / 4;
@@ -106,7 +114,7 @@ fn rounds(
     let mut count = n;
     while i < most {
         let regula = round::is_falsi(i, early, st.repeats);
-        let t = round::turn(w, y, precision, rising, regula, st, count);
+        let t = round::turn(m, w, y, precision, rising, regula, st, count);
         match t {
             Turned::Next(next, k) => {
                 st = next;
@@ -146,6 +154,7 @@ fn is_near(y: f64, v: f64, precision: f64) -> bool
 
 // The place in segment s, whose end values v0 and v1 enclose y; n evaluations have been made, those of its ends among them.
 fn entered(
+    m: Weighing,
     w: Weights,
     s: usize,
     y: f64,
@@ -156,7 +165,7 @@ fn entered(
     n: u32,
 ) -> Place
     requires { ⌜ n ≤ 1000000 ⌝ }
-    ensures { λ r. ⌜ EnteredIs w s y precision limit v0 v1 n r ⌝ }
+    ensures { λ r. ⌜ EnteredIs m w s y precision limit v0 v1 n r ⌝ }
 {
     let whole = Bracket {
         lower: 0.0,
@@ -170,18 +179,26 @@ fn entered(
     if is_near(y, v1, precision) {
         return told_at(s, Ground::Edge, 1.0, whole, n);
     }
-    rounds(w, s, y, precision, v0 < v1, whole, limit, n)
+    rounds(m, w, s, y, precision, v0 < v1, whole, limit, n)
 }
 
 // Segment s is tried: both its ends are evaluated, once, and it is entered where they enclose y. `count` evaluations have been made before.
-pub fn enter(w: Weights, s: usize, y: f64, precision: f64, limit: u16, count: u32) -> Tried
+pub fn enter(
+    m: Weighing,
+    w: Weights,
+    s: usize,
+    y: f64,
+    precision: f64,
+    limit: u16,
+    count: u32,
+) -> Tried
     requires { ⌜ count < 900000 ⌝ }
-    ensures { λ r. ⌜ EnterIs w s y precision limit count r ⌝ }
+    ensures { λ r. ⌜ EnterIs m w s y precision limit count r ⌝ }
 {
     let v0 = spline::segment::horner(w, 0.0);
     let v1 = spline::segment::horner(w, 1.0);
     if encloses(v0, v1, y) {
-        return Tried::Inside(entered(w, s, y, precision, limit, v0, v1, count + 2));
+        return Tried::Inside(entered(m, w, s, y, precision, limit, v0, v1, count + 2));
     }
     Tried::Outside(v0)
 }
@@ -200,7 +217,7 @@ pub fn spline_inverse_segment_with(
     match v {
         Verdict::Failed(r) => Inverted::Refused(r),
         Verdict::Passed => {
-            let t = enter(spline::segment::weights(b, cv), 0, y, precision, limit, 0);
+            let t = enter(Weighing::Value, spline::segment::weights(b, cv), 0, y, precision, limit, 0);
             let Tried::Inside(p) = t else {
                 return Inverted::OffCurve(2);
             };

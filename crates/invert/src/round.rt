@@ -3,12 +3,13 @@ ghost use mathlib.Core.Path.{_≡_};
 ghost use Prim.Native.Nat.{_≤_, _<_, _+_};
 ghost use lib.Dec.{ltb};
 ghost use mathlib.Core.Bool.{_&&_};
-ghost use Rattle.invert.specs.Round.{narrow, halving, weighed, fraction, moved};
+ghost use Rattle.invert.specs.Round.{narrow, halving, drawing, weightingOf, weighed, fraction, moved};
 ghost use Rattle.invert.specs.Shown.{TurnIs, repeatsAfter, countAfter};
 use crate::Bracket;
 use crate::Ground;
 use crate::State;
 use crate::Turned;
+use crate::Weighing;
 use spline::Weights;
 
 pub fn is_narrow(precision: f64, b: Bracket) -> bool
@@ -44,13 +45,43 @@ pub fn halved(y: f64, lower: bool, b: Bracket) -> Bracket
     }
 }
 
-pub fn weighed(y: f64, regula: bool, st: State) -> Bracket
-    ensures { λ r. ⌜ r ≡ weighed halving y regula st ⌝ }
+// The distance to the target is halved at the end that did not move last.
+pub fn drawn(y: f64, lower: bool, b: Bracket) -> Bracket
+    ensures { λ r. ⌜ r ≡ drawing y lower b ⌝ }
+{
+    if lower {
+        Bracket {
+            lower: b.lower,
+            upper: b.upper,
+            v0: b.v0,
+            v1: y + (b.v1 - y) * 0.5,
+        }
+    } else {
+        Bracket {
+            lower: b.lower,
+            upper: b.upper,
+            v0: y + (b.v0 - y) * 0.5,
+            v1: b.v1,
+        }
+    }
+}
+
+fn reweighed(m: Weighing, y: f64, lower: bool, b: Bracket) -> Bracket
+    ensures { λ r. ⌜ r ≡ weightingOf m y lower b ⌝ }
+{
+    match m {
+        Weighing::Value => halved(y, lower, b),
+        Weighing::Distance => drawn(y, lower, b),
+    }
+}
+
+pub fn weighed(m: Weighing, y: f64, regula: bool, st: State) -> Bracket
+    ensures { λ r. ⌜ r ≡ weighed (weightingOf m) y regula st ⌝ }
 {
     let b = st.bracket;
     if regula {
         if 0 < st.repeats {
-            return halved(y, st.side == 1, b);
+            return reweighed(m, y, st.side == 1, b);
         }
         return b;
     }
@@ -127,6 +158,7 @@ pub fn is_falsi(i: u32, early: u32, repeats: u32) -> bool
 
 // n evaluations have been made before the round.
 pub fn turn(
+    m: Weighing,
     w: Weights,
     y: f64,
     precision: f64,
@@ -136,13 +168,13 @@ pub fn turn(
     n: u32,
 ) -> Turned
     requires { ⌜ (st .repeats < 65536) × (n < 2000000) ⌝ }
-    ensures { λ r. ⌜ (TurnIs w y precision rising regula st n r) × (repeatsAfter r ≤ st .repeats + 1) × (countAfter r ≤ n + 1) ⌝ }
+    ensures { λ r. ⌜ (TurnIs m w y precision rising regula st n r) × (repeatsAfter r ≤ st .repeats + 1) × (countAfter r ≤ n + 1) ⌝ }
 {
     let b = st.bracket;
     if is_narrow(precision, b) {
         return Turned::Done(Ground::Width, doubles::lerp(b.lower, b.upper, 0.5), b, n);
     }
-    let a = weighed(y, regula, st);
+    let a = weighed(m, y, regula, st);
     let x = doubles::lerp(a.lower, a.upper, fraction(y, regula, a));
     let v = spline::segment::horner(w, x);
     let next = moved((v < y) == rising, a, st, x, v);

@@ -4,12 +4,12 @@ use borrow.Author.Needs.{needs}
 use Rattle.invert.proofs.round.weighed.Statement.{statement}
 use Rattle.invert.proofs.round.weighed.Tie as tie
 
-halved-requires : tie.Need-halved-requires
-halved-requires c κs = search needs
+reweighed-requires : tie.Need-reweighed-requires
+reweighed-requires c κs = search needs
 
 returns : tie.Need-returns
 unfolding weighed
-returns c = simp (c .before .before .before .before .if1 .taken, lt-ltb _ _ (c .before .before .if2 .taken)) (c .halved .ensures)
+returns c = simp (c .before .before .before .before .if1 .taken, lt-ltb _ _ (c .before .before .if2 .taken)) (c .reweighed .ensures)
 
 returns-2 : tie.Need-returns-2
 unfolding weighed
@@ -20,4 +20,4 @@ unfolding weighed
 returns-3 c = simp (c .if1 .left)
 
 pub weighed-spec : {M : Type 1} → statement M
-weighed-spec = tie.close (tie.spec halved-requires returns returns-2 returns-3)
+weighed-spec = tie.close (tie.spec reweighed-requires returns returns-2 returns-3)
