@@ -18,7 +18,8 @@ use Rattle.basis.specs.Basis.{stepOf, matrixOf, segmentsOf}
 use Rattle.spline.specs.declared.Weights.{Weights}
 use Rattle.spline.specs.Segment.{weightsOf, hornerOf, segmentOf}
 use Rattle.invert.specs.Evaluations.{Evaluations}
-use Rattle.invert.specs.Round.{Weighting, halving}
+use Rattle.invert.specs.declared.Weighing.{Weighing}
+use Rattle.invert.specs.Round.{Weighting, weightingOf}
 use Rattle.search.specs.Trial.{trial}
 use Rattle.search.specs.Search.{find}
 use Rattle.inverse.specs.declared.Ends.{Ends}
@@ -56,25 +57,25 @@ module _ (W : Weighting) (e : Ends) (ev : Evaluations) (g : ℕ → Float → Fl
   located-searched t u h = h ∙ simp (t, u)
 
 -- ---- the mode's end rule: e is what it goes by, as the code has it
-module _ (b : Basis) (ks : List Float) (y ε : Float) (limit k : ℕ) (q : k ≡ segmentsOf b (length ks)) where
+module _ (w : Weighing) (b : Basis) (ks : List Float) (y ε : Float) (limit k : ℕ) (q : k ≡ segmentsOf b (length ks)) where
   abbrev Located : Inverted → Mode → Type 0
-  Located r m = r ≡ located halving (ruleOf m b ks (segmentOf b ks) .ends) (ruleOf m b ks (segmentOf b ks) .made) (segmentOf b ks) (segmentsOf b (length ks)) y ε limit
+  Located r m = r ≡ located (weightingOf w) (ruleOf m b ks (segmentOf b ks) .ends) (ruleOf m b ks (segmentOf b ks) .made) (segmentOf b ks) (segmentsOf b (length ks)) y ε limit
 
-  knots-located : {r : Inverted} (e : Ends) → e ≡ knotEnds b ks → LocatedIs e b y ks limit ε k 0 r → Located r Knots
-  knots-located e p i = i [] refl ∙ ap (λ (z : Ends). located halving z [] (segmentOf b ks) k y ε limit) p ∙ ap (λ (z : ℕ). located halving (knotEnds b ks) [] (segmentOf b ks) z y ε limit) q
+  knots-located : {r : Inverted} (e : Ends) → e ≡ knotEnds b ks → LocatedIs w e b y ks limit ε k 0 r → Located r Knots
+  knots-located e p i = i [] refl ∙ ap (λ (z : Ends). located (weightingOf w) z [] (segmentOf b ks) k y ε limit) p ∙ ap (λ (z : ℕ). located (weightingOf w) (knotEnds b ks) [] (segmentOf b ks) z y ε limit) q
 
-  curve-located : {r : Inverted} (e : Ends) → e ≡ curveRule (segmentOf b ks) k .ends → LocatedIs e b y ks limit ε k 2 r → Located r Curve
+  curve-located : {r : Inverted} (e : Ends) → e ≡ curveRule (segmentOf b ks) k .ends → LocatedIs w e b y ks limit ε k 2 r → Located r Curve
   curve-located e p i =
       let m = curveRule (segmentOf b ks) k .made in
-      i m refl ∙ ap (λ (z : Ends). located halving z m (segmentOf b ks) k y ε limit) p ∙ ap (λ (z : ℕ). located halving (curveRule (segmentOf b ks) z .ends) (curveRule (segmentOf b ks) z .made) (segmentOf b ks) z y ε limit) q
+      i m refl ∙ ap (λ (z : Ends). located (weightingOf w) z m (segmentOf b ks) k y ε limit) p ∙ ap (λ (z : ℕ). located (weightingOf w) (curveRule (segmentOf b ks) z .ends) (curveRule (segmentOf b ks) z .made) (segmentOf b ks) z y ε limit) q
 
   -- m is the mode, as the code's match tells it
-  pub by-knots : {r : Inverted} {m : Mode} → m ≡ Knots → (e : Ends) → e ≡ knotEnds b ks → LocatedIs e b y ks limit ε k 0 r
-      → r ≡ located halving (ruleOf m b ks (segmentOf b ks) .ends) (ruleOf m b ks (segmentOf b ks) .made) (segmentOf b ks) (segmentsOf b (length ks)) y ε limit
+  pub by-knots : {r : Inverted} {m : Mode} → m ≡ Knots → (e : Ends) → e ≡ knotEnds b ks → LocatedIs w e b y ks limit ε k 0 r
+      → r ≡ located (weightingOf w) (ruleOf m b ks (segmentOf b ks) .ends) (ruleOf m b ks (segmentOf b ks) .made) (segmentOf b ks) (segmentsOf b (length ks)) y ε limit
   by-knots {r} t e p i = subst (Located r) (sym t) (knots-located e p i)
 
-  pub by-curve : {r : Inverted} {m : Mode} → m ≡ Curve → (e : Ends) → e ≡ curveRule (segmentOf b ks) k .ends → LocatedIs e b y ks limit ε k 2 r
-      → r ≡ located halving (ruleOf m b ks (segmentOf b ks) .ends) (ruleOf m b ks (segmentOf b ks) .made) (segmentOf b ks) (segmentsOf b (length ks)) y ε limit
+  pub by-curve : {r : Inverted} {m : Mode} → m ≡ Curve → (e : Ends) → e ≡ curveRule (segmentOf b ks) k .ends → LocatedIs w e b y ks limit ε k 2 r
+      → r ≡ located (weightingOf w) (ruleOf m b ks (segmentOf b ks) .ends) (ruleOf m b ks (segmentOf b ks) .made) (segmentOf b ks) (segmentsOf b (length ks)) y ε limit
   by-curve {r} t e p i = subst (Located r) (sym t) (curve-located e p i)
 
 -- ---- the curve's own ends, from the row sums of its first and last segment

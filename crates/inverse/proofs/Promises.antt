@@ -21,8 +21,9 @@ use Rattle.invert.specs.declared.Inverted.{Inverted}
 use Rattle.invert.specs.declared.Inverted.the-variants.{Refused, OffCurve, At}
 use Rattle.invert.specs.Agreed.{Agreed}
 use Rattle.invert.specs.Answer.{inverted, countTold}
-use Rattle.invert.specs.Round.{halving}
-use Rattle.invert.proofs.Weighting.{halving-keeps}
+use Rattle.invert.specs.declared.Weighing.{Weighing}
+use Rattle.invert.specs.Round.{weightingOf}
+use Rattle.invert.proofs.Weighting.{weighing-keeps}
 use Rattle.invert.proofs.Enclosing.{Numbers}
 use Rattle.search.specs.Bound.{bitsOf, boundOf}
 use Rattle.search.proofs.Found.{Holds}
@@ -55,7 +56,7 @@ with-pass P Q R (At p) e h = tt
 with-pass P Q R (OffCurve n) e h = (e, h .0, h .1)
 with-pass P Q R (Refused r) e h = tt
 
-module _ (m : Mode) (b : Basis) (y : Float) (ks : List Float) (check : Bool) (limit : ℕ) (ε : Float) where
+module _ (m : Mode) (w : Weighing) (b : Basis) (y : Float) (ks : List Float) (check : Bool) (limit : ℕ) (ε : Float) where
   abbrev pub k : ℕ
   k = segmentsOf b (length ks)
 
@@ -65,7 +66,7 @@ module _ (m : Mode) (b : Basis) (y : Float) (ks : List Float) (check : Bool) (li
 
   -- the answer past the refusals
   abbrev pub here : Inverted
-  here = located halving (rule .ends) (rule .made) (segmentOf b ks) (segmentsOf b (length ks)) y ε limit
+  here = located (weightingOf w) (rule .ends) (rule .made) (segmentOf b ks) (segmentsOf b (length ks)) y ε limit
 
   -- no row of the refusal table applies
   abbrev pub Pass : Type 0
@@ -83,7 +84,7 @@ module _ (m : Mode) (b : Basis) (y : Float) (ks : List Float) (check : Bool) (li
   abbrev pub Premise : Type 0
   Premise = Supposed (rule .ends) (rule .made) (segmentOf b ks) k y ε limit
 
-  by-verdict : (P : Inverted → Type 0) → ((r : Refusal) → P (Refused r)) → (Admitted b y ks check → P here) → P (inverseBy m b y ks check limit ε)
+  by-verdict : (P : Inverted → Type 0) → ((r : Refusal) → P (Refused r)) → (Admitted b y ks check → P here) → P (inverseBy m w b y ks check limit ε)
   unfolding inverseBy
   by-verdict P f h = go (first (inverseUses b y ks check limit ε)) refl
     where
@@ -102,30 +103,30 @@ module _ (m : Mode) (b : Basis) (y : Float) (ks : List Float) (check : Bool) (li
 
   -- ---- the list of evaluations
   -- the count is its length
-  pub inverse-count : countTold (inverseBy m b y ks check limit ε) ≡ length (evaluationsBy m b y ks check limit ε)
+  pub inverse-count : countTold (inverseBy m w b y ks check limit ε) ≡ length (evaluationsBy m w b y ks check limit ε)
   unfolding inverseBy evaluationsBy
   inverse-count = go (first (inverseUses b y ks check limit ε))
     where
-      go : (v : Verdict) → countTold (inverted v here) ≡ length (unlessRefused v (evaluations halving (rule .ends) (rule .made) (segmentOf b ks) k y ε limit))
-      go Passed = count-is-length halving (rule .ends) (rule .made) (segmentOf b ks) k y ε limit
+      go : (v : Verdict) → countTold (inverted v here) ≡ length (unlessRefused v (evaluations (weightingOf w) (rule .ends) (rule .made) (segmentOf b ks) k y ε limit))
+      go Passed = count-is-length (weightingOf w) (rule .ends) (rule .made) (segmentOf b ks) k y ε limit
       go (Failed r) = refl
 
   -- it misses none: a curve h that agrees with this one at every listed place gets the same answer
-  pub inverse-unlisted : (h : ℕ → Float → Float) → Agreed (segmentOf b ks) h (evaluationsBy m b y ks check limit ε)
-      → inverseBy m b y ks check limit ε ≡ inverted (first (inverseUses b y ks check limit ε)) (located halving (ruleOf m b ks h .ends) (ruleOf m b ks h .made) h k y ε limit)
+  pub inverse-unlisted : (h : ℕ → Float → Float) → Agreed (segmentOf b ks) h (evaluationsBy m w b y ks check limit ε)
+      → inverseBy m w b y ks check limit ε ≡ inverted (first (inverseUses b y ks check limit ε)) (located (weightingOf w) (ruleOf m b ks h .ends) (ruleOf m b ks h .made) h k y ε limit)
   unfolding inverseBy evaluationsBy
   inverse-unlisted h = go (first (inverseUses b y ks check limit ε))
     where
-      go : (v : Verdict) → Agreed (segmentOf b ks) h (unlessRefused v (evaluations halving (rule .ends) (rule .made) (segmentOf b ks) k y ε limit))
-          → inverted v here ≡ inverted v (located halving (ruleOf m b ks h .ends) (ruleOf m b ks h .made) h k y ε limit)
+      go : (v : Verdict) → Agreed (segmentOf b ks) h (unlessRefused v (evaluations (weightingOf w) (rule .ends) (rule .made) (segmentOf b ks) k y ε limit))
+          → inverted v here ≡ inverted v (located (weightingOf w) (ruleOf m b ks h .ends) (ruleOf m b ks h .made) h k y ε limit)
       go Passed a =
-          none-unlisted halving (rule .ends) (rule .made) (segmentOf b ks) k y ε limit h a
-          ∙ ap (λ (r : Rule). located halving (r .ends) (r .made) h k y ε limit) (rule-same m b ks (segmentOf b ks) h (rule-listed halving (rule .ends) (rule .made) (segmentOf b ks) k y ε limit h a))
+          none-unlisted (weightingOf w) (rule .ends) (rule .made) (segmentOf b ks) k y ε limit h a
+          ∙ ap (λ (r : Rule). located (weightingOf w) (r .ends) (r .made) h k y ε limit) (rule-same m b ks (segmentOf b ks) h (rule-listed (weightingOf w) (rule .ends) (rule .made) (segmentOf b ks) k y ε limit h a))
       go (Failed r) a = refl
 
   -- a place and refusal 11 carry at most so many
-  pub inverse-bounded : countTold (inverseBy m b y ks check limit ε) ≤ own m + boundOf k limit
-  inverse-bounded = by-verdict (λ r. countTold r ≤ own m + boundOf k limit) (λ r. omega arith) (λ a. le-trans (count-bounded halving halving-keeps (rule .ends) (rule .made) (segmentOf b ks) k y ε limit some (fits a) (numbers a)) (omega (arith, rule-made m b ks (segmentOf b ks))))
+  pub inverse-bounded : countTold (inverseBy m w b y ks check limit ε) ≤ own m + boundOf k limit
+  inverse-bounded = by-verdict (λ r. countTold r ≤ own m + boundOf k limit) (λ r. omega arith) (λ a. le-trans (count-bounded (weightingOf w) (weighing-keeps w) (rule .ends) (rule .made) (segmentOf b ks) k y ε limit some (fits a) (numbers a)) (omega (arith, rule-made m b ks (segmentOf b ks))))
 
   pub few-bound : k ≤ 12 → boundOf k limit ≡ limit + 24
   few-bound h = rw (le-leb k 12 h)
@@ -134,47 +135,47 @@ module _ (m : Mode) (b : Basis) (y : Float) (ks : List Float) (check : Bool) (li
   many-bound h = rw (lt-leb k 12 h)
 
   -- ---- parameter, local place and both bracket ends lie in 0 to 1, lower not above upper
-  pub inverse-proper : AtPlace Proper (inverseBy m b y ks check limit ε)
-  inverse-proper = by-verdict (AtPlace Proper) (λ r. tt) (λ a. place-proper halving halving-keeps (rule .ends) (rule .made) (segmentOf b ks) k y ε limit some (fits a) (numbers a))
+  pub inverse-proper : AtPlace Proper (inverseBy m w b y ks check limit ε)
+  inverse-proper = by-verdict (AtPlace Proper) (λ r. tt) (λ a. place-proper (weightingOf w) (weighing-keeps w) (rule .ends) (rule .made) (segmentOf b ks) k y ε limit some (fits a) (numbers a))
 
   -- ---- where a segment was entered, its values at the two bracket ends enclose the target, and so do those at its own ends
-  pub inverse-enclosed : AtPlace (λ p. Enclosed (rule .ends) (rule .made) (segmentOf b ks) k y ε limit (p .ground) p) (inverseBy m b y ks check limit ε)
+  pub inverse-enclosed : AtPlace (λ p. Enclosed (rule .ends) (rule .made) (segmentOf b ks) k y ε limit (p .ground) p) (inverseBy m w b y ks check limit ε)
   inverse-enclosed =
-      by-verdict (AtPlace (λ p. Enclosed (rule .ends) (rule .made) (segmentOf b ks) k y ε limit (p .ground) p)) (λ r. tt) (λ a. place-enclosed halving halving-keeps (rule .ends) (rule .made) (segmentOf b ks) k y ε limit some (fits a) (numbers a))
+      by-verdict (AtPlace (λ p. Enclosed (rule .ends) (rule .made) (segmentOf b ks) k y ε limit (p .ground) p)) (λ r. tt) (λ a. place-enclosed (weightingOf w) (weighing-keeps w) (rule .ends) (rule .made) (segmentOf b ks) k y ε limit some (fits a) (numbers a))
 
   -- ---- what the ground says
-  pub inverse-ground : AtPlace (λ p. GroundSays (rule .ends) (rule .made) (segmentOf b ks) k y ε limit (p .ground) p) (inverseBy m b y ks check limit ε)
+  pub inverse-ground : AtPlace (λ p. GroundSays (rule .ends) (rule .made) (segmentOf b ks) k y ε limit (p .ground) p) (inverseBy m w b y ks check limit ε)
   inverse-ground =
-      by-verdict (AtPlace (λ p. GroundSays (rule .ends) (rule .made) (segmentOf b ks) k y ε limit (p .ground) p)) (λ r. tt) (λ a. ground-says halving halving-keeps (rule .ends) (rule .made) (segmentOf b ks) k y ε limit some (fits a) (numbers a))
+      by-verdict (AtPlace (λ p. GroundSays (rule .ends) (rule .made) (segmentOf b ks) k y ε limit (p .ground) p)) (λ r. tt) (λ a. ground-says (weightingOf w) (weighing-keeps w) (rule .ends) (rule .made) (segmentOf b ks) k y ε limit some (fits a) (numbers a))
 
   -- ---- where some segment's ends enclose the target, and the end rule is silent, a segment is entered and not refused
   pub inverse-entered : Pass → Quiet → Premise
-      → (s : ℕ) → s < k → T (Holds (segmentOf b ks) y k s) → (p : Place) × (inverseBy m b y ks check limit ε ≡ At p)
+      → (s : ℕ) → s < k → T (Holds (segmentOf b ks) y k s) → (p : Place) × (inverseBy m w b y ks check limit ε ≡ At p)
   unfolding inverseBy
   inverse-entered v q S s l H =
       let a = admitted b y ks check limit ε v in
-      rw v (place-where halving halving-keeps (rule .ends) (rule .made) (segmentOf b ks) k y ε limit some (fits a) (numbers a) q S s l H)
+      rw v (place-where (weightingOf w) (weighing-keeps w) (rule .ends) (rule .made) (segmentOf b ks) k y ε limit some (fits a) (numbers a) q S s l H)
 
   -- ---- refusal 11 only where no row applies, the end rule is silent and no segment's ends enclose the target
-  pub inverse-off-only : IfOff (Pass × Quiet × (Premise → Nowhere)) (inverseBy m b y ks check limit ε)
+  pub inverse-off-only : IfOff (Pass × Quiet × (Premise → Nowhere)) (inverseBy m w b y ks check limit ε)
   unfolding inverseBy
   inverse-off-only = go (first (inverseUses b y ks check limit ε)) refl
     where
       go : (v : Verdict) → first (inverseUses b y ks check limit ε) ≡ v → IfOff (Pass × Quiet × (Premise → Nowhere)) (inverted v here)
-      go Passed e = let a = admitted b y ks check limit ε e in with-pass Pass Quiet (Premise → Nowhere) here e (off-only halving halving-keeps (rule .ends) (rule .made) (segmentOf b ks) k y ε limit some (fits a) (numbers a))
+      go Passed e = let a = admitted b y ks check limit ε e in with-pass Pass Quiet (Premise → Nowhere) here e (off-only (weightingOf w) (weighing-keeps w) (rule .ends) (rule .made) (segmentOf b ks) k y ε limit some (fits a) (numbers a))
       go (Failed r) e = tt
 
   -- and everywhere there
   pub inverse-off-where : Pass → Quiet → Nowhere
-      → (n : ℕ) × (inverseBy m b y ks check limit ε ≡ OffCurve n)
+      → (n : ℕ) × (inverseBy m w b y ks check limit ε ≡ OffCurve n)
   unfolding inverseBy
   inverse-off-where v q N =
       let a = admitted b y ks check limit ε v in
-      rw v (off-where halving halving-keeps (rule .ends) (rule .made) (segmentOf b ks) k y ε limit some (fits a) (numbers a) q N)
+      rw v (off-where (weightingOf w) (weighing-keeps w) (rule .ends) (rule .made) (segmentOf b ks) k y ε limit some (fits a) (numbers a) q N)
 
   -- ---- all of these of a reply r, as the call's contract gives it
   pub record Promised (r : Inverted) : Type 0 where
-    pub count : countTold r ≡ length (evaluationsBy m b y ks check limit ε)
+    pub count : countTold r ≡ length (evaluationsBy m w b y ks check limit ε)
     pub few : k ≤ 12 → countTold r ≤ own m + (limit + 24)
     pub many : 12 < k → countTold r ≤ own m + (limit + 2 * bitsOf k + 4)
     pub proper : AtPlace Proper r
@@ -183,7 +184,7 @@ module _ (m : Mode) (b : Basis) (y : Float) (ks : List Float) (check : Bool) (li
     pub off-only : IfOff (Pass × Quiet × (Premise → Nowhere)) r
     pub off-where : Pass → Quiet → Nowhere → (n : ℕ) × (r ≡ OffCurve n)
 
-  pub reply-promised : (r : Inverted) → r ≡ inverseBy m b y ks check limit ε → Promised r
+  pub reply-promised : (r : Inverted) → r ≡ inverseBy m w b y ks check limit ε → Promised r
   reply-promised r e =
       subst Promised (sym e)
       (record {

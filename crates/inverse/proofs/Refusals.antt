@@ -19,7 +19,8 @@ use Rattle.doubles.proofs.Tests.{branch}
 use Rattle.spline.specs.Segment.{segmentOf}
 use Rattle.invert.specs.declared.Inverted.the-variants.{Refused}
 use Rattle.invert.proofs.Verdicts.{Past, answered-past, refused-by}
-use Rattle.invert.specs.Round.{halving}
+use Rattle.invert.specs.declared.Weighing.{Weighing}
+use Rattle.invert.specs.Round.{weightingOf}
 use Rattle.search.specs.Trial.{trial}
 use Rattle.search.specs.Search.{find}
 use Rattle.inverse.specs.Order.{turnsBack, turningKnot}
@@ -33,30 +34,30 @@ use Rattle.inverse.proofs.TurnsBack.{AgainstAt, turning-first, turns-ba
 abbrev pub earlier : List ℕ
 earlier = 1 ∷ 2 ∷ 3 ∷ 5 ∷ 6 ∷ 7 ∷ 8 ∷ 9 ∷ 4 ∷ []
 
-module _ (m : Mode) (b : Basis) (y : Float) (ks : List Float) (check : Bool) (limit : ℕ) (ε : Float) where
+module _ (m : Mode) (w : Weighing) (b : Basis) (y : Float) (ks : List Float) (check : Bool) (limit : ℕ) (ε : Float) where
   abbrev uses : Uses
   uses = inverseUses b y ks check limit ε
 
-  located-past : Past (located halving (ruleOf m b ks (segmentOf b ks) .ends) (ruleOf m b ks (segmentOf b ks) .made) (segmentOf b ks) (segmentsOf b (length ks)) y ε limit)
+  located-past : Past (located (weightingOf w) (ruleOf m b ks (segmentOf b ks) .ends) (ruleOf m b ks (segmentOf b ks) .made) (segmentOf b ks) (segmentsOf b (length ks)) y ε limit)
   unfolding located
   located-past =
       branch Past (atLow (ruleOf m b ks (segmentOf b ks) .ends) y) (λ _. tt)
-      (λ _. branch Past (atHigh (ruleOf m b ks (segmentOf b ks) .ends) y) (λ _. tt) (λ _. answered-past (parameterOf (segmentsOf b (length ks))) (find (trial halving (segmentOf b ks) y ε limit) y (ruleOf m b ks (segmentOf b ks) .ends .rising) (segmentsOf b (length ks)) (ruleOf m b ks (segmentOf b ks) .made))))
+      (λ _. branch Past (atHigh (ruleOf m b ks (segmentOf b ks) .ends) y) (λ _. tt) (λ _. answered-past (parameterOf (segmentsOf b (length ks))) (find (trial (weightingOf w) (segmentOf b ks) y ε limit) y (ruleOf m b ks (segmentOf b ks) .ends .rising) (segmentsOf b (length ks)) (ruleOf m b ks (segmentOf b ks) .made))))
 
   -- ---- by a row
   -- only where that row applies and none before it
-  pub inverse-refused-only : (r : Refusal) → inverseBy m b y ks check limit ε ≡ Refused r → First (inverseUses b y ks check limit ε) rows r
+  pub inverse-refused-only : (r : Refusal) → inverseBy m w b y ks check limit ε ≡ Refused r → First (inverseUses b y ks check limit ε) rows r
   unfolding inverseBy
-  inverse-refused-only r e = first-sound rows uses r (refused-by (first uses) (located halving (ruleOf m b ks (segmentOf b ks) .ends) (ruleOf m b ks (segmentOf b ks) .made) (segmentOf b ks) (segmentsOf b (length ks)) y ε limit) r located-past e)
+  inverse-refused-only r e = first-sound rows uses r (refused-by (first uses) (located (weightingOf w) (ruleOf m b ks (segmentOf b ks) .ends) (ruleOf m b ks (segmentOf b ks) .made) (segmentOf b ks) (segmentsOf b (length ks)) y ε limit) r located-past e)
 
   -- and everywhere there
-  pub inverse-refused-where : (r : Refusal) → First (inverseUses b y ks check limit ε) rows r → inverseBy m b y ks check limit ε ≡ Refused r
+  pub inverse-refused-where : (r : Refusal) → First (inverseUses b y ks check limit ε) rows r → inverseBy m w b y ks check limit ε ≡ Refused r
   unfolding inverseBy
   inverse-refused-where r f = rw (first-complete rows uses r f)
 
   -- ---- refusal 10
   -- only where the order check is wanted, and with the first knot whose step to the next goes against the direction
-  pub inverse-turns-back : (i : ℕ) → inverseBy m b y ks check limit ε ≡ Refused (TurnsBack i) → T check × AgainstAt ks i × ((j : ℕ) → AgainstAt ks j → i ≤ j)
+  pub inverse-turns-back : (i : ℕ) → inverseBy m w b y ks check limit ε ≡ Refused (TurnsBack i) → T check × AgainstAt ks i × ((j : ℕ) → AgainstAt ks j → i ≤ j)
   inverse-turns-back i e =
       let p = first-applies uses rows (TurnsBack i) (inverse-refused-only (TurnsBack i) e) in
       let a : (check && turnsBack ks) ≡ true = p .0 in
@@ -67,7 +68,7 @@ module _ (m : Mode) (b : Basis) (y : Float) (ks : List Float) (check : Bool) (li
       (and-l check (turnsBack ks) t, subst (AgainstAt ks) q (f .0), subst (λ (i : ℕ). (j : ℕ) → AgainstAt ks j → i ≤ j) q (f .1))
 
   -- and everywhere there where no earlier row applies
-  pub inverse-turns-back-where : None earlier (inverseUses b y ks check limit ε) → T check → (i : ℕ) → AgainstAt ks i → inverseBy m b y ks check limit ε ≡ Refused (TurnsBack (turningKnot ks))
+  pub inverse-turns-back-where : None earlier (inverseUses b y ks check limit ε) → T check → (i : ℕ) → AgainstAt ks i → inverseBy m w b y ks check limit ε ≡ Refused (TurnsBack (turningKnot ks))
   unfolding inverseBy
   inverse-turns-back-where n c i a =
       let later : List ℕ = 11 ∷ 12 ∷ [] in

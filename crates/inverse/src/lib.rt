@@ -8,7 +8,7 @@ ghost use Rattle.basis.specs.Basis.{segmentsOf};
 ghost use Rattle.spline.specs.Segment.{segmentOf};
 ghost use Rattle.spline.specs.Rows.{allInRange};
 ghost use Rattle.invert.specs.Answer.{defaultLimit, defaultPrecision};
-ghost use Rattle.invert.specs.Round.{halving};
+ghost use Rattle.invert.specs.Round.{weightingOf};
 ghost use Rattle.inverse.specs.EndRule.{atLow, atHigh, knotEnds, curveRule, ruleOf};
 ghost use Rattle.inverse.specs.Curve.{parameterOf, located};
 ghost use Rattle.inverse.specs.Inverse.{inverseBy, inverseOf};
@@ -18,6 +18,7 @@ use error::Verdict;
 use invert::Ground;
 use invert::Inverted;
 use invert::Place;
+use invert::Weighing;
 
 pub mod order;
 
@@ -104,6 +105,7 @@ fn parameter(k: usize, s: usize, x: f64) -> f64
 
 // The search's answer, with the parameter of its place on the whole curve; n evaluations have been made before.
 fn searched(
+    w: Weighing,
     b: Basis,
     y: f64,
     knots: &[f64],
@@ -114,9 +116,9 @@ fn searched(
     n: u32,
 ) -> Inverted
     requires { ⌜ (k ≡ segmentsOf b (length (now knots))) × (4 ≤ length (now knots)) × (length (now knots) ≤ 4096) × (isNan y ≡ false) × (allInRange (now knots) ≡ true) × (n ≤ 1000) ⌝ }
-    ensures { λ r. ⌜ SearchedIs b y (now (knots .entry)) limit precision rising k n r ⌝ }
+    ensures { λ r. ⌜ SearchedIs w b y (now (knots .entry)) limit precision rising k n r ⌝ }
 {
-    let a = search::find(b, knots, y, precision, limit, rising, k, n);
+    let a = search::find(w, b, knots, y, precision, limit, rising, k, n);
     let Inverted::At(p) = a else {
         return a;
     };
@@ -135,6 +137,7 @@ fn searched(
 
 // The end rule, then the search; n evaluations have been made for the rule.
 fn located(
+    w: Weighing,
     e: Ends,
     n: u32,
     b: Basis,
@@ -145,7 +148,7 @@ fn located(
     k: usize,
 ) -> Inverted
     requires { ⌜ (k ≡ segmentsOf b (length (now knots))) × (4 ≤ length (now knots)) × (length (now knots) ≤ 4096) × (isNan y ≡ false) × (allInRange (now knots) ≡ true) × (n ≤ 1000) ⌝ }
-    ensures { λ r. ⌜ LocatedIs e b y (now (knots .entry)) limit precision k n r ⌝ }
+    ensures { λ r. ⌜ LocatedIs w e b y (now (knots .entry)) limit precision k n r ⌝ }
 {
     if is_at_low(e, y) {
         return end_place(0, 0.0, n);
@@ -153,24 +156,33 @@ fn located(
     if is_at_high(e, y) {
         return end_place(k - 1, 1.0, n);
     }
-    searched(b, y, knots, limit, precision, e.rising, k, n)
+    searched(w, b, y, knots, limit, precision, e.rising, k, n)
 }
 
 // Past the refusals, by the mode's end rule.
-fn locate(m: Mode, b: Basis, y: f64, knots: &[f64], limit: u16, precision: f64) -> Inverted
+fn locate(
+    m: Mode,
+    w: Weighing,
+    b: Basis,
+    y: f64,
+    knots: &[f64],
+    limit: u16,
+    precision: f64,
+) -> Inverted
     requires { ⌜ (4 ≤ length (now knots)) × (length (now knots) ≤ 4096) × (isNan y ≡ false) × (allInRange (now knots) ≡ true) ⌝ }
-    ensures { λ r. ⌜ r ≡ located halving (ruleOf m b (now (knots .entry)) (segmentOf b (now (knots .entry))) .ends) (ruleOf m b (now (knots .entry)) (segmentOf b (now (knots .entry))) .made) (segmentOf b (now (knots .entry))) (segmentsOf b (length (now (knots .entry)))) y precision limit ⌝ }
+    ensures { λ r. ⌜ r ≡ located (weightingOf w) (ruleOf m b (now (knots .entry)) (segmentOf b (now (knots .entry))) .ends) (ruleOf m b (now (knots .entry)) (segmentOf b (now (knots .entry))) .made) (segmentOf b (now (knots .entry))) (segmentsOf b (length (now (knots .entry)))) y precision limit ⌝ }
 {
     let k = basis::segments(b, knots.len());
     match m {
-        Mode::Knots => located(knot_ends(b, knots), 0, b, y, knots, limit, precision, k),
-        Mode::Curve => located(curve_ends(b, knots, k), 2, b, y, knots, limit, precision, k),
+        Mode::Knots => located(w, knot_ends(b, knots), 0, b, y, knots, limit, precision, k),
+        Mode::Curve => located(w, curve_ends(b, knots, k), 2, b, y, knots, limit, precision, k),
     }
 }
 
 // The place of y on the curve, with the end rule of the mode; with `check`, knots that turn back are refused.
 pub fn spline_inverse_by(
     m: Mode,
+    w: Weighing,
     b: Basis,
     y: f64,
     knots: &[f64],
@@ -178,12 +190,12 @@ pub fn spline_inverse_by(
     limit: u16,
     precision: f64,
 ) -> Inverted
-    ensures { λ r. ⌜ r ≡ inverseBy m b y (now (knots .entry)) check limit precision ⌝ }
+    ensures { λ r. ⌜ r ≡ inverseBy m w b y (now (knots .entry)) check limit precision ⌝ }
 {
     let v = order::verdict(b, y, knots, check, limit, precision);
     match v {
         Verdict::Failed(r) => Inverted::Refused(r),
-        Verdict::Passed => locate(m, b, y, knots, limit, precision),
+        Verdict::Passed => locate(m, w, b, y, knots, limit, precision),
     }
 }
 
@@ -198,7 +210,7 @@ pub fn spline_inverse_with(
 ) -> Inverted
     ensures { λ r. ⌜ r ≡ inverseOf b y (now (knots .entry)) check limit precision ⌝ }
 {
-    spline_inverse_by(Mode::Knots, b, y, knots, check, limit, precision)
+    spline_inverse_by(Mode::Knots, Weighing::Value, b, y, knots, check, limit, precision)
 }
 
 // The same with limit 32 and precision 1e-10.

@@ -10,6 +10,7 @@ ghost use Rattle.search.specs.Shown.{TriesIs, LastIs, HalveIs, FindIs};
 use basis::Basis;
 use invert::Inverted;
 use invert::Tried;
+use invert::Weighing;
 use spline::Weights;
 
 // The binary digits of k up to the highest one.
@@ -41,6 +42,7 @@ pub fn weights_at(b: Basis, knots: &[f64], s: usize) -> Weights
 
 // The segments from `first` up to below `end` are tried in order.
 pub fn tries(
+    m: Weighing,
     b: Basis,
     knots: &[f64],
     y: f64,
@@ -51,12 +53,12 @@ pub fn tries(
     count: u32,
 ) -> Inverted
     requires { ⌜ (end * stepOf b + 4 ≤ length (now knots) + stepOf b) × (length (now knots) ≤ 4096) × (end ≤ 4096) × (first ≤ end) × (count ≤ 100000) ⌝ }
-    ensures { λ r. ⌜ TriesIs b (now (knots .entry)) y precision limit (end - first) first count r ⌝ }
+    ensures { λ r. ⌜ TriesIs m b (now (knots .entry)) y precision limit (end - first) first count r ⌝ }
 {
     let mut s = first;
     let mut made = count;
     while s < end {
-        let t = invert::enter(weights_at(b, knots, s), s, y, precision, limit, made);
+        let t = invert::enter(m, weights_at(b, knots, s), s, y, precision, limit, made);
         match t {
             Tried::Inside(p) => {
                 return Inverted::At(p);
@@ -78,6 +80,7 @@ fn one_less(n: usize) -> usize
 
 // Nothing is open any more, at `left` of k segments: those beside it are tried once more.
 pub fn last_tries(
+    m: Weighing,
     b: Basis,
     knots: &[f64],
     y: f64,
@@ -88,11 +91,11 @@ pub fn last_tries(
     count: u32,
 ) -> Inverted
     requires { ⌜ (k * stepOf b + 4 ≤ length (now knots) + stepOf b) × (length (now knots) ≤ 4096) × (0 < k) × (k ≤ 4096) × (left ≤ k) × (count ≤ 100000) ⌝ }
-    ensures { λ r. ⌜ LastIs b (now (knots .entry)) y precision limit k left count r ⌝ }
+    ensures { λ r. ⌜ LastIs m b (now (knots .entry)) y precision limit k left count r ⌝ }
 {
     let first = one_less(left);
     let end = doubles::whole::lesser(first + 2, k);
-    tries(b, knots, y, precision, limit, first, end, count)
+    tries(m, b, knots, y, precision, limit, first, end, count)
 }
 
 pub fn lies_before(rising: bool, y: f64, v: f64) -> bool
@@ -103,6 +106,7 @@ pub fn lies_before(rising: bool, y: f64, v: f64) -> bool
 
 // The `wide` segments from `left` on are open: the middle one is tried, then the part before it or the part after it.
 pub fn halve(
+    m: Weighing,
     b: Basis,
     knots: &[f64],
     y: f64,
@@ -115,21 +119,21 @@ pub fn halve(
     count: u32,
 ) -> Inverted
     requires { ⌜ (k * stepOf b + 4 ≤ length (now knots) + stepOf b) × (length (now knots) ≤ 4096) × (0 < k) × (k ≤ 4096) × (left + wide ≤ k) × (count + 2 * wide ≤ 100000) ⌝ }
-    ensures { λ r. ⌜ HalveIs b (now (knots .entry)) y precision limit rising k left wide count r ⌝ }
+    ensures { λ r. ⌜ HalveIs m b (now (knots .entry)) y precision limit rising k left wide count r ⌝ }
 {
     if wide == 0 {
-        return last_tries(b, knots, y, precision, limit, k, left, count);
+        return last_tries(m, b, knots, y, precision, limit, k, left, count);
     }
     let half = (wide - 1) / 2;
     let mid = left + half;
-    let t = invert::enter(weights_at(b, knots, mid), mid, y, precision, limit, count);
+    let t = invert::enter(m, weights_at(b, knots, mid), mid, y, precision, limit, count);
     match t {
         Tried::Inside(p) => Inverted::At(p),
         Tried::Outside(start) => {
             if lies_before(rising, y, start) {
-                halve(b, knots, y, precision, limit, rising, k, left, half, count + 2)
+                halve(m, b, knots, y, precision, limit, rising, k, left, half, count + 2)
             } else {
-                halve(b, knots, y, precision, limit, rising, k, mid + 1, wide - 1 - half, count + 2)
+                halve(m, b, knots, y, precision, limit, rising, k, mid + 1, wide - 1 - half, count + 2)
             }
         }
     }
@@ -137,6 +141,7 @@ pub fn halve(
 
 // Up to 12 segments in order, above by halving; `count` evaluations have been made before.
 pub fn find(
+    m: Weighing,
     b: Basis,
     knots: &[f64],
     y: f64,
@@ -147,11 +152,11 @@ pub fn find(
     count: u32,
 ) -> Inverted
     requires { ⌜ (k * stepOf b + 4 ≤ length (now knots) + stepOf b) × (length (now knots) ≤ 4096) × (0 < k) × (k ≤ 4096) × (count ≤ 1000) ⌝ }
-    ensures { λ r. ⌜ FindIs b (now (knots .entry)) y precision limit rising k count r ⌝ }
+    ensures { λ r. ⌜ FindIs m b (now (knots .entry)) y precision limit rising k count r ⌝ }
 {
     if k <= 12 {
-        tries(b, knots, y, precision, limit, 0, k, count)
+        tries(m, b, knots, y, precision, limit, 0, k, count)
     } else {
-        halve(b, knots, y, precision, limit, rising, k, 0, k, count)
+        halve(m, b, knots, y, precision, limit, rising, k, 0, k, count)
     }
 }

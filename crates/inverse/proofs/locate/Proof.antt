@@ -25,10 +25,10 @@ located-requires-2 : tie.Need-located-requires-2
 located-requires-2 c κs = search needs
 
 returns : tie.Need-returns
-returns c = by-knots (c .before .before .before .before .before .before .args .b) (c .before .before .before .before .before .before .args .knots .now) (c .before .before .before .before .before .before .args .y) (c .before .before .before .before .before .before .args .precision) (c .before .before .before .before .before .before .args .limit) (c .before .before .before .before .segments .result) (c .before .before .before .before .segments .ensures) (c .before .before .enum-told .given .1) (c .before .knot-ends .result) (c .before .knot-ends .ensures) (c .located .ensures)
+returns c = by-knots (c .before .before .before .before .before .before .args .w) (c .before .before .before .before .before .before .args .b) (c .before .before .before .before .before .before .args .knots .now) (c .before .before .before .before .before .before .args .y) (c .before .before .before .before .before .before .args .precision) (c .before .before .before .before .before .before .args .limit) (c .before .before .before .before .segments .result) (c .before .before .before .before .segments .ensures) (c .before .before .enum-told .given .1) (c .before .knot-ends .result) (c .before .knot-ends .ensures) (c .located .ensures)
 
 returns-2 : tie.Need-returns-2
-returns-2 c = by-curve (c .before .before .before .before .before .before .args .b) (c .before .before .before .before .before .before .args .knots .now) (c .before .before .before .before .before .before .args .y) (c .before .before .before .before .before .before .args .precision) (c .before .before .before .before .before .before .args .limit) (c .before .before .before .before .segments .result) (c .before .before .before .before .segments .ensures) (c .before .before .enum-told2 .given .1) (c .before .curve-ends .result) (c .before .curve-ends .ensures) (c .located2 .ensures)
+returns-2 c = by-curve (c .before .before .before .before .before .before .args .w) (c .before .before .before .before .before .before .args .b) (c .before .before .before .before .before .before .args .knots .now) (c .before .before .before .before .before .before .args .y) (c .before .before .before .before .before .before .args .precision) (c .before .before .before .before .before .before .args .limit) (c .before .before .before .before .segments .result) (c .before .before .before .before .segments .ensures) (c .before .before .enum-told2 .given .1) (c .before .curve-ends .result) (c .before .curve-ends .ensures) (c .located2 .ensures)
 
 pub locate-spec : {M : Type 1} → statement M
 locate-spec =

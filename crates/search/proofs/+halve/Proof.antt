@@ -17,7 +17,7 @@ use Rattle.search.proofs.+halve.Tie.{close}
 
 -- the number of open segments
 abbrev μ-halve : Measures 1 halve-kinds.ps ℕ
-μ-halve κs a = a .1 .1 .1 .1 .1 .1 .1 .1 .0
+μ-halve κs a = a .1 .1 .1 .1 .1 .1 .1 .1 .1 .0
 
 abbrev halve-at : ℕ → In 1 halve-kinds.ps
 halve-at t = and 1 halve-kinds.ps (is 1 halve-kinds.ps μ-halve t) halve.Pre
@@ -34,7 +34,7 @@ halve-last-tries-requires t c κs = (c .before .before .pre .1 .0, c .before .be
 halve-returns : (t : ℕ) → halve-lts.Need-returns (calls t) (halve-at t) halve.Post
 halve-returns t c = 
     let a = c .before .before .before .args in
-    halve-end (a .b) (a .knots .now) (a .y) (a .precision) (a .limit) (a .rising) (a .k) (a .left) (a .wide) (c .before .if1 .taken) (c .last-tries .ensures)
+    halve-end (a .m) (a .b) (a .knots .now) (a .y) (a .precision) (a .limit) (a .rising) (a .k) (a .left) (a .wide) (c .before .if1 .taken) (c .last-tries .ensures)
 
 halve-sub-half : (t : ℕ) → halve-lts.Need-sub-half (calls t) (halve-at t) halve.Post
 halve-sub-half t c = omega arith
@@ -83,17 +83,17 @@ halve-halve-requires-2 t c κs = (omega arith, (c .before .before .before .befor
 halve-returns-2 : (t : ℕ) → halve-lts.Need-returns-2 (calls t) (halve-at t) halve.Post
 halve-returns-2 t c = 
     let a = c .before .before .before .before .before .before .before .args in
-    halve-hit (a .b) (a .knots .now) (a .y) (a .precision) (a .limit) (a .rising) (a .k) (a .left) (a .wide) ((a .wide - 1) / 2) (omega arith) refl (tried-here (a .b) (a .knots .now) (a .y) (a .precision) (a .limit) (a .left + (a .wide - 1) / 2) (c .before .before .before .before .weights-at .ensures) (c .before .before .before .enter .ensures)) (c .before .t .given .1)
+    halve-hit (a .m) (a .b) (a .knots .now) (a .y) (a .precision) (a .limit) (a .rising) (a .k) (a .left) (a .wide) ((a .wide - 1) / 2) (omega arith) refl (tried-here (a .m) (a .b) (a .knots .now) (a .y) (a .precision) (a .limit) (a .left + (a .wide - 1) / 2) (c .before .before .before .before .weights-at .ensures) (c .before .before .before .enter .ensures)) (c .before .t .given .1)
 
 halve-returns-3 : (t : ℕ) → halve-lts.Need-returns-3 (calls t) (halve-at t) halve.Post
 halve-returns-3 t c = 
     let a = c .before .before .before .before .before .before .before .before .before .before .args in
-    halve-left (a .b) (a .knots .now) (a .y) (a .precision) (a .limit) (a .rising) (a .k) (a .left) (a .wide) ((a .wide - 1) / 2) (omega arith) refl (tried-here (a .b) (a .knots .now) (a .y) (a .precision) (a .limit) (a .left + (a .wide - 1) / 2) (c .before .before .before .before .before .before .before .weights-at .ensures) (c .before .before .before .before .before .before .enter .ensures)) (c .before .before .before .before .t2 .given .1) (sym (c .before .before .lies-before .ensures) ∙ c .before .if2 .taken) (c .halve .ensures)
+    halve-left (a .m) (a .b) (a .knots .now) (a .y) (a .precision) (a .limit) (a .rising) (a .k) (a .left) (a .wide) ((a .wide - 1) / 2) (omega arith) refl (tried-here (a .m) (a .b) (a .knots .now) (a .y) (a .precision) (a .limit) (a .left + (a .wide - 1) / 2) (c .before .before .before .before .before .before .before .weights-at .ensures) (c .before .before .before .before .before .before .enter .ensures)) (c .before .before .before .before .t2 .given .1) (sym (c .before .before .lies-before .ensures) ∙ c .before .if2 .taken) (c .halve .ensures)
 
 halve-returns-4 : (t : ℕ) → halve-lts.Need-returns-4 (calls t) (halve-at t) halve.Post
 halve-returns-4 t c = 
     let a = c .before .before .before .before .before .before .before .before .before .before .args in
-    halve-right (a .b) (a .knots .now) (a .y) (a .precision) (a .limit) (a .rising) (a .k) (a .left) (a .wide) ((a .wide - 1) / 2) (omega arith) refl (tried-here (a .b) (a .knots .now) (a .y) (a .precision) (a .limit) (a .left + (a .wide - 1) / 2) (c .before .before .before .before .before .before .before .weights-at .ensures) (c .before .before .before .before .before .before .enter .ensures)) (c .before .before .before .before .t2 .given .1) (sym (c .before .before .lies-before .ensures) ∙ c .before .if2 .left) (c .halve2 .ensures)
+    halve-right (a .m) (a .b) (a .knots .now) (a .y) (a .precision) (a .limit) (a .rising) (a .k) (a .left) (a .wide) ((a .wide - 1) / 2) (omega arith) refl (tried-here (a .m) (a .b) (a .knots .now) (a .y) (a .precision) (a .limit) (a .left + (a .wide - 1) / 2) (c .before .before .before .before .before .before .before .weights-at .ensures) (c .before .before .before .before .before .before .enter .ensures)) (c .before .before .before .before .t2 .given .1) (sym (c .before .before .lies-before .ensures) ∙ c .before .if2 .left) (c .halve2 .ensures)
 
 pub +halve-spec : {M : Type 1} → statement M
 +halve-spec = close μ-halve λ t. halve-lts.spec (calls t) (halve-at t) halve.Post
