@@ -10,3 +10,4 @@ pub mod Promises
 pub mod Refusals
 pub mod InOrder
 pub mod Examples
+pub mod Fewer
