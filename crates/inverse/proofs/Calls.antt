@@ -26,7 +26,7 @@ use Rattle.inverse.specs.declared.Ends.{Ends}
 use Rattle.inverse.specs.declared.Mode.{Mode}
 use Rattle.inverse.specs.declared.Mode.the-variants.{Knots, Curve}
 use Rattle.inverse.specs.Shown.{LocatedIs}
-use Rattle.inverse.specs.EndRule.{atLow, atHigh, knotEnds, curveRule, ruleOf}
+use Rattle.inverse.specs.EndRule.{atLow, atHigh, knotEnds, curveRule, ruleOf, own}
 use Rattle.inverse.specs.Curve.{parameterOf, ended, located}
 
 -- ---- the search's answer, with another parameter
@@ -56,27 +56,25 @@ module _ (W : Weighting) (e : Ends) (ev : Evaluations) (g : ℕ → Float → Fl
   unfolding located
   located-searched t u h = h ∙ simp (t, u)
 
--- ---- the mode's end rule: e is what it goes by, as the code has it
-module _ (w : Weighing) (b : Basis) (ks : List Float) (y ε : Float) (limit k : ℕ) (q : k ≡ segmentsOf b (length ks)) where
-  abbrev Located : Inverted → Mode → Type 0
-  Located r m = r ≡ located (weightingOf w) (ruleOf m b ks (segmentOf b ks) .ends) (ruleOf m b ks (segmentOf b ks) .made) (segmentOf b ks) (segmentsOf b (length ks)) y ε limit
+-- ---- the mode's end rule
+pub rule-made : (m : Mode) (b : Basis) (ks : List Float) (g : ℕ → Float → Float) → length (ruleOf m b ks g .made) ≡ own m
+rule-made Knots b ks g = refl
+rule-made Curve b ks g = refl
 
-  knots-located : {r : Inverted} (e : Ends) → e ≡ knotEnds b ks → LocatedIs w e b y ks limit ε k 0 r → Located r Knots
-  knots-located e p i = i [] refl ∙ ap (λ (z : Ends). located (weightingOf w) z [] (segmentOf b ks) k y ε limit) p ∙ ap (λ (z : ℕ). located (weightingOf w) (knotEnds b ks) [] (segmentOf b ks) z y ε limit) q
+module _ (m : Mode) (b : Basis) (ks : List Float) (k : ℕ) (q : k ≡ segmentsOf b (length ks)) where
+  -- e is what it goes by, as the code has it
+  pub curve-ends-in : {e : Ends} → m ≡ Curve → e ≡ curveRule (segmentOf b ks) k .ends → e ≡ ruleOf m b ks (segmentOf b ks) .ends
+  curve-ends-in t h = rw t (h ∙ ap (λ (z : ℕ). curveRule (segmentOf b ks) z .ends) q)
 
-  curve-located : {r : Inverted} (e : Ends) → e ≡ curveRule (segmentOf b ks) k .ends → LocatedIs w e b y ks limit ε k 2 r → Located r Curve
-  curve-located e p i =
-      let m = curveRule (segmentOf b ks) k .made in
-      i m refl ∙ ap (λ (z : Ends). located (weightingOf w) z m (segmentOf b ks) k y ε limit) p ∙ ap (λ (z : ℕ). located (weightingOf w) (curveRule (segmentOf b ks) z .ends) (curveRule (segmentOf b ks) z .made) (segmentOf b ks) z y ε limit) q
+  pub knot-ends-in : {e : Ends} → m ≡ Knots → e ≡ knotEnds b ks → e ≡ ruleOf m b ks (segmentOf b ks) .ends
+  knot-ends-in t h = rw t h
 
-  -- m is the mode, as the code's match tells it
-  pub by-knots : {r : Inverted} {m : Mode} → m ≡ Knots → (e : Ends) → e ≡ knotEnds b ks → LocatedIs w e b y ks limit ε k 0 r
+  pub by-rule : (w : Weighing) (y ε : Float) (limit n : ℕ) {r : Inverted} (e : Ends) → e ≡ ruleOf m b ks (segmentOf b ks) .ends → n ≡ own m → LocatedIs w e b y ks limit ε k n r
       → r ≡ located (weightingOf w) (ruleOf m b ks (segmentOf b ks) .ends) (ruleOf m b ks (segmentOf b ks) .made) (segmentOf b ks) (segmentsOf b (length ks)) y ε limit
-  by-knots {r} t e p i = subst (Located r) (sym t) (knots-located e p i)
-
-  pub by-curve : {r : Inverted} {m : Mode} → m ≡ Curve → (e : Ends) → e ≡ curveRule (segmentOf b ks) k .ends → LocatedIs w e b y ks limit ε k 2 r
-      → r ≡ located (weightingOf w) (ruleOf m b ks (segmentOf b ks) .ends) (ruleOf m b ks (segmentOf b ks) .made) (segmentOf b ks) (segmentsOf b (length ks)) y ε limit
-  by-curve {r} t e p i = subst (Located r) (sym t) (curve-located e p i)
+  by-rule w y ε limit n e p o i =
+      let g = segmentOf b ks in
+      let ev = ruleOf m b ks g .made in
+      i ev (rule-made m b ks g ∙ sym o) ∙ ap (λ (z : Ends). located (weightingOf w) z ev g k y ε limit) p ∙ ap (λ (z : ℕ). located (weightingOf w) (ruleOf m b ks g .ends) ev g z y ε limit) q
 
 -- ---- the curve's own ends, from the row sums of its first and last segment
 pub ends-are : (b : Basis) (ks : List Float) (k : ℕ) {w0 w1 : Weights} {v0 v1 : Float} → w0 ≡ weightsOf (matrixOf b) (drop (0 * stepOf b) ks) → v0 ≡ hornerOf w0 nought → w1 ≡ weightsOf (matrixOf b) (drop ((k - 1) * stepOf b) ks) → v1 ≡ hornerOf w1 one

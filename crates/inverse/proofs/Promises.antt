@@ -29,22 +29,14 @@ use Rattle.search.specs.Bound.{bitsOf, boundOf}
 use Rattle.search.proofs.Found.{Holds}
 use Rattle.inverse.specs.declared.Mode.{Mode}
 use Rattle.inverse.specs.declared.Mode.the-variants.{Knots, Curve}
-use Rattle.inverse.specs.EndRule.{Rule, ruleOf}
+use Rattle.inverse.specs.EndRule.{Rule, ruleOf, own}
 use Rattle.inverse.specs.Curve.{located, evaluations}
 use Rattle.inverse.specs.Inverse.{inverseUses, inverseBy, unlessRefused, evaluationsBy}
 use Rattle.inverse.proofs.Told.{Silent, NoneHolds, Supposed}
 use Rattle.inverse.proofs.Facts.{AtPlace, IfOff, Proper, Enclosed, GroundSays, count-is-length, rule-listed, none-unlisted, count-bounded, place-proper, place-enclosed, ground-says, off-only, off-where, place-where}
+use Rattle.inverse.proofs.Calls.{rule-made}
 use Rattle.inverse.proofs.Curve.{segments-some, segments-few, curve-numbers}
 use Rattle.inverse.proofs.Verdicts.{Admitted, admitted}
-
--- the evaluations made for the end rule
-abbrev pub own : Mode → ℕ
-own Knots = 0
-own Curve = 2
-
-rule-made : (m : Mode) (b : Basis) (ks : List Float) (g : ℕ → Float → Float) → length (ruleOf m b ks g .made) ≡ own m
-rule-made Knots b ks g = refl
-rule-made Curve b ks g = refl
 
 -- curves that agree at these have the same rule
 rule-same : (m : Mode) (b : Basis) (ks : List Float) (g h : ℕ → Float → Float) → Agreed g h (ruleOf m b ks g .made) → ruleOf m b ks g ≡ ruleOf m b ks h

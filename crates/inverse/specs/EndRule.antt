@@ -44,3 +44,8 @@ curveRule g k =
 abbrev pub ruleOf : Mode → Basis → List Float → (ℕ → Float → Float) → Rule
 ruleOf Knots b ks g = record { ends = knotEnds b ks; made = [] }
 ruleOf Curve b ks g = curveRule g (segmentsOf b (length ks))
+
+-- how many evaluations that makes
+abbrev pub own : Mode → ℕ
+own Knots = 0
+own Curve = 2

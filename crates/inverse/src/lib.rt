@@ -9,7 +9,7 @@ ghost use Rattle.spline.specs.Segment.{segmentOf};
 ghost use Rattle.spline.specs.Rows.{allInRange};
 ghost use Rattle.invert.specs.Answer.{defaultLimit, defaultPrecision};
 ghost use Rattle.invert.specs.Round.{weightingOf};
-ghost use Rattle.inverse.specs.EndRule.{atLow, atHigh, knotEnds, curveRule, ruleOf};
+ghost use Rattle.inverse.specs.EndRule.{atLow, atHigh, knotEnds, curveRule, ruleOf, own};
 ghost use Rattle.inverse.specs.Curve.{parameterOf, located};
 ghost use Rattle.inverse.specs.Inverse.{inverseBy, inverseOf};
 ghost use Rattle.inverse.specs.Shown.{EndedIs, SearchedIs, LocatedIs};
@@ -159,6 +159,26 @@ fn located(
     searched(w, b, y, knots, limit, precision, e.rising, k, n)
 }
 
+// One call of `located` follows, so that it is inlined.
+fn mode_ends(m: Mode, b: Basis, knots: &[f64], k: usize) -> Ends
+    requires { ⌜ (k ≡ segmentsOf b (length (now knots))) × (4 ≤ length (now knots)) × (length (now knots) ≤ 4096) ⌝ }
+    ensures { λ r. ⌜ r ≡ ruleOf m b (now (knots .entry)) (segmentOf b (now (knots .entry))) .ends ⌝ }
+{
+    match m {
+        Mode::Knots => knot_ends(b, knots),
+        Mode::Curve => curve_ends(b, knots, k),
+    }
+}
+
+fn evaluations(m: Mode) -> u32
+    ensures { λ r. ⌜ (r ≡ own m) × (r ≤ 2) ⌝ }
+{
+    match m {
+        Mode::Knots => 0,
+        Mode::Curve => 2,
+    }
+}
+
 // Past the refusals, by the mode's end rule.
 fn locate(
     m: Mode,
@@ -173,10 +193,7 @@ fn locate(
     ensures { λ r. ⌜ r ≡ located (weightingOf w) (ruleOf m b (now (knots .entry)) (segmentOf b (now (knots .entry))) .ends) (ruleOf m b (now (knots .entry)) (segmentOf b (now (knots .entry))) .made) (segmentOf b (now (knots .entry))) (segmentsOf b (length (now (knots .entry)))) y precision limit ⌝ }
 {
     let k = basis::segments(b, knots.len());
-    match m {
-        Mode::Knots => located(w, knot_ends(b, knots), 0, b, y, knots, limit, precision, k),
-        Mode::Curve => located(w, curve_ends(b, knots, k), 2, b, y, knots, limit, precision, k),
-    }
+    located(w, mode_ends(m, b, knots, k), evaluations(m), b, y, knots, limit, precision, k)
 }
 
 // The place of y on the curve, with the end rule of the mode; with `check`, knots that turn back are refused.
