@@ -22,7 +22,10 @@ use Rattle.spline.specs.Evaluation.{evaluated, splineUses, splineOf, splineSegm
 use Rattle.spline.proofs.spline.Reads as spline
 use Rattle.spline.proofs.spline_segment.Reads as spline_segment
 use Rattle.invert.specs.declared.Inverted.the-variants as I
-use Rattle.invert.specs.Segment.{Outcome, inSegment}
+use Rattle.invert.specs.declared.Weighing.the-variants.{Value as ByValue}
+use Rattle.invert.specs.Round.{halving}
+use Rattle.invert.specs.Segment.{Outcome, enter, outcomeOf}
+use Rattle.inverse.specs.declared.Mode.the-variants.{Knots}
 use Rattle.invert.specs.Answer.{answered, inverted, alone, inverseSegmentUses, inverseSegmentOf, defaultLimit, defaultPrecision}
 use Rattle.invert.proofs.Verdicts.{answered-past, refused-by}
 use Rattle.invert.proofs.spline_inverse_segment_with.Reads as spline_inverse_segment_with
@@ -99,10 +102,10 @@ segment-value-refused b x cv r = two-ways (by-evaluated (first (splineSegmentUse
 pub segment-place-refused : (b : Basis) (y : Float) (cv : List Float) (limit : ℕ) (ε : Float) (r : Refusal) → Exactly (inverseSegmentOf b y cv limit ε ≡ I.Refused r) (First (inverseSegmentUses y cv limit ε) rows r)
 unfolding inverseSegmentOf
 segment-place-refused b y cv limit ε r =
-    two-ways (by-inverted (first (inverseSegmentUses y cv limit ε)) alone (inSegment (segmentOf b cv 0) 0 y ε limit []) r) (by-first (inverseSegmentUses y cv limit ε) r)
+    two-ways (by-inverted (first (inverseSegmentUses y cv limit ε)) alone (outcomeOf (enter halving (segmentOf b cv 0) 0 y ε limit [])) r) (by-first (inverseSegmentUses y cv limit ε) r)
 
 pub place-refused : (b : Basis) (y : Float) (ks : List Float) (check : Bool) (limit : ℕ) (ε : Float) (r : Refusal) → Exactly (inverseOf b y ks check limit ε ≡ I.Refused r) (First (inverseUses b y ks check limit ε) rows r)
-place-refused b y ks check limit ε r = (inverse-refused-only b y ks check limit ε r, inverse-refused-where b y ks check limit ε r)
+place-refused b y ks check limit ε r = (inverse-refused-only Knots ByValue b y ks check limit ε r, inverse-refused-where Knots ByValue b y ks check limit ε r)
 
 pub segment-conversion-refused : (from to : Basis) (cv : List Float) (room : ℕ) (r : Refusal) → Exactly (answerOf (convertedSegmentOf from to cv room) ≡ C.Refused r) (First (convertSegmentUses to cv room) rows r)
 unfolding convertedSegmentOf

@@ -22,16 +22,21 @@ use Rattle.invert.specs.declared.Ground.the-variants.{End, Edge, Value, Width, 
 use Rattle.invert.specs.declared.Inverted.{Inverted}
 use Rattle.invert.specs.declared.State.{State}
 use Rattle.invert.specs.Evaluations.{Evaluations}
-use Rattle.invert.specs.Round.{Weighting, halving, narrow, weighed, fraction, falsi, Turn, found, on, turn, probed, settled}
+use Rattle.invert.specs.Round.{Weighting, weightingOf, narrow, weighed, fraction, falsi, Turn, found, on, turn, probed, settled}
 use Rattle.invert.specs.Rounds.{Placed, rounds}
-use Rattle.invert.specs.Segment.{encloses, near, start, opening, entered, Outcome, off, placed, evaluationsOf, inSegmentBy}
+use Rattle.invert.specs.Segment.{encloses, near, start, opening, entered, Entry, outside, inside, enter, Outcome, off, placed, orElse, evaluationsOf}
 use Rattle.invert.specs.Answer.{answered, inverted, defaultLimit, defaultPrecision}
 use Rattle.invert.proofs.Ends.{both}
 use Rattle.search.specs.Bound.{bitsOf}
-use Rattle.search.specs.Search.{before, tries, last, halve, find}
-use Rattle.inverse.specs.EndRule.{atLow, atHigh, knotEnds}
+use Rattle.search.specs.Search.{before, Trial, tries, last, halve, find}
+use Rattle.search.specs.Trial.{trial}
+use Rattle.invert.specs.declared.Weighing.{Weighing}
+use Rattle.invert.specs.declared.Weighing.the-variants.{Value as ByValue}
+use Rattle.inverse.specs.declared.Mode.{Mode}
+use Rattle.inverse.specs.declared.Mode.the-variants.{Knots}
+use Rattle.inverse.specs.EndRule.{atLow, atHigh, Rule, ruleOf}
 use Rattle.inverse.specs.Curve.{parameterOf, ended, located, evaluations}
-use Rattle.inverse.specs.Inverse.{inverseUses, inverseOf, unlessRefused, inverseEvaluations}
+use Rattle.inverse.specs.Inverse.{inverseUses, inverseBy, unlessRefused, evaluationsBy}
 use Rattle.inverse.proofs.Facts.{AtPlace}
 use Rattle.inverse.proofs.spline_inverse_with.Reads as spline_inverse_with
 use Rattle.inverse.proofs.spline_inverse.Reads as spline_inverse
@@ -75,74 +80,87 @@ abbrev pub Rounded : ℕ → Outcome → Type 0
 Rounded limit (off l) = Unit
 Rounded limit (placed p) = IsSpent (p .ground) → (ev : Evaluations) × Then (p .segment) ev limit (p .made)
 
-segment-rounded : (W : Weighting) (f : Float → Float) (s : ℕ) (y ε : Float) (limit : ℕ) (ev : Evaluations) → Rounded limit (inSegmentBy W f s y ε limit ev)
-unfolding inSegmentBy entered
-segment-rounded W f s y ε limit ev =
+-- and of a trial
+abbrev RoundedIn : ℕ → Entry → Type 0
+RoundedIn limit (outside v l) = Unit
+RoundedIn limit (inside p) = IsSpent (p .ground) → (ev : Evaluations) × Then (p .segment) ev limit (p .made)
+
+enter-rounded : (W : Weighting) (f : Float → Float) (s : ℕ) (y ε : Float) (limit : ℕ) (ev : Evaluations) → RoundedIn limit (enter W f s y ε limit ev)
+unfolding enter entered
+enter-rounded W f s y ε limit ev =
     let l = both s ev in
     let rising = lt (f nought) (f one) in
     let t = on (start (opening (f nought) (f one))) l in
     let P : Placed → Type 0 = λ p. IsSpent (p .ground) → (e : Evaluations) × Then (p .segment) e limit (p .made) in
-    branch (Rounded limit) (encloses (f nought) (f one) y)
+    branch (RoundedIn limit) (encloses (f nought) (f one) y)
     (λ _. branch P (near y (f nought) ε) (λ _ q. absurd q)
     (λ _. branch P (near y (f one) ε) (λ _ q. absurd q)
     (λ _ q. (l, rounds-spent W f s y ε rising limit l limit 0 0 limit t (omega arith) none q))))
     (λ _. tt)
 
 -- ---- a search
-module _ (g : ℕ → Float → Float) (y ε : Float) (limit : ℕ) where
-  tries-rounded : (n s : ℕ) (ev : Evaluations) → Rounded limit (tries g y ε limit n s ev)
+goes : (limit : ℕ) (e : Entry) (f : Float → Evaluations → Outcome) → RoundedIn limit e → ((v : Float) (t : Evaluations) → Rounded limit (f v t)) → Rounded limit (orElse e f)
+goes limit (outside v t) f r k = k v t
+goes limit (inside p) f r k = r
+
+module _ (limit : ℕ) (E : Trial) (trials : (s : ℕ) (ev : Evaluations) → RoundedIn limit (E s ev)) where
+  tries-rounded : (n s : ℕ) (ev : Evaluations) → Rounded limit (tries E n s ev)
   unfolding tries
   tries-rounded zero s ev = tt
-  tries-rounded (suc n) s ev =
-      let l = both s ev in
-      branch (Rounded limit) (encloses (g s nought) (g s one) y) (λ _. segment-rounded halving (g s) s y ε limit l) (λ _. tries-rounded n (suc s) l)
+  tries-rounded (suc n) s ev = goes limit (E s ev) (λ v t. tries E n (suc s) t) (trials s ev) (λ v t. tries-rounded n (suc s) t)
 
-  last-rounded : (k l : ℕ) (ev : Evaluations) → Rounded limit (last g y ε limit k l ev)
+  last-rounded : (k l : ℕ) (ev : Evaluations) → Rounded limit (last E k l ev)
   unfolding last
   last-rounded k l ev = tries-rounded (min (l - 1 + 2) k - (l - 1)) (l - 1) ev
 
-  halve-rounded : (rising : Bool) (k n l c : ℕ) (ev : Evaluations) → Rounded limit (halve g y ε limit rising k n l c ev)
-  unfolding halve
-  halve-rounded rising k zero l c ev = last-rounded k l ev
-  halve-rounded rising k (suc n) l zero ev = last-rounded k l ev
-  halve-rounded rising k (suc n) l (suc c) ev =
-      let m = l + c / 2 in
-      let r = both m ev in
-      branch (Rounded limit) (encloses (g m nought) (g m one) y) (λ _. segment-rounded halving (g m) m y ε limit r)
-      (λ _. branch (Rounded limit) (before rising y (g m nought)) (λ _. halve-rounded rising k n l (c / 2) r) (λ _. halve-rounded rising k n (suc m) (c - c / 2) r))
+  module _ (y : Float) (rising : Bool) (k : ℕ) where
+    halve-rounded : (n l c : ℕ) (ev : Evaluations) → Rounded limit (halve E y rising k n l c ev)
+    unfolding halve
+    halve-rounded zero l c ev = last-rounded k l ev
+    halve-rounded (suc n) l zero ev = last-rounded k l ev
+    halve-rounded (suc n) l (suc c) ev =
+        let m = l + c / 2 in
+        goes limit (E m ev) (λ v t. cond (before rising y v) (halve E y rising k n l (c / 2) t) (halve E y rising k n (suc m) (c - c / 2) t)) (trials m ev)
+        (λ v t. branch (Rounded limit) (before rising y v) (λ _. halve-rounded n l (c / 2) t) (λ _. halve-rounded n (suc m) (c - c / 2) t))
 
-  find-rounded : (rising : Bool) (k : ℕ) (ev : Evaluations) → Rounded limit (find g y ε limit rising k ev)
-  unfolding find
-  find-rounded rising k ev = branch (Rounded limit) (leb k 12) (λ _. tries-rounded k 0 ev) (λ _. halve-rounded rising k (bitsOf k) 0 k ev)
+    find-all : (ev : Evaluations) → Rounded limit (find E y rising k ev)
+    unfolding find
+    find-all ev = branch (Rounded limit) (leb k 12) (λ _. tries-rounded k 0 ev) (λ _. halve-rounded (bitsOf k) 0 k ev)
+
+find-rounded : (W : Weighting) (g : ℕ → Float → Float) (y ε : Float) (limit : ℕ) (rising : Bool) (k : ℕ) (ev : Evaluations) → Rounded limit (find (trial W g y ε limit) y rising k ev)
+find-rounded W g y ε limit rising k ev = find-all limit (trial W g y ε limit) (λ s ev. enter-rounded W (g s) s y ε limit ev) y rising k ev
 
 -- ---- the call
-module _ (b : Basis) (y : Float) (ks : List Float) (check : Bool) (limit : ℕ) (ε : Float) where
-  abbrev pub AllRounds : Inverted → Type 0
-  AllRounds r = AtPlace (λ p. IsSpent (p .ground) → (ev : Evaluations) × Then (p .segment) ev limit (inverseEvaluations b y ks check limit ε)) r
+module _ (m : Mode) (w : Weighing) (b : Basis) (y : Float) (ks : List Float) (check : Bool) (limit : ℕ) (ε : Float) where
+  abbrev rule : Rule
+  rule = ruleOf m b ks (segmentOf b ks)
 
-  pub inverse-spent : AllRounds (inverseOf b y ks check limit ε)
-  unfolding inverseOf inverseEvaluations located evaluations
+  abbrev pub AllRounds : Inverted → Type 0
+  AllRounds r = AtPlace (λ p. IsSpent (p .ground) → (ev : Evaluations) × Then (p .segment) ev limit (evaluationsBy m w b y ks check limit ε)) r
+
+  pub inverse-spent : AllRounds (inverseBy m w b y ks check limit ε)
+  unfolding inverseBy evaluationsBy located evaluations
   inverse-spent =
-      go (first (inverseUses b y ks check limit ε)) (atLow (knotEnds b ks) y) (atHigh (knotEnds b ks) y) (find (segmentOf b ks) y ε limit (knotEnds b ks .rising) k [])
-      (find-rounded (segmentOf b ks) y ε limit (knotEnds b ks .rising) k [])
+      go (first (inverseUses b y ks check limit ε)) (atLow (rule .ends) y) (atHigh (rule .ends) y) (find (trial (weightingOf w) (segmentOf b ks) y ε limit) y (rule .ends .rising) k (rule .made))
+      (find-rounded (weightingOf w) (segmentOf b ks) y ε limit (rule .ends .rising) k (rule .made))
     where
       k : ℕ
       k = segmentsOf b (length ks)
 
       go : (v : Verdict) (a c : Bool) (o : Outcome) → Rounded limit o
-          → AtPlace (λ p. IsSpent (p .ground) → (ev : Evaluations) × Then (p .segment) ev limit (unlessRefused v (cond a [] (cond c [] (evaluationsOf o)))))
-          (inverted v (cond a (ended [] 0 nought) (cond c (ended [] (segmentsOf b (length ks) - 1) one) (answered (parameterOf (segmentsOf b (length ks))) o))))
+          → AtPlace (λ p. IsSpent (p .ground) → (ev : Evaluations) × Then (p .segment) ev limit (unlessRefused v (cond a (rule .made) (cond c (rule .made) (evaluationsOf o)))))
+          (inverted v (cond a (ended (rule .made) 0 nought) (cond c (ended (rule .made) (segmentsOf b (length ks) - 1) one) (answered (parameterOf (segmentsOf b (length ks))) o))))
       go Passed true c o h = λ q. absurd q
       go Passed false true o h = λ q. absurd q
       go Passed false false (off l) h = tt
       go Passed false false (placed p) h = h
       go (Failed r) a c o h = tt
 
-  reply-spent : (r : Inverted) → r ≡ inverseOf b y ks check limit ε → AllRounds r
+  reply-spent : (r : Inverted) → r ≡ inverseBy m w b y ks check limit ε → AllRounds r
   reply-spent r e = subst AllRounds (sym e) inverse-spent
 
-pub spline-inverse-with-spent : Keeps spline_inverse_with.Learnt (λ κs a z e. AllRounds (a .0) (a .1 .0) (now (a .1 .1 .0)) (a .1 .1 .1 .0) (a .1 .1 .1 .1 .0) (a .1 .1 .1 .1 .1 .0) z)
-spline-inverse-with-spent κs a z e p = reply-spent (a .0) (a .1 .0) (now (a .1 .1 .0)) (a .1 .1 .1 .0) (a .1 .1 .1 .1 .0) (a .1 .1 .1 .1 .1 .0) z p
+pub spline-inverse-with-spent : Keeps spline_inverse_with.Learnt (λ κs a z e. AllRounds Knots ByValue (a .0) (a .1 .0) (now (a .1 .1 .0)) (a .1 .1 .1 .0) (a .1 .1 .1 .1 .0) (a .1 .1 .1 .1 .1 .0) z)
+spline-inverse-with-spent κs a z e p = reply-spent Knots ByValue (a .0) (a .1 .0) (now (a .1 .1 .0)) (a .1 .1 .1 .0) (a .1 .1 .1 .1 .0) (a .1 .1 .1 .1 .1 .0) z p
 
-pub spline-inverse-spent : Keeps spline_inverse.Learnt (λ κs a z e. AllRounds (a .0) (a .1 .0) (now (a .1 .1 .0)) (a .1 .1 .1 .0) defaultLimit defaultPrecision z)
-spline-inverse-spent κs a z e p = reply-spent (a .0) (a .1 .0) (now (a .1 .1 .0)) (a .1 .1 .1 .0) defaultLimit defaultPrecision z p
+pub spline-inverse-spent : Keeps spline_inverse.Learnt (λ κs a z e. AllRounds Knots ByValue (a .0) (a .1 .0) (now (a .1 .1 .0)) (a .1 .1 .1 .0) defaultLimit defaultPrecision z)
+spline-inverse-spent κs a z e p = reply-spent Knots ByValue (a .0) (a .1 .0) (now (a .1 .1 .0)) (a .1 .1 .1 .0) defaultLimit defaultPrecision z p
