@@ -89,22 +89,7 @@ answers m a e p q = ap (λ (x : Elimination). shown (then x (λ a. goes (rightHa
 pub found-below : (p : Pivot) (k : ℕ) → p ≡ Row k → Found p → k < 4
 found-below p k e h = subst Found e h
 
--- ---- the inverse's four rows, put together again
-abbrev gathered : Inverse → Matrix
-gathered e = e .r0 ∷ e .r1 ∷ e .r2 ∷ e .r3 ∷ []
-
-four-rows : (m : Matrix) → gathered (shown (inverse m)) ≡ rowsOf (inverse m)
-unfolding inverse
-four-rows m = go (columns (from 0) (widened m))
-  where
-    go : (e : Elimination) → gathered (shown (then e (λ a. goes (rightHalf a)))) ≡ rowsOf (then e (λ a. goes (rightHalf a)))
-    go (goes a) = refl
-    go no-inverse = refl
-
-pub inverse-rows : (b : Basis) (m : Matrix) (e : Inverse) → m ≡ matrixOf b → e ≡ shown (inverse m) → gathered e ≡ inverseOf b
-unfolding inverseOf
-inverse-rows b m e p q = ap gathered q ∙ four-rows m ∙ ap (λ (x : Matrix). rowsOf (inverse x)) p
-
+-- ---- the conversion's matrix
 pub conversion : (from to : Basis) (i m r : Matrix) → i ≡ inverseOf to → m ≡ matrixOf from → r ≡ product i m → r ≡ conversionOf from to
 unfolding conversionOf
 conversion from to i m r p q e = e ∙ ap (λ (x : Matrix). product x m) p ∙ ap (product (inverseOf to)) q

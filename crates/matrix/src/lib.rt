@@ -6,6 +6,8 @@ ghost use Rattle.matrix.specs.Elimination.{widened, pivotOf, swapped, di
 ghost use Rattle.matrix.specs.Shown.{shown, Found};
 use basis::Basis;
 
+pub mod constants;
+
 // The row that holds a column's pivot.
 pub enum Pivot {
     Row(usize),
@@ -190,12 +192,14 @@ pub fn mul_4x4(a: [[f64; 4]; 4], b: [[f64; 4]; 4]) -> [[f64; 4]; 4]
 pub fn inverse_of(b: Basis) -> [[f64; 4]; 4]
     ensures { λ r. ⌜ r ≡ inverseOf b ⌝ }
 {
-    let e = invert_4x4(basis::basis_macros::matrix(b));
-    let r0 = e.r0;
-    let r1 = e.r1;
-    let r2 = e.r2;
-    let r3 = e.r3;
-    [r0, r1, r2, r3]
+    match b {
+        Basis::Bspline => constants::bspline(),
+        Basis::Bezier => constants::bezier(),
+        Basis::CatmullRom => constants::catmull_rom(),
+        Basis::Hermite => constants::hermite(),
+        Basis::Linear => constants::none(),
+        Basis::Power => constants::power(),
+    }
 }
 
 pub fn conversion_matrix(from: Basis, to: Basis) -> [[f64; 4]; 4]
