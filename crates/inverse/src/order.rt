@@ -27,8 +27,8 @@ fn follows_in(rising: bool, a: f64, b: f64) -> bool
     if rising { a <= b } else { b <= a }
 }
 
-// From knot 1 on, each pair in its direction. No early exit: a flag is several times quicker on good knots.
-fn keeps(rising: bool, knots: &[f64]) -> bool
+// No early exit: a flag is several times quicker on good knots.
+fn scanned(rising: bool, knots: &[f64]) -> bool
     requires { ⌜ 4 ≤ length (now knots) ⌝ }
     ensures { λ r. ⌜ r ≡ kept rising (drop 1 (now (knots .entry))) ⌝ }
 {
@@ -37,6 +37,17 @@ fn keeps(rising: bool, knots: &[f64]) -> bool
         good = good & follows_in(rising, knots[i], knots[i + 1]);
     }
     good
+}
+
+// From knot 1 on, each pair in its direction. The direction is a constant of either scan, and so no test in its loop.
+fn keeps(rising: bool, knots: &[f64]) -> bool
+    requires { ⌜ 4 ≤ length (now knots) ⌝ }
+    ensures { λ r. ⌜ r ≡ kept rising (drop 1 (now (knots .entry))) ⌝ }
+{
+    if rising {
+        return scanned(true, knots);
+    }
+    scanned(false, knots)
 }
 
 // Knots 0, 1 and the last are in range and each pair from knot 1 on keeps its direction: so all are in range, and in order.
