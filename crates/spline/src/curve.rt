@@ -2,6 +2,8 @@
 ghost use mathlib.Core.Path.{_≡_};
 ghost use Prim.Native.Nat.{_≤_, _<_};
 ghost use lib.ListN.{length};
+ghost use Rattle.basis.specs.Basis.{matrixOf};
+ghost use Rattle.spline.specs.Segment.{segmentValue};
 ghost use Rattle.spline.specs.Curve.{curveValue};
 ghost use Rattle.spline.specs.Shown.{Spotted};
 use basis::Basis;
@@ -23,6 +25,39 @@ fn place(k: usize, x: f64) -> Spot
     Spot { s: s, t: t }
 }
 
+// The same match as in `segment_value`, here for the one caller: so it is copied into it, and no row sum goes through memory.
+fn value_in(b: Basis, cv: &[f64], t: f64) -> f64
+    requires { ⌜ 4 ≤ length (now cv) ⌝ }
+    ensures { λ r. ⌜ r ≡ segmentValue (matrixOf b) (now (cv .entry)) t ⌝ }
+{
+    match b {
+        Basis::Bspline => crate::segment::horner(
+            crate::segment::sums(basis::basis_macros::bspline(), cv),
+            t,
+        ),
+        Basis::Bezier => crate::segment::horner(
+            crate::segment::sums(basis::basis_macros::bezier(), cv),
+            t,
+        ),
+        Basis::CatmullRom => crate::segment::horner(
+            crate::segment::sums(basis::basis_macros::catmull_rom(), cv),
+            t,
+        ),
+        Basis::Hermite => crate::segment::horner(
+            crate::segment::sums(basis::basis_macros::hermite(), cv),
+            t,
+        ),
+        Basis::Linear => crate::segment::horner(
+            crate::segment::sums(basis::basis_macros::linear(), cv),
+            t,
+        ),
+        Basis::Power => crate::segment::horner(
+            crate::segment::sums(basis::basis_macros::power(), cv),
+            t,
+        ),
+    }
+}
+
 // The segment is the part of the knots that starts at its place: nothing is copied.
 pub fn curve_value(b: Basis, x: f64, knots: &[f64]) -> f64
     requires { ⌜ (4 ≤ length (now knots)) × (length (now knots) ≤ 4096) ⌝ }
@@ -32,5 +67,5 @@ pub fn curve_value(b: Basis, x: f64, knots: &[f64]) -> f64
     let z = place(k, x);
     let s = z.s;
     let start = s * basis::step(b);
-    crate::segment::horner(crate::segment::weights(b, &knots[start..]), z.t)
+    value_in(b, &knots[start..], z.t)
 }

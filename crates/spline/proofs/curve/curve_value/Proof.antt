@@ -1,3 +1,4 @@
+use mathlib.Core.Path.{refl}
 use native.Mathlib.Omega.{arith}
 use lib.ListN.{length, length-drop}
 use Rattle.basis.specs.Basis.{stepOf}
@@ -22,38 +23,35 @@ mul-start c =
     let o = c .before .before .before .before in
     omega (arith, o .pre .1, starts (o .args .b) (length (o .args .knots .now)) (o .pre .0) (c .before .before .segments .ensures) (c .step .ensures .0) (c .before .place .ensures))
 
-mul-weights : tie.Need-mul-weights
-mul-weights c =
+mul-value-in : tie.Need-mul-value-in
+mul-value-in c =
     let o = c .before .before .before .before in
     omega (arith, o .pre .1, starts (o .args .b) (length (o .args .knots .now)) (o .pre .0) (c .before .before .segments .ensures) (c .step .ensures .0) (c .before .place .ensures))
 
-sub-weights : tie.Need-sub-weights
-sub-weights c =
+sub-value-in : tie.Need-sub-value-in
+sub-value-in c =
     let o = c .before .before .before .before in
     omega (arith, starts (o .args .b) (length (o .args .knots .now)) (o .pre .0) (c .before .before .segments .ensures) (c .step .ensures .0) (c .before .place .ensures))
 
-part-weights-start : tie.Need-part-weights-start
-part-weights-start c =
+part-value-in-start : tie.Need-part-value-in-start
+part-value-in-start c =
     let o = c .before .before .before .before in
     omega (arith, starts (o .args .b) (length (o .args .knots .now)) (o .pre .0) (c .before .before .segments .ensures) (c .step .ensures .0) (c .before .place .ensures))
 
-part-weights-end : tie.Need-part-weights-end
-part-weights-end c = search needs
+part-value-in-end : tie.Need-part-value-in-end
+part-value-in-end c = search needs
 
-weights-requires : tie.Need-weights-requires
-weights-requires c κs =
+value-in-requires : tie.Need-value-in-requires
+value-in-requires c κs =
     let p = c .before in
     let o = p .before .before .before .before in
     simp (rest, length-drop) (omega (arith, starts (o .args .b) (length (o .args .knots .now)) (o .pre .0) (p .before .before .segments .ensures) (p .step .ensures .0) (p .before .place .ensures)))
 
-horner-requires : tie.Need-horner-requires
-horner-requires c κs = search needs
-
 returns : tie.Need-returns
 returns c =
-    let p = c .before .before .before in
+    let p = c .before .before in
     let o = p .before .before .before .before in
-    put-together (o .args .b) (o .args .x) (o .args .knots .now) (p .before .before .segments .ensures) (p .step .ensures .0) (p .before .place .ensures) (c .before .weights .ensures) (c .horner .ensures)
+    put-together (o .args .b) (o .args .x) (o .args .knots .now) (p .before .before .segments .ensures) (p .step .ensures .0) (p .before .place .ensures) refl (c .value-in .ensures)
 
 pub curve-value-spec : {M : Type 1} → statement M
 curve-value-spec =
@@ -63,10 +61,9 @@ curve-value-spec =
     place-requires
     step-requires
     mul-start
-    mul-weights
-    sub-weights
-    part-weights-start
-    part-weights-end
-    weights-requires
-    horner-requires
+    mul-value-in
+    sub-value-in
+    part-value-in-start
+    part-value-in-end
+    value-in-requires
     returns)
