@@ -153,7 +153,7 @@ fn is_near(y: f64, v: f64, precision: f64) -> bool
 }
 
 // The place in segment s, whose end values v0 and v1 enclose y; n evaluations have been made, those of its ends among them.
-fn entered(
+pub fn entered(
     m: Weighing,
     w: Weights,
     s: usize,

@@ -1,34 +1,32 @@
 -- The searches, put together from what the code's calls give. Assumes nothing.
-use mathlib.Core.Path.{_≡_, refl, sym, ap, subst, _∙_}
-use mathlib.Core.List.{List}
+use mathlib.Core.Path.{_≡_, refl, sym, ap, _∙_}
+use mathlib.Core.List.{List, [], _∷_}
 use mathlib.Core.Bool.{Bool, true, false, cond}
 use Prim.Native.Nat.{ℕ, zero, suc, _+_, _-_, _*_, _/_, _^_, _<_, _≤_, min}
 use native.Mathlib.Nat.{mul-le-mul-right, suc-mul, two-pow-succ}
 use native.Mathlib.Omega.{arith}
-use lib.ListN.{length, drop}
-use lib.Ieee.{Float}
-use borrow.Author.Tests.{le-leb, lt-leb}
+use lib.ListN.{length, drop, getD}
+use lib.Ieee.{Float, nan}
+use borrow.Author.Tests.{le-leb, lt-leb, lt-ltb, le-ltb}
 use Rattle.basis.specs.declared.Basis.{Basis}
 use Rattle.basis.specs.Basis.{stepOf, matrixOf}
+use Rattle.doubles.specs.Numbers.{nought, one}
 use Rattle.spline.specs.declared.Weights.{Weights}
-use Rattle.spline.specs.Segment.{weightsOf, segmentOf}
+use Rattle.spline.specs.Segment.{weightsOf, hornerOf, segmentOf}
 use Rattle.invert.specs.declared.Inverted.{Inverted}
 use Rattle.invert.specs.declared.Inverted.the-variants.{OffCurve, At}
 use Rattle.invert.specs.declared.Place.{Place}
-use Rattle.invert.specs.declared.Tried.{Tried}
-use Rattle.invert.specs.declared.Tried.the-variants.{Outside, Inside}
-use Rattle.invert.specs.Evaluations.{Evaluations}
 use Rattle.invert.specs.declared.Weighing.{Weighing}
-use Rattle.invert.specs.Round.{weightingOf}
-use Rattle.invert.specs.Segment.{Entry, Outcome, orElse}
-use Rattle.invert.specs.Answer.{answered, alone}
-use Rattle.invert.specs.Shown.{tried, EnterIs}
+use Rattle.invert.specs.Evaluations.{Evaluations}
+use Rattle.invert.specs.Round.{Weighting, weightingOf}
+use Rattle.invert.specs.Segment.{Outcome, off, placed, encloses, entered, enter, orElse}
+use Rattle.invert.specs.Answer.{placeOf, answered, alone}
+use Rattle.invert.specs.Shown.{EnteredIs}
 use Rattle.invert.proofs.Ends.{both}
-use Rattle.invert.proofs.Turns.{was-outside, was-inside}
 use Rattle.search.specs.Bound.{bitsOf}
 use Rattle.search.specs.Search.{before, Trial, tries, last, halve, find}
 use Rattle.search.specs.Trial.{trial}
-use Rattle.search.specs.Shown.{TriesIs, LastIs, HalveIs, FindIs}
+use Rattle.search.specs.Shown.{keptOf, TestedIs, went, Seeks, TriesIs, LastIs, HalveIs, SoughtIs, FindIs}
 use Rattle.search.proofs.Digits.{bits-enough}
 
 -- ---- where a segment lies
@@ -38,114 +36,220 @@ fits-le t k step n h l = let q : t * step ≤ k * step = mul-le-mul-right step h
 pub fits-at : (s k step n : ℕ) → s < k → k * step + 4 ≤ n + step → s * step + 4 ≤ n
 fits-at s k step n h l = let q : suc s * step ≤ k * step = mul-le-mul-right step h in omega (arith, suc-mul s step)
 
+-- ---- the ends of segment s, from its row sums
+pub tested : (b : Basis) (ks : List Float) (s : ℕ) (y : Float) {w : Weights} {v0 v1 : Float} {h : Bool} → w ≡ weightsOf (matrixOf b) (drop (s * stepOf b) ks) → v0 ≡ hornerOf w nought → v1 ≡ hornerOf w one → h ≡ encloses v0 v1 y
+    → TestedIs b ks s y (w .w0 ∷ w .w1 ∷ w .w2 ∷ w .w3 ∷ v0 ∷ v1 ∷ []) h
+tested b ks s y {w} {v0} {v1} e e0 e1 eh =
+    let p0 = e0 ∙ ap (λ (w : Weights). hornerOf w nought) e in
+    let p1 = e1 ∙ ap (λ (w : Weights). hornerOf w one) e in
+    record {
+      kept-is = ap (λ (x : Weights). x .w0 ∷ x .w1 ∷ x .w2 ∷ x .w3 ∷ v0 ∷ v1 ∷ []) e
+          ∙ ap (λ (v : Float). behind v v1) p0
+          ∙ ap (λ (v : Float). behind (segmentOf b ks s nought) v) p1;
+      holds-is = eh ∙ ap (λ (v : Float). encloses v v1 y) p0 ∙ ap (λ (v : Float). encloses (segmentOf b ks s nought) v y) p1;
+    }
+  where
+    behind : Float → Float → List Float
+    behind v z =
+        let x = weightsOf (matrixOf b) (drop (s * stepOf b) ks) in
+        x .w0 ∷ x .w1 ∷ x .w2 ∷ x .w3 ∷ v ∷ z ∷ []
+
+-- ---- what a search comes to
+module _ (g : ℕ → Float → Float) (y : Float) (k s : ℕ) (W : Weighting) (ε : Float) (limit : ℕ) (t : Evaluations) where
+  went-in : s < k → went g y k s W ε limit t ≡ placed (entered W (g s) s y ε limit (g s nought) (g s one) t)
+  went-in h = simp (lt-ltb s k h)
+
+  went-none : k ≤ s → went g y k s W ε limit t ≡ off t
+  went-none h = simp (le-ltb s k h)
+
+-- segment s is entered, or passed over
+module _ (W : Weighting) (g : ℕ → Float → Float) (y ε : Float) (limit s : ℕ) (ev : Evaluations) (f : Float → Evaluations → Outcome) where
+  into : encloses (g s nought) (g s one) y ≡ true → orElse (trial W g y ε limit s ev) f ≡ placed (entered W (g s) s y ε limit (g s nought) (g s one) (both s ev))
+  unfolding enter
+  into h = simp h
+
+  past : encloses (g s nought) (g s one) y ≡ false → orElse (trial W g y ε limit s ev) f ≡ f (g s nought) (both s ev)
+  unfolding enter
+  past h = simp h
+
 -- ---- the tries
 -- the segments from first up to below end are tried in order, and those below s are done
-pub record Carried (m : Weighing) (b : Basis) (ks : List Float) (y ε : Float) (limit first end count s made : ℕ) : Type 0 where
+pub record Carried (b : Basis) (ks : List Float) (y : Float) (first end count s made : ℕ) : Type 0 where
   pub so-far : (ev : Evaluations) → length ev ≡ count
-      → (t : Evaluations) × (length t ≡ made) × (tries (trial (weightingOf m) (segmentOf b ks) y ε limit) (end - first) first ev ≡ tries (trial (weightingOf m) (segmentOf b ks) y ε limit) (end - s) s t)
+      → (t : Evaluations) × (length t ≡ made) × ((W : Weighting) (ε : Float) (limit : ℕ) → tries (trial W (segmentOf b ks) y ε limit) (end - first) first ev ≡ tries (trial W (segmentOf b ks) y ε limit) (end - s) s t)
 
-module _ (m : Weighing) (b : Basis) (ks : List Float) (y ε : Float) (limit : ℕ) where
-  abbrev E : Trial
-  E = trial (weightingOf m) (segmentOf b ks) y ε limit
+module _ (b : Basis) (ks : List Float) (y : Float) where
+  abbrev E : Weighting → Float → ℕ → Trial
+  E W ε limit = trial W (segmentOf b ks) y ε limit
 
-  pub tries-start : (first end count : ℕ) → Carried m b ks y ε limit first end count first count
-  tries-start first end count = record { so-far = λ ev l. (ev, l, refl) }
+  pub tries-start : (first end count : ℕ) → Carried b ks y first end count first count
+  tries-start first end count = record { so-far = λ ev l. (ev, l, λ W ε limit. refl) }
 
-  -- the trial of segment s, as the code has it
-  abbrev Here : ℕ → ℕ → Tried → Type 0
-  Here s count t = (ev : Evaluations) → length ev ≡ count → t ≡ tried (trial (weightingOf m) (segmentOf b ks) y ε limit s ev)
-
-  pub tried-here : (s : ℕ) {w : Weights} {count : ℕ} {t : Tried} → w ≡ weightsOf (matrixOf b) (drop (s * stepOf b) ks) → EnterIs m w s y ε limit count t → Here s count t
-  tried-here s {count = count} {t = t} e i = subst (λ (w : Weights). EnterIs m w s y ε limit count t) e i
-
-  module _ (s : ℕ) {count : ℕ} {t : Tried} (here : Here s count t) (ev : Evaluations) (l : length ev ≡ count) (f : Float → Evaluations → Outcome) where
-    -- segment s is entered, or passed over
-    into : {p : Place} → t ≡ Inside p → At p ≡ answered alone (orElse (trial (weightingOf m) (segmentOf b ks) y ε limit s ev) f)
-    into i =
-        let r = was-inside (weightingOf m) (segmentOf b ks s) s y ε limit ev (sym i ∙ here ev l) in
-        ap At (r .2) ∙ sym (ap (λ (e : Entry). answered alone (orElse e f)) (r .1))
-
-    past : {v : Float} → t ≡ Outside v → orElse (trial (weightingOf m) (segmentOf b ks) y ε limit s ev) f ≡ f v (both s ev)
-    past i = ap (λ (e : Entry). orElse e f) (was-outside (weightingOf m) (segmentOf b ks s) s y ε limit ev (sym i ∙ here ev l) .1)
-
-  module _ (s : ℕ) {first end count made : ℕ} {t : Tried} (here : Here s made t) (l : s < end) (carried : Carried m b ks y ε limit first end count s made) where
-    one-more : (ev : Evaluations) → tries E (end - s) s ev ≡ orElse (E s ev) (λ v t. tries E (end - suc s) (suc s) t)
+  module _ (s : ℕ) {e : List Float} {h : Bool} (is : TestedIs b ks s y e h) {first end count made : ℕ} (l : s < end) (carried : Carried b ks y first end count s made) where
+    one-more : (W : Weighting) (ε : Float) (limit : ℕ) (ev : Evaluations) → tries (E W ε limit) (end - s) s ev ≡ orElse (E W ε limit s ev) (λ v t. tries (E W ε limit) (end - suc s) (suc s) t)
     unfolding tries
-    one-more ev = let q : end - s ≡ suc (end - suc s) = omega arith in ap (λ (n : ℕ). tries E n s ev) q
+    one-more W ε limit ev = let q : end - s ≡ suc (end - suc s) = omega arith in ap (λ (n : ℕ). tries (E W ε limit) n s ev) q
 
-    pub tries-hit : {p : Place} → t ≡ Inside p → TriesIs m b ks y ε limit (end - first) first count (At p)
-    tries-hit i ev k = let c = carried .so-far ev k in into s here (c .0) (c .1) (λ v t. tries E (end - suc s) (suc s) t) i ∙ ap (answered alone) (sym (c .2 ∙ one-more (c .0)))
-
-    pub tries-miss : {v : Float} → t ≡ Outside v → Carried m b ks y ε limit first end count (s + 1) (made + 2)
-    tries-miss i =
+    pub tries-hit : {k : ℕ} → end ≤ k → h ≡ true → TriesIs b ks y (end - first) first k count s (made + 2) e
+    tries-hit {k} w i =
         record {
-          so-far = λ ev k.
-              let c = carried .so-far ev k in
-              let n : suc s ≡ s + 1 = omega arith in (
+          comes-to = λ ev n.
+              let c = carried .so-far ev n in (
                 both s (c .0),
                 omega (arith, c .1),
-                c .2 ∙ one-more (c .0) ∙ past s here (c .0) (c .1) (λ v t. tries E (end - suc s) (suc s) t) i ∙ ap (λ (i : ℕ). tries E (end - i) i (both s (c .0))) n,
+                λ W ε limit. c .2 W ε limit ∙ one-more W ε limit (c .0) ∙ into W (segmentOf b ks) y ε limit s (c .0) (λ v t. tries (E W ε limit) (end - suc s) (suc s) t) (sym (is .holds-is) ∙ i)
+                    ∙ sym (went-in (segmentOf b ks) y k s W ε limit (both s (c .0)) (omega arith)),
+              );
+          keeps = λ _. is .kept-is;
+        }
+
+    pub tries-miss : h ≡ false → Carried b ks y first end count (s + 1) (made + 2)
+    tries-miss i =
+        record {
+          so-far = λ ev n.
+              let c = carried .so-far ev n in
+              let q : suc s ≡ s + 1 = omega arith in (
+                both s (c .0),
+                omega (arith, c .1),
+                λ W ε limit. c .2 W ε limit ∙ one-more W ε limit (c .0) ∙ past W (segmentOf b ks) y ε limit s (c .0) (λ v t. tries (E W ε limit) (end - suc s) (suc s) t) (sym (is .holds-is) ∙ i)
+                    ∙ ap (λ (i : ℕ). tries (E W ε limit) (end - i) i (both s (c .0))) q,
               );
         }
 
-  pub tries-end : {first end count s made : ℕ} → end ≤ s → Carried m b ks y ε limit first end count s made → TriesIs m b ks y ε limit (end - first) first count (OffCurve made)
+  pub tries-end : {first end count s made : ℕ} (k : ℕ) {e : List Float} → end ≤ s → Carried b ks y first end count s made → TriesIs b ks y (end - first) first k count k made e
   unfolding tries
-  tries-end {end = end} {s = s} l carried ev k =
-      let c = carried .so-far ev k in
-      let q : end - s ≡ 0 = omega arith in
-      ap OffCurve (sym (c .1)) ∙ ap (answered alone) (sym (c .2 ∙ ap (λ (n : ℕ). tries E n s (c .0)) q))
+  tries-end {end = end} {s = s} k l carried =
+      record {
+        comes-to = λ ev n.
+            let c = carried .so-far ev n in
+            let q : end - s ≡ 0 = omega arith in (
+              c .0,
+              c .1,
+              λ W ε limit. c .2 W ε limit ∙ ap (λ (n : ℕ). tries (E W ε limit) n s (c .0)) q ∙ none W ε limit s (c .0) ∙ sym (went-none (segmentOf b ks) y k k W ε limit (c .0) (omega arith)),
+            );
+        keeps = λ h. absurd (omega (arith, h));
+      }
+    where
+      none : (W : Weighting) (ε : Float) (limit s : ℕ) (t : Evaluations) → tries (E W ε limit) 0 s t ≡ off t
+      none W ε limit s t = refl
 
   -- ---- the last tries
-  pub last-tried : (k left first end : ℕ) {count : ℕ} {r : Inverted} → first ≡ left - 1 → end ≡ min (first + 2) k → TriesIs m b ks y ε limit (end - first) first count r → LastIs m b ks y ε limit k left count r
+  pub last-tried : (k left first end : ℕ) {count r made : ℕ} {e : List Float} → first ≡ left - 1 → end ≡ min (first + 2) k → TriesIs b ks y (end - first) first k count r made e → LastIs b ks y k left count r made e
   unfolding last
-  last-tried k left first end e f i ev l = i ev l ∙ rw (f, e)
+  last-tried k left first end p q i =
+      record {
+        comes-to = λ ev n. let c = i .comes-to ev n in (c .0, c .1, λ W ε limit. same W ε limit ev ∙ c .2 W ε limit);
+        keeps = i .keeps;
+      }
+    where
+      same : (W : Weighting) (ε : Float) (limit : ℕ) (ev : Evaluations) → last (E W ε limit) k left ev ≡ tries (E W ε limit) (end - first) first ev
+      same W ε limit ev = rw (q, p)
 
-  -- ---- the (weightingOf m)
+  -- ---- the halvings
   module _ (rising : Bool) (k left : ℕ) where
-    none-open : (n : ℕ) (ev : Evaluations) → halve E y rising k n left 0 ev ≡ last E k left ev
+    none-open : (F : Trial) (n : ℕ) (ev : Evaluations) → halve F y rising k n left 0 ev ≡ last F k left ev
     unfolding halve
-    none-open zero ev = refl
-    none-open (suc n) ev = refl
+    none-open F zero ev = refl
+    none-open F (suc n) ev = refl
 
-    pub halve-end : (wide : ℕ) {count : ℕ} {r : Inverted} → wide ≡ 0 → LastIs m b ks y ε limit k left count r → HalveIs m b ks y ε limit rising k left wide count r
-    halve-end wide e i n room ev l = i ev l ∙ ap (answered alone) (sym (ap (λ (c : ℕ). halve E y rising k n left c ev) e ∙ none-open n ev))
+    pub halve-end : (wide : ℕ) {count r made : ℕ} {e : List Float} → wide ≡ 0 → LastIs b ks y k left count r made e → HalveIs b ks y rising k left wide count r made e
+    halve-end wide q i h room =
+        record {
+          comes-to = λ ev n. let c = i .comes-to ev n in (c .0, c .1, λ W ε limit. ap (λ (c : ℕ). halve (E W ε limit) y rising k h left c ev) q ∙ none-open (E W ε limit) h ev ∙ c .2 W ε limit);
+          keeps = i .keeps;
+        }
 
-    -- where the search goes on after the middle one, at m, of wide open segments
-    abbrev on : ℕ → ℕ → ℕ → ℕ → Float → Evaluations → Outcome
-    on n wide half mid v t = cond (before rising y v) (halve E y rising k n left half t) (halve E y rising k n (mid + 1) (wide - 1 - half) t)
+    -- where the search goes on after the middle one, at mid, of wide open segments
+    abbrev on : Trial → ℕ → ℕ → ℕ → ℕ → Float → Evaluations → Outcome
+    on F n wide half mid v t = cond (before rising y v) (halve F y rising k n left half t) (halve F y rising k n (mid + 1) (wide - 1 - half) t)
 
-    module _ (wide half : ℕ) {count : ℕ} {t : Tried} (some : 0 < wide) (e : half ≡ (wide - 1) / 2) (here : Here (left + half) count t) where
-      opened : (n : ℕ) (ev : Evaluations) → halve E y rising k (suc n) left wide ev ≡ orElse (E (left + half) ev) (on n wide half (left + half))
+    module _ (wide half : ℕ) {e : List Float} {h : Bool} (some : 0 < wide) (p : half ≡ (wide - 1) / 2) (is : TestedIs b ks (left + half) y e h) where
+      opened : (F : Trial) (n : ℕ) (ev : Evaluations) → halve F y rising k (suc n) left wide ev ≡ orElse (F (left + half) ev) (on F n wide half (left + half))
       unfolding halve
-      opened n ev =
+      opened F n ev =
           let q : wide ≡ suc (wide - 1) = omega arith in
           let s : suc (left + half) ≡ left + half + 1 = omega arith in
-          ap (λ (c : ℕ). halve E y rising k (suc n) left c ev) q
-          ∙ ap (λ (h : ℕ). orElse (E (left + h) ev) (λ v t. cond (before rising y v) (halve E y rising k n left h t) (halve E y rising k n (suc (left + h)) (wide - 1 - h) t))) (sym e)
-          ∙ ap (λ (z : ℕ). orElse (E (left + half) ev) (λ v t. cond (before rising y v) (halve E y rising k n left half t) (halve E y rising k n z (wide - 1 - half) t))) s
+          ap (λ (c : ℕ). halve F y rising k (suc n) left c ev) q
+          ∙ ap (λ (h : ℕ). orElse (F (left + h) ev) (λ v t. cond (before rising y v) (halve F y rising k n left h t) (halve F y rising k n (suc (left + h)) (wide - 1 - h) t))) (sym p)
+          ∙ ap (λ (z : ℕ). orElse (F (left + half) ev) (λ v t. cond (before rising y v) (halve F y rising k n left half t) (halve F y rising k n z (wide - 1 - half) t))) s
 
-      pub halve-hit : {p : Place} → t ≡ Inside p → HalveIs m b ks y ε limit rising k left wide count (At p)
-      halve-hit i zero room ev l = absurd (omega arith)
-      halve-hit i (suc n) room ev l = into (left + half) here ev l (on n wide half (left + half)) i ∙ ap (answered alone) (sym (opened n ev))
+      pub halve-hit : {count : ℕ} → left + half < k → h ≡ true → HalveIs b ks y rising k left wide count (left + half) (count + 2) e
+      halve-hit w i zero room = absurd (omega arith)
+      halve-hit w i (suc n) room =
+          record {
+            comes-to = λ ev l. (
+                both (left + half) ev,
+                omega arith,
+                λ W ε limit. opened (E W ε limit) n ev ∙ into W (segmentOf b ks) y ε limit (left + half) ev (on (E W ε limit) n wide half (left + half)) (sym (is .holds-is) ∙ i)
+                    ∙ sym (went-in (segmentOf b ks) y k (left + half) W ε limit (both (left + half) ev) w),
+              );
+            keeps = λ _. is .kept-is;
+          }
 
-      module _ {v : Float} {r : Inverted} (i : t ≡ Outside v) where
-        pub halve-left : before rising y v ≡ true → HalveIs m b ks y ε limit rising k left half (count + 2) r → HalveIs m b ks y ε limit rising k left wide count r
-        halve-left h u zero room ev l = absurd (omega arith)
-        halve-left h u (suc n) room ev l =
-            let q : on n wide half (left + half) v (both (left + half) ev) ≡ halve E y rising k n left half (both (left + half) ev) = simp h in
-            u n (omega (arith, two-pow-succ n)) (both (left + half) ev) (omega arith) ∙ ap (answered alone) (sym (opened n ev ∙ past (left + half) here ev l (on n wide half (left + half)) i ∙ q))
+      module _ {v : Float} (a : v ≡ segmentOf b ks (left + half) nought) (i : h ≡ false) where
+        went-past : (W : Weighting) (ε : Float) (limit n : ℕ) (ev : Evaluations) → halve (E W ε limit) y rising k (suc n) left wide ev ≡ on (E W ε limit) n wide half (left + half) v (both (left + half) ev)
+        went-past W ε limit n ev =
+            opened (E W ε limit) n ev ∙ past W (segmentOf b ks) y ε limit (left + half) ev (on (E W ε limit) n wide half (left + half)) (sym (is .holds-is) ∙ i)
+            ∙ ap (λ (v : Float). on (E W ε limit) n wide half (left + half) v (both (left + half) ev)) (sym a)
 
-        pub halve-right : before rising y v ≡ false → HalveIs m b ks y ε limit rising k (left + half + 1) (wide - 1 - half) (count + 2) r → HalveIs m b ks y ε limit rising k left wide count r
-        halve-right h u zero room ev l = absurd (omega arith)
-        halve-right h u (suc n) room ev l =
-            let q : on n wide half (left + half) v (both (left + half) ev) ≡ halve E y rising k n (left + half + 1) (wide - 1 - half) (both (left + half) ev) = simp h in
-            u n (omega (arith, two-pow-succ n)) (both (left + half) ev) (omega arith) ∙ ap (answered alone) (sym (opened n ev ∙ past (left + half) here ev l (on n wide half (left + half)) i ∙ q))
+        pub halve-left : {count r made : ℕ} {e' : List Float} → before rising y v ≡ true → HalveIs b ks y rising k left half (count + 2) r made e' → HalveIs b ks y rising k left wide count r made e'
+        halve-left d u zero room = absurd (omega arith)
+        halve-left d u (suc n) room =
+            let s = u n (omega (arith, two-pow-succ n)) in
+            record {
+              comes-to = λ ev l.
+                  let c = s .comes-to (both (left + half) ev) (omega arith) in
+                  let q : (F : Trial) → on F n wide half (left + half) v (both (left + half) ev) ≡ halve F y rising k n left half (both (left + half) ev) = λ F. simp d in
+                  (c .0, c .1, λ W ε limit. went-past W ε limit n ev ∙ q (E W ε limit) ∙ c .2 W ε limit);
+              keeps = s .keeps;
+            }
+
+        pub halve-right : {count r made : ℕ} {e' : List Float} → before rising y v ≡ false → HalveIs b ks y rising k (left + half + 1) (wide - 1 - half) (count + 2) r made e' → HalveIs b ks y rising k left wide count r made e'
+        halve-right d u zero room = absurd (omega arith)
+        halve-right d u (suc n) room =
+            let s = u n (omega (arith, two-pow-succ n)) in
+            record {
+              comes-to = λ ev l.
+                  let c = s .comes-to (both (left + half) ev) (omega arith) in
+                  let q : (F : Trial) → on F n wide half (left + half) v (both (left + half) ev) ≡ halve F y rising k n (left + half + 1) (wide - 1 - half) (both (left + half) ev) = λ F. simp d in
+                  (c .0, c .1, λ W ε limit. went-past W ε limit n ev ∙ q (E W ε limit) ∙ c .2 W ε limit);
+              keeps = s .keeps;
+            }
 
   -- ---- the whole search
-  pub found-few : (rising : Bool) (k : ℕ) {count : ℕ} {r : Inverted} → k ≤ 12 → TriesIs m b ks y ε limit (k - 0) 0 count r → FindIs m b ks y ε limit rising k count r
+  pub sought-few : (rising : Bool) (k : ℕ) {count r made : ℕ} {e : List Float} → k ≤ 12 → TriesIs b ks y (k - 0) 0 k count r made e → SoughtIs b ks y rising k count r made e
   unfolding find
-  found-few rising k h i ev l = let q : k - 0 ≡ k = omega arith in i ev l ∙ simp (le-leb _ _ h, q)
+  sought-few rising k h i =
+      record {
+        comes-to = λ ev l. let c = i .comes-to ev l in (c .0, c .1, λ W ε limit. few (E W ε limit) ev ∙ c .2 W ε limit);
+        keeps = i .keeps;
+      }
+    where
+      few : (F : Trial) (ev : Evaluations) → find F y rising k ev ≡ tries F (k - 0) 0 ev
+      few F ev = let q : k - 0 ≡ k = omega arith in simp (le-leb k 12 h, q)
 
-  pub found-many : (rising : Bool) (k : ℕ) {count : ℕ} {r : Inverted} → 12 < k → k < 2 ^ 64 → HalveIs m b ks y ε limit rising k 0 k count r → FindIs m b ks y ε limit rising k count r
+  pub sought-many : (rising : Bool) (k : ℕ) {count r made : ℕ} {e : List Float} → 12 < k → k < 2 ^ 64 → HalveIs b ks y rising k 0 k count r made e → SoughtIs b ks y rising k count r made e
   unfolding find
-  found-many rising k h w i ev l = i (bitsOf k) (bits-enough k w) ev l ∙ simp (lt-leb _ _ h)
+  sought-many rising k h w i =
+      let s = i (bitsOf k) (bits-enough k w) in
+      record {
+        comes-to = λ ev l. let c = s .comes-to ev l in (c .0, c .1, λ W ε limit. many (E W ε limit) ev ∙ c .2 W ε limit);
+        keeps = s .keeps;
+      }
+    where
+      many : (F : Trial) (ev : Evaluations) → find F y rising k ev ≡ halve F y rising k (bitsOf k) 0 k ev
+      many F ev = simp (lt-leb k 12 h)
+
+  -- ---- and the place in the segment that it comes to
+  module _ (m : Weighing) (ε : Float) (limit : ℕ) (rising : Bool) (k : ℕ) {count s made : ℕ} {e : List Float} (sought : SoughtIs b ks y rising k count s made e) where
+    pub found-in : {p : Place} → s < k → EnteredIs m (record { w0 = getD e 0 nan; w1 = getD e 1 nan; w2 = getD e 2 nan; w3 = getD e 3 nan }) s y ε limit (getD e 4 nan) (getD e 5 nan) made p → FindIs m b ks y ε limit rising k count (At p)
+    found-in {p} h i ev l =
+        let c = sought .comes-to ev l in
+        ap At (i (c .0) (c .1)
+            ∙ ap (λ (e : List Float). placeOf alone (entered (weightingOf m) (hornerOf (record { w0 = getD e 0 nan; w1 = getD e 1 nan; w2 = getD e 2 nan; w3 = getD e 3 nan })) s y ε limit (getD e 4 nan) (getD e 5 nan) (c .0))) (sought .keeps h))
+        ∙ ap (answered alone) (sym (c .2 (weightingOf m) ε limit ∙ went-in (segmentOf b ks) y k s (weightingOf m) ε limit (c .0) h))
+
+    pub found-none : k ≤ s → FindIs m b ks y ε limit rising k count (OffCurve made)
+    found-none h ev l =
+        let c = sought .comes-to ev l in
+        ap OffCurve (sym (c .1)) ∙ ap (answered alone) (sym (c .2 (weightingOf m) ε limit ∙ went-none (segmentOf b ks) y k s (weightingOf m) ε limit (c .0) h))

@@ -1,35 +1,62 @@
 -- The definitions' results as the code has them: a count stands for each list of evaluations. Definitions only.
 use mathlib.Core.Path.{_≡_}
-use mathlib.Core.List.{List}
-use mathlib.Core.Bool.{Bool}
-use Prim.Native.Nat.{ℕ, _^_, _<_}
-use lib.ListN.{length}
+use mathlib.Core.List.{List, [], _∷_}
+use mathlib.Core.Bool.{Bool, cond}
+use Prim.Native.Nat.{ℕ, _*_, _^_, _<_}
+use lib.Dec.{ltb}
+use lib.ListN.{length, drop}
 use lib.Ieee.{Float}
 use Rattle.basis.specs.declared.Basis.{Basis}
-use Rattle.spline.specs.Segment.{segmentOf}
+use Rattle.basis.specs.Basis.{stepOf, matrixOf}
+use Rattle.doubles.specs.Numbers.{nought, one}
+use Rattle.spline.specs.Segment.{weightsOf, segmentOf}
 use Rattle.invert.specs.declared.Inverted.{Inverted}
-use Rattle.invert.specs.Evaluations.{Evaluations}
-use Rattle.invert.specs.Segment.{Outcome}
-use Rattle.invert.specs.Answer.{answered, alone}
-use Rattle.search.specs.Search.{tries, last, halve, find}
-use Rattle.search.specs.Trial.{trial}
 use Rattle.invert.specs.declared.Weighing.{Weighing}
-use Rattle.invert.specs.Round.{weightingOf}
+use Rattle.invert.specs.Evaluations.{Evaluations}
+use Rattle.invert.specs.Round.{Weighting, weightingOf}
+use Rattle.invert.specs.Segment.{Outcome, off, placed, encloses, entered}
+use Rattle.invert.specs.Answer.{answered, alone}
+use Rattle.search.specs.Search.{Trial, tries, last, halve, find}
+use Rattle.search.specs.Trial.{trial}
 
 -- r is what the definition gives, whatever the n evaluations before it were
 abbrev pub Is : (Evaluations → Outcome) → ℕ → Inverted → Type 0
 Is o n r = (ev : Evaluations) → length ev ≡ n → r ≡ answered alone (o ev)
 
-module _ (m : Weighing) (b : Basis) (ks : List Float) (y ε : Float) (limit : ℕ) where
-  abbrev pub TriesIs : ℕ → ℕ → ℕ → Inverted → Type 0
-  TriesIs n s = Is (tries (trial (weightingOf m) (segmentOf b ks) y ε limit) n s)
+-- what is kept of segment s: its row sums, and the values of both its ends
+abbrev pub keptOf : Basis → List Float → ℕ → List Float
+keptOf b ks s =
+    let w = weightsOf (matrixOf b) (drop (s * stepOf b) ks) in
+    w .w0 ∷ w .w1 ∷ w .w2 ∷ w .w3 ∷ segmentOf b ks s nought ∷ segmentOf b ks s one ∷ []
 
-  abbrev pub LastIs : ℕ → ℕ → ℕ → Inverted → Type 0
-  LastIs k l = Is (last (trial (weightingOf m) (segmentOf b ks) y ε limit) k l)
+-- and whether they enclose y
+pub record TestedIs (b : Basis) (ks : List Float) (s : ℕ) (y : Float) (e : List Float) (r : Bool) : Type 0 where
+  pub kept-is : e ≡ keptOf b ks s
+  pub holds-is : r ≡ encloses (segmentOf b ks s nought) (segmentOf b ks s one) y
+
+-- segment s of k is entered after both its ends were evaluated; where s is k, none is
+abbrev pub went : (ℕ → Float → Float) → Float → ℕ → ℕ → Weighting → Float → ℕ → Evaluations → Outcome
+went g y k s W ε limit ev = cond (ltb s k) (placed (entered W (g s) s y ε limit (g s nought) (g s one) ev)) (off ev)
+
+module _ (b : Basis) (ks : List Float) (y : Float) where
+  -- a search that comes to segment r of k, whatever the n evaluations before it were: m have been made by then, and e is what it keeps of segment r
+  pub record Seeks (o : Trial → Evaluations → Outcome) (k n r m : ℕ) (e : List Float) : Type 0 where
+    pub comes-to : (ev : Evaluations) → length ev ≡ n → (t : Evaluations) × (length t ≡ m) × ((W : Weighting) (ε : Float) (limit : ℕ) → o (trial W (segmentOf b ks) y ε limit) ev ≡ went (segmentOf b ks) y k r W ε limit t)
+    pub keeps : r < k → e ≡ keptOf b ks r
+
+  abbrev pub TriesIs : ℕ → ℕ → ℕ → ℕ → ℕ → ℕ → List Float → Type 0
+  TriesIs n s = Seeks (λ E. tries E n s)
+
+  abbrev pub LastIs : ℕ → ℕ → ℕ → ℕ → ℕ → List Float → Type 0
+  LastIs k l = Seeks (λ E. last E k l) k
 
   -- by whatever number of halvings is enough
-  abbrev pub HalveIs : Bool → ℕ → ℕ → ℕ → ℕ → Inverted → Type 0
-  HalveIs rising k l c count r = (n : ℕ) → c < 2 ^ n → Is (halve (trial (weightingOf m) (segmentOf b ks) y ε limit) y rising k n l c) count r
+  abbrev pub HalveIs : Bool → ℕ → ℕ → ℕ → ℕ → ℕ → ℕ → List Float → Type 0
+  HalveIs rising k l c n r m e = (h : ℕ) → c < 2 ^ h → Seeks (λ E. halve E y rising k h l c) k n r m e
 
+  abbrev pub SoughtIs : Bool → ℕ → ℕ → ℕ → ℕ → List Float → Type 0
+  SoughtIs rising k = Seeks (λ E. find E y rising k) k
+
+module _ (m : Weighing) (b : Basis) (ks : List Float) (y ε : Float) (limit : ℕ) where
   abbrev pub FindIs : Bool → ℕ → ℕ → Inverted → Type 0
   FindIs rising k = Is (find (trial (weightingOf m) (segmentOf b ks) y ε limit) y rising k)

@@ -6,10 +6,9 @@ ghost use Rattle.basis.specs.Basis.{stepOf, matrixOf};
 ghost use Rattle.spline.specs.Segment.{weightsOf};
 ghost use Rattle.search.specs.Bound.{bitsOf, boundOf};
 ghost use Rattle.search.specs.Search.{before};
-ghost use Rattle.search.specs.Shown.{TriesIs, LastIs, HalveIs, FindIs};
+ghost use Rattle.search.specs.Shown.{TestedIs, TriesIs, LastIs, HalveIs, SoughtIs, FindIs};
 use basis::Basis;
 use invert::Inverted;
-use invert::Tried;
 use invert::Weighing;
 use spline::Weights;
 
@@ -40,36 +39,42 @@ pub fn weights_at(b: Basis, knots: &[f64], s: usize) -> Weights
     spline::segment::weights(b, &knots[start..])
 }
 
-// The segments from `first` up to below `end` are tried in order.
+// Both ends of segment s are evaluated, once, and kept behind its four row sums: do they enclose y?
+pub fn probe(b: Basis, knots: &[f64], s: usize, y: f64, ends: &mut [f64; 6]) -> bool
+    requires { ⌜ (s * stepOf b + 4 ≤ length (now knots)) × (length (now knots) ≤ 4096) ⌝ }
+    ensures { λ r. ⌜ TestedIs b (now (knots .entry)) s y (now (ends .exit)) r ⌝ }
+{
+    let w = weights_at(b, knots, s);
+    let v0 = spline::segment::horner(w, 0.0);
+    let v1 = spline::segment::horner(w, 1.0);
+    *ends = [w.w0, w.w1, w.w2, w.w3, v0, v1];
+    invert::encloses(v0, v1, y)
+}
+
+// The segments from `first` up to below `end`, in order: the first whose ends enclose the target; k, where none has such ends.
 pub fn tries(
-    m: Weighing,
     b: Basis,
     knots: &[f64],
     y: f64,
-    precision: f64,
-    limit: u16,
+    k: usize,
     first: usize,
     end: usize,
-    count: u32,
-) -> Inverted
-    requires { ⌜ (end * stepOf b + 4 ≤ length (now knots) + stepOf b) × (length (now knots) ≤ 4096) × (end ≤ 4096) × (first ≤ end) × (count ≤ 100000) ⌝ }
-    ensures { λ r. ⌜ TriesIs m b (now (knots .entry)) y precision limit (end - first) first count r ⌝ }
+    made: &mut u32,
+    ends: &mut [f64; 6],
+) -> usize
+    requires { ⌜ (end * stepOf b + 4 ≤ length (now knots) + stepOf b) × (length (now knots) ≤ 4096) × (end ≤ k) × (k ≤ 4096) × (first ≤ end) × (now made ≤ 100000) ⌝ }
+    ensures { λ r. ⌜ (TriesIs b (now (knots .entry)) y (end - first) first k (now (made .entry)) r (now (made .exit)) (now (ends .exit))) × (now (made .exit) ≤ now (made .entry) + 2 * (end - first)) ⌝ }
 {
     let mut s = first;
-    let mut made = count;
     while s < end {
-        let t = invert::enter(m, weights_at(b, knots, s), s, y, precision, limit, made);
-        match t {
-            Tried::Inside(p) => {
-                return Inverted::At(p);
-            }
-            Tried::Outside(_) => {
-                made += 2;
-            }
+        let holds = probe(b, knots, s, y, &mut *ends);
+        *made = *made + 2;
+        if holds {
+            return s;
         }
         s += 1;
     }
-    Inverted::OffCurve(made)
+    k
 }
 
 fn one_less(n: usize) -> usize
@@ -80,22 +85,20 @@ fn one_less(n: usize) -> usize
 
 // Nothing is open any more, at `left` of k segments: those beside it are tried once more.
 pub fn last_tries(
-    m: Weighing,
     b: Basis,
     knots: &[f64],
     y: f64,
-    precision: f64,
-    limit: u16,
     k: usize,
     left: usize,
-    count: u32,
-) -> Inverted
-    requires { ⌜ (k * stepOf b + 4 ≤ length (now knots) + stepOf b) × (length (now knots) ≤ 4096) × (0 < k) × (k ≤ 4096) × (left ≤ k) × (count ≤ 100000) ⌝ }
-    ensures { λ r. ⌜ LastIs m b (now (knots .entry)) y precision limit k left count r ⌝ }
+    made: &mut u32,
+    ends: &mut [f64; 6],
+) -> usize
+    requires { ⌜ (k * stepOf b + 4 ≤ length (now knots) + stepOf b) × (length (now knots) ≤ 4096) × (0 < k) × (k ≤ 4096) × (left ≤ k) × (now made ≤ 90000) ⌝ }
+    ensures { λ r. ⌜ (LastIs b (now (knots .entry)) y k left (now (made .entry)) r (now (made .exit)) (now (ends .exit))) × (now (made .exit) ≤ now (made .entry) + 4) ⌝ }
 {
     let first = one_less(left);
     let end = doubles::whole::lesser(first + 2, k);
-    tries(m, b, knots, y, precision, limit, first, end, count)
+    tries(b, knots, y, k, first, end, made, ends)
 }
 
 pub fn lies_before(rising: bool, y: f64, v: f64) -> bool
@@ -104,42 +107,60 @@ pub fn lies_before(rising: bool, y: f64, v: f64) -> bool
     if rising { y < v } else { v < y }
 }
 
-// The `wide` segments from `left` on are open: the middle one is tried, then the part before it or the part after it.
+// The `wide` segments from `left` on are open: the middle one is tested, then the part before it or the part after it is searched.
+// The knots stand behind a second reference and the answer is a number: so a level hands on words alone, and the compiler makes a loop of it.
 pub fn halve(
-    m: Weighing,
     b: Basis,
-    knots: &[f64],
+    knots: &&[f64],
     y: f64,
-    precision: f64,
-    limit: u16,
     rising: bool,
     k: usize,
     left: usize,
     wide: usize,
-    count: u32,
-) -> Inverted
-    requires { ⌜ (k * stepOf b + 4 ≤ length (now knots) + stepOf b) × (length (now knots) ≤ 4096) × (0 < k) × (k ≤ 4096) × (left + wide ≤ k) × (count + 2 * wide ≤ 100000) ⌝ }
-    ensures { λ r. ⌜ HalveIs m b (now (knots .entry)) y precision limit rising k left wide count r ⌝ }
+    made: &mut u32,
+    ends: &mut [f64; 6],
+) -> usize
+    requires { ⌜ (k * stepOf b + 4 ≤ length (now (now knots)) + stepOf b) × (length (now (now knots)) ≤ 4096) × (0 < k) × (k ≤ 4096) × (left + wide ≤ k) × (now made + 2 * wide ≤ 90000) ⌝ }
+    ensures { λ r. ⌜ (HalveIs b (now (now (knots .entry))) y rising k left wide (now (made .entry)) r (now (made .exit)) (now (ends .exit))) × (now (made .exit) ≤ now (made .entry) + 2 * wide + 4) ⌝ }
 {
     if wide == 0 {
-        return last_tries(m, b, knots, y, precision, limit, k, left, count);
+        return last_tries(b, *knots, y, k, left, made, ends);
     }
     let half = (wide - 1) / 2;
     let mid = left + half;
-    let t = invert::enter(m, weights_at(b, knots, mid), mid, y, precision, limit, count);
-    match t {
-        Tried::Inside(p) => Inverted::At(p),
-        Tried::Outside(start) => {
-            if lies_before(rising, y, start) {
-                halve(m, b, knots, y, precision, limit, rising, k, left, half, count + 2)
-            } else {
-                halve(m, b, knots, y, precision, limit, rising, k, mid + 1, wide - 1 - half, count + 2)
-            }
-        }
+    let holds = probe(b, *knots, mid, y, &mut *ends);
+    *made = *made + 2;
+    if holds {
+        return mid;
+    }
+    if lies_before(rising, y, ends[4]) {
+        halve(b, knots, y, rising, k, left, half, made, ends)
+    } else {
+        halve(b, knots, y, rising, k, mid + 1, wide - 1 - half, made, ends)
     }
 }
 
-// Up to 12 segments in order, above by halving; `count` evaluations have been made before.
+// The segment to enter, or k: up to 12 segments in order, above by halving.
+fn sought(
+    b: Basis,
+    knots: &[f64],
+    y: f64,
+    rising: bool,
+    k: usize,
+    made: &mut u32,
+    ends: &mut [f64; 6],
+) -> usize
+    requires { ⌜ (k * stepOf b + 4 ≤ length (now knots) + stepOf b) × (length (now knots) ≤ 4096) × (0 < k) × (k ≤ 4096) × (now made ≤ 1000) ⌝ }
+    ensures { λ r. ⌜ (SoughtIs b (now (knots .entry)) y rising k (now (made .entry)) r (now (made .exit)) (now (ends .exit))) × (now (made .exit) ≤ 10000) ⌝ }
+{
+    if k <= 12 {
+        return tries(b, knots, y, k, 0, k, made, ends);
+    }
+    let lent = knots;
+    halve(b, &lent, y, rising, k, 0, k, made, ends)
+}
+
+// The search, and the place in the segment that it comes to; `count` evaluations have been made before.
 pub fn find(
     m: Weighing,
     b: Basis,
@@ -154,9 +175,17 @@ pub fn find(
     requires { ⌜ (k * stepOf b + 4 ≤ length (now knots) + stepOf b) × (length (now knots) ≤ 4096) × (0 < k) × (k ≤ 4096) × (count ≤ 1000) ⌝ }
     ensures { λ r. ⌜ FindIs m b (now (knots .entry)) y precision limit rising k count r ⌝ }
 {
-    if k <= 12 {
-        tries(m, b, knots, y, precision, limit, 0, k, count)
-    } else {
-        halve(m, b, knots, y, precision, limit, rising, k, 0, k, count)
+    let mut made = count;
+    let mut ends = [0.0, 0.0, 0.0, 0.0, 0.0, 0.0];
+    let s = sought(b, knots, y, rising, k, &mut made, &mut ends);
+    if s < k {
+        let w = Weights {
+            w0: ends[0],
+            w1: ends[1],
+            w2: ends[2],
+            w3: ends[3],
+        };
+        return Inverted::At(invert::entered(m, w, s, y, precision, limit, ends[4], ends[5], made));
     }
+    Inverted::OffCurve(made)
 }

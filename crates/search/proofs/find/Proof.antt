@@ -1,21 +1,36 @@
-use native.Mathlib.Nat.{lt-of-le-of-lt}
-use lib.Dec.{lit<}
-use Rattle.search.proofs.Calls.{found-few, found-many}
+use Rattle.search.proofs.Calls.{found-in, found-none}
 use borrow.Author.Needs.{needs}
 use Rattle.search.proofs.find.Statement.{statement}
 use Rattle.search.proofs.find.Tie as tie
 
-tries-requires : tie.Need-tries-requires
-tries-requires c κs = search needs
+sought-requires : tie.Need-sought-requires
+sought-requires c κs = search needs
 
-halve-requires : tie.Need-halve-requires
-halve-requires c κs = search needs
+entered-requires : tie.Need-entered-requires
+entered-requires c κs = search needs
 
 returns : tie.Need-returns
-returns c = found-few (c .before .before .before .args .m) (c .before .before .before .args .b) (c .before .before .before .args .knots .now) (c .before .before .before .args .y) (c .before .before .before .args .precision) (c .before .before .before .args .limit) (c .before .before .before .args .rising) (c .before .before .before .args .k) (c .before .if1 .taken) (c .tries .ensures)
+returns c =
+    let a = c .before .before .before .before .before .before .args in
+    found-in (a .b) (a .knots .now) (a .y) (a .m) (a .precision) (a .limit) (a .rising) (a .k) (c .before .before .sought .ensures .0) (c .before .if1 .taken) (c .entered .ensures)
 
 returns-2 : tie.Need-returns-2
-returns-2 c = found-many (c .before .before .before .args .m) (c .before .before .before .args .b) (c .before .before .before .args .knots .now) (c .before .before .before .args .y) (c .before .before .before .args .precision) (c .before .before .before .args .limit) (c .before .before .before .args .rising) (c .before .before .before .args .k) (c .before .if1 .left) (lt-of-le-of-lt (c .before .before .before .pre .3) (lit< tt)) (c .halve .ensures)
+returns-2 c =
+    let a = c .before .before .before .before .before .args in
+    found-none (a .b) (a .knots .now) (a .y) (a .m) (a .precision) (a .limit) (a .rising) (a .k) (c .before .sought .ensures .0) (c .if1 .left)
 
+-- the search, and a read of each of the six doubles that it keeps
 pub find-spec : {M : Type 1} → statement M
-find-spec = tie.close (tie.spec tries-requires halve-requires returns returns-2)
+find-spec =
+    tie.close
+    (tie.spec
+    sought-requires
+    (λ c. search needs)
+    (λ c. search needs)
+    (λ c. search needs)
+    (λ c. search needs)
+    (λ c. search needs)
+    (λ c. search needs)
+    entered-requires
+    returns
+    returns-2)

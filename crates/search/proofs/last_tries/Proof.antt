@@ -14,10 +14,16 @@ lesser-requires : tie.Need-lesser-requires
 lesser-requires c κs = search needs
 
 tries-requires : tie.Need-tries-requires
-tries-requires c κs = (fits-le (c .lesser .result) (c .before .before .before .args .k) _ _ (omega arith) (c .before .before .before .pre .0), c .before .before .before .pre .1, omega arith, omega arith, omega arith)
+tries-requires c κs =
+    let p = c .before .before .before .before .before .pre in
+    (fits-le (c .before .before .lesser .result) (c .before .before .before .before .before .args .k) _ _ (omega arith) (p .0), p .1, omega arith, omega arith, omega arith, omega arith)
 
 returns : tie.Need-returns
-returns c = last-tried (c .before .before .before .before .args .m) (c .before .before .before .before .args .b) (c .before .before .before .before .args .knots .now) (c .before .before .before .before .args .y) (c .before .before .before .before .args .precision) (c .before .before .before .before .args .limit) (c .before .before .before .before .args .k) (c .before .before .before .before .args .left) (c .before .before .one-less .result) (c .before .lesser .result) (c .before .before .one-less .ensures) (c .before .lesser .ensures) (c .tries .ensures)
+returns c =
+    let a = c .before .before .before .before .before .before .args in
+    let first = c .before .before .before .before .one-less in
+    let end = c .before .before .before .lesser in
+    (last-tried (a .b) (a .knots .now) (a .y) (a .k) (a .left) (first .result) (end .result) (first .ensures) (end .ensures) (c .tries .ensures .0), omega arith)
 
 pub last-tries-spec : {M : Type 1} → statement M
 last-tries-spec =

@@ -1,36 +1,33 @@
 use Prim.Native.Nat.{_+_, _-_, _*_, _≤_}
 use native.Mathlib.Omega.{arith}
-use borrow.Author.Needs.{needs}
-use Rattle.search.proofs.Calls.{fits-at, Carried, tries-start, tried-here, tries-hit, tries-miss, tries-end}
+use Rattle.search.proofs.Calls.{fits-at, Carried, tries-start, tries-hit, tries-miss, tries-end}
 use Rattle.search.proofs.tries.Statement.{statement}
 use Rattle.search.proofs.tries.Tie as tie
 
 abbrev Inv-loop : tie.InvT-loop
-Inv-loop m b knots y precision limit first end count s₀ made₀ s made = (s ≤ end) × (made ≤ count + 2 * s) × Carried m b knots y precision limit first end count s made
+Inv-loop b knots y k first end made₀ ends₀ s₀ made ends s = (first ≤ s) × (s ≤ end) × (made ≤ made₀ + 2 * (s - first)) × Carried b knots y first end made₀ s made
 
 abbrev μ-loop : tie.MeasureT-loop
-μ-loop m b knots y precision limit first end count s₀ made₀ s made = end - s
+μ-loop b knots y k first end made₀ ends₀ s₀ made ends s = end - s
 
 loop-holds : tie.Need-loop-holds Inv-loop μ-loop
-loop-holds c = (omega arith, omega arith, tries-start (c .before .args .m) (c .before .args .b) (c .before .args .knots .now) (c .before .args .y) (c .before .args .precision) (c .before .args .limit) _ _ _)
+loop-holds c =
+    let a = c .before .args in
+    (omega arith, omega arith, omega arith, tries-start (a .b) (a .knots .now) (a .y) _ _ _)
 
-weights-at-requires : tie.Need-weights-at-requires Inv-loop μ-loop
-weights-at-requires c κs = (fits-at (c .before .loop .s) (c .before .before .before .args .end) _ _ (omega arith) (c .before .before .before .pre .0), c .before .before .before .pre .1)
-
-enter-requires : tie.Need-enter-requires Inv-loop μ-loop
-enter-requires c κs = omega arith
-
-enum-known-t : tie.Need-enum-known-t Inv-loop μ-loop
-enum-known-t c = search needs
-
-returns : tie.Need-returns Inv-loop μ-loop
-returns c = tries-hit (c .before .before .before .before .before .before .before .before .args .m) (c .before .before .before .before .before .before .before .before .args .b) (c .before .before .before .before .before .before .before .before .args .knots .now) (c .before .before .before .before .before .before .before .before .args .y) (c .before .before .before .before .before .before .before .before .args .precision) (c .before .before .before .before .before .before .before .before .args .limit) (c .before .before .before .before .before .before .loop .s) (tried-here (c .before .before .before .before .before .before .before .before .args .m) (c .before .before .before .before .before .before .before .before .args .b) (c .before .before .before .before .before .before .before .before .args .knots .now) (c .before .before .before .before .before .before .before .before .args .y) (c .before .before .before .before .before .before .before .before .args .precision) (c .before .before .before .before .before .before .before .before .args .limit) (c .before .before .before .before .before .before .loop .s) (c .before .before .before .before .weights-at .ensures) (c .before .before .before .enter .ensures)) (omega arith) (c .before .before .before .before .before .before .loop .inv .2) (c .before .t .given .1)
-
-enum-told : tie.Need-enum-told Inv-loop μ-loop
-enum-told c = search needs
+probe-requires : tie.Need-probe-requires Inv-loop μ-loop
+probe-requires c κs =
+    let p = c .before .before .before .before .pre in
+    (fits-at (c .before .before .loop .s) (c .before .before .before .before .args .end) _ _ (omega arith) (p .0), p .1)
 
 add-made : tie.Need-add-made Inv-loop μ-loop
 add-made c = omega arith
+
+returns : tie.Need-returns Inv-loop μ-loop
+returns c =
+    let a = c .before .before .before .before .before .before .before .args in
+    let l = c .before .before .before .before .before .loop in
+    (tries-hit (a .b) (a .knots .now) (a .y) (l .s) (c .before .before .probe .ensures) (omega arith) (l .inv .3) (omega arith) (c .if1 .taken), omega arith)
 
 add-s : tie.Need-add-s Inv-loop μ-loop
 add-s c = omega arith
@@ -39,10 +36,15 @@ loop-less : tie.Need-loop-less Inv-loop μ-loop
 loop-less c = omega arith
 
 loop-again : tie.Need-loop-again Inv-loop μ-loop
-loop-again c = (omega arith, omega arith, tries-miss (c .before .before .before .before .before .before .before .args .m) (c .before .before .before .before .before .before .before .args .b) (c .before .before .before .before .before .before .before .args .knots .now) (c .before .before .before .before .before .before .before .args .y) (c .before .before .before .before .before .before .before .args .precision) (c .before .before .before .before .before .before .before .args .limit) (c .before .before .before .before .before .loop .s) (tried-here (c .before .before .before .before .before .before .before .args .m) (c .before .before .before .before .before .before .before .args .b) (c .before .before .before .before .before .before .before .args .knots .now) (c .before .before .before .before .before .before .before .args .y) (c .before .before .before .before .before .before .before .args .precision) (c .before .before .before .before .before .before .before .args .limit) (c .before .before .before .before .before .loop .s) (c .before .before .before .weights-at .ensures) (c .before .before .enter .ensures)) (omega arith) (c .before .before .before .before .before .loop .inv .2) (c .enum-told .given .1))
+loop-again c =
+    let a = c .before .before .before .before .before .before .before .args in
+    let l = c .before .before .before .before .before .loop in
+    (omega arith, omega arith, omega arith, tries-miss (a .b) (a .knots .now) (a .y) (l .s) (c .before .before .probe .ensures) (omega arith) (l .inv .3) (c .if1 .left))
 
 returns-2 : tie.Need-returns-2 Inv-loop μ-loop
-returns-2 c = tries-end (c .before .before .before .args .m) (c .before .before .before .args .b) (c .before .before .before .args .knots .now) (c .before .before .before .args .y) (c .before .before .before .args .precision) (c .before .before .before .args .limit) (omega arith) (c .before .loop .inv .2)
+returns-2 c =
+    let a = c .before .before .before .args in
+    (tries-end (a .b) (a .knots .now) (a .y) (a .k) (omega arith) (c .before .loop .inv .3), omega arith)
 
 pub tries-spec : {M : Type 1} → statement M
 tries-spec =
@@ -51,12 +53,9 @@ tries-spec =
     Inv-loop
     μ-loop
     loop-holds
-    weights-at-requires
-    enter-requires
-    enum-known-t
-    returns
-    enum-told
+    probe-requires
     add-made
+    returns
     add-s
     loop-less
     loop-again
