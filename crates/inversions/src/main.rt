@@ -144,7 +144,11 @@ fn judge_answer(a: Asked, y: f64, r: Inverted, bound: u32, knots: &[f64], tally:
         }
         Inverted::OffCurve(n) => {
             note(tally, 5);
-            judge_count(tally, n, bound);
+            if n < 1000000 {
+                judge_count(tally, n as u32, bound);
+            } else {
+                judge(tally, false);
+            }
         }
         Inverted::At(p) => {
             judge_place(a, y, p, bound, knots, tally);

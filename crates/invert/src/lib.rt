@@ -69,7 +69,7 @@ pub enum Tried {
 // An answer: refused by a row of the table, not on the curve after so many evaluations, or a place.
 pub enum Inverted {
     Refused(Refusal),
-    OffCurve(u32),
+    OffCurve(usize),
     At(Place),
 }
 

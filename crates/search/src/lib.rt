@@ -187,5 +187,5 @@ pub fn find(
         };
         return Inverted::At(invert::entered(m, w, s, y, precision, limit, ends[4], ends[5], made));
     }
-    Inverted::OffCurve(made)
+    Inverted::OffCurve(made as usize)
 }

@@ -111,7 +111,7 @@ fn place_told(a: Inverted, place: &mut [f64; 4], whole: &mut [usize; 3]) -> u8
             0
         }
         Inverted::OffCurve(n) => {
-            whole[2] = n as usize;
+            whole[2] = n;
             error::number(Refusal::OffCurve)
         }
         Inverted::Refused(r) => error::number(r),

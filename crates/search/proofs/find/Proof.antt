@@ -16,8 +16,8 @@ returns c =
 
 returns-2 : tie.Need-returns-2
 returns-2 c =
-    let a = c .before .before .before .before .before .args in
-    found-none (a .b) (a .knots .now) (a .y) (a .m) (a .precision) (a .limit) (a .rising) (a .k) (c .before .sought .ensures .0) (c .if1 .left)
+    let a = c .before .before .before .before .before .before .args in
+    found-none (a .b) (a .knots .now) (a .y) (a .m) (a .precision) (a .limit) (a .rising) (a .k) (c .before .before .sought .ensures .0) (c .before .if1 .left)
 
 -- the search, and a read of each of the six doubles that it keeps
 pub find-spec : {M : Type 1} → statement M

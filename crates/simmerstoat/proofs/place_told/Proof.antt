@@ -19,9 +19,6 @@ cast-t10 c = search needs
 enum-known-a-2 : tie.Need-enum-known-a-2
 enum-known-a-2 c = search needs
 
-cast-whole : tie.Need-cast-whole
-cast-whole c = search needs
-
 element-write-whole : tie.Need-element-write-whole
 element-write-whole c = search needs
 
@@ -61,7 +58,6 @@ place-told-spec =
     ground-number-requires
     cast-t10
     enum-known-a-2
-    cast-whole
     element-write-whole
     number-requires
     enum-known-a-3
