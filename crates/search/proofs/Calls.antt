@@ -1,5 +1,5 @@
 -- The searches, put together from what the code's calls give. Assumes nothing.
-use mathlib.Core.Path.{_≡_, refl, sym, ap, _∙_}
+use mathlib.Core.Path.{_≡_, refl, sym, ap, subst, _∙_}
 use mathlib.Core.List.{List, [], _∷_}
 use mathlib.Core.Bool.{Bool, true, false, cond}
 use Prim.Native.Nat.{ℕ, zero, suc, _+_, _-_, _*_, _/_, _^_, _<_, _≤_, min}
@@ -26,7 +26,7 @@ use Rattle.invert.proofs.Ends.{both}
 use Rattle.search.specs.Bound.{bitsOf}
 use Rattle.search.specs.Search.{before, Trial, tries, last, halve, find}
 use Rattle.search.specs.Trial.{trial}
-use Rattle.search.specs.Shown.{keptOf, TestedIs, went, Seeks, TriesIs, LastIs, HalveIs, SoughtIs, FindIs}
+use Rattle.search.specs.Shown.{SettledIs, TestedIs, went, Seeks, TriesIs, LastIs, HalveIs, SoughtIs, FindIs}
 use Rattle.search.proofs.Digits.{bits-enough}
 
 -- ---- where a segment lies
@@ -36,23 +36,20 @@ fits-le t k step n h l = let q : t * step ≤ k * step = mul-le-mul-right step h
 pub fits-at : (s k step n : ℕ) → s < k → k * step + 4 ≤ n + step → s * step + 4 ≤ n
 fits-at s k step n h l = let q : suc s * step ≤ k * step = mul-le-mul-right step h in omega (arith, suc-mul s step)
 
--- ---- the ends of segment s, from its row sums
-pub tested : (b : Basis) (ks : List Float) (s : ℕ) (y : Float) {w : Weights} {v0 v1 : Float} {h : Bool} → w ≡ weightsOf (matrixOf b) (drop (s * stepOf b) ks) → v0 ≡ hornerOf w nought → v1 ≡ hornerOf w one → h ≡ encloses v0 v1 y
-    → TestedIs b ks s y (w .w0 ∷ w .w1 ∷ w .w2 ∷ w .w3 ∷ v0 ∷ v1 ∷ []) h
-tested b ks s y {w} {v0} {v1} e e0 e1 eh =
-    let p0 = e0 ∙ ap (λ (w : Weights). hornerOf w nought) e in
-    let p1 = e1 ∙ ap (λ (w : Weights). hornerOf w one) e in
+-- ---- the ends of a segment, from its row sums
+pub settled : {y : Float} (w : Weights) {v0 v1 : Float} {h : Bool} → v0 ≡ hornerOf w nought → v1 ≡ hornerOf w one → h ≡ encloses v0 v1 y → SettledIs w y (w .w0 ∷ w .w1 ∷ w .w2 ∷ w .w3 ∷ v0 ∷ v1 ∷ []) h
+settled {y} w {v0} {v1} e0 e1 eh =
     record {
-      kept-is = ap (λ (x : Weights). x .w0 ∷ x .w1 ∷ x .w2 ∷ x .w3 ∷ v0 ∷ v1 ∷ []) e
-          ∙ ap (λ (v : Float). behind v v1) p0
-          ∙ ap (λ (v : Float). behind (segmentOf b ks s nought) v) p1;
-      holds-is = eh ∙ ap (λ (v : Float). encloses v v1 y) p0 ∙ ap (λ (v : Float). encloses (segmentOf b ks s nought) v y) p1;
+      kept-is = ap (λ (v : Float). w .w0 ∷ w .w1 ∷ w .w2 ∷ w .w3 ∷ v ∷ v1 ∷ []) e0 ∙ ap (λ (v : Float). w .w0 ∷ w .w1 ∷ w .w2 ∷ w .w3 ∷ hornerOf w nought ∷ v ∷ []) e1;
+      holds-is = eh ∙ ap (λ (v : Float). encloses v v1 y) e0 ∙ ap (λ (v : Float). encloses (hornerOf w nought) v y) e1;
     }
-  where
-    behind : Float → Float → List Float
-    behind v z =
-        let x = weightsOf (matrixOf b) (drop (s * stepOf b) ks) in
-        x .w0 ∷ x .w1 ∷ x .w2 ∷ x .w3 ∷ v ∷ z ∷ []
+
+pub settled-by : (b d : Basis) (m : List (List Float)) (cv : List Float) {w : Weights} {e : List Float} {y : Float} {h : Bool} → b ≡ d → m ≡ matrixOf d → w ≡ weightsOf m cv → SettledIs w y e h → SettledIs (weightsOf (matrixOf b) cv) y e h
+settled-by b d m cv {e = e} {y = y} {h = h} p q r i =
+    subst (λ (w : Weights). SettledIs w y e h) (r ∙ ap (λ (m : List (List Float)). weightsOf m cv) (q ∙ ap matrixOf (sym p))) i
+
+pub settled-at : (b : Basis) (p q : List Float) {e : List Float} {y : Float} {h : Bool} → p ≡ q → SettledIs (weightsOf (matrixOf b) p) y e h → SettledIs (weightsOf (matrixOf b) q) y e h
+settled-at b p q {e} {y} {h} r i = subst (λ (cv : List Float). SettledIs (weightsOf (matrixOf b) cv) y e h) r i
 
 -- ---- what a search comes to
 module _ (g : ℕ → Float → Float) (y : Float) (k s : ℕ) (W : Weighting) (ε : Float) (limit : ℕ) (t : Evaluations) where

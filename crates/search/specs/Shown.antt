@@ -9,7 +9,8 @@ use lib.Ieee.{Float}
 use Rattle.basis.specs.declared.Basis.{Basis}
 use Rattle.basis.specs.Basis.{stepOf, matrixOf}
 use Rattle.doubles.specs.Numbers.{nought, one}
-use Rattle.spline.specs.Segment.{weightsOf, segmentOf}
+use Rattle.spline.specs.declared.Weights.{Weights}
+use Rattle.spline.specs.Segment.{weightsOf, hornerOf, segmentOf}
 use Rattle.invert.specs.declared.Inverted.{Inverted}
 use Rattle.invert.specs.declared.Weighing.{Weighing}
 use Rattle.invert.specs.Evaluations.{Evaluations}
@@ -23,16 +24,20 @@ use Rattle.search.specs.Trial.{trial}
 abbrev pub Is : (Evaluations → Outcome) → ℕ → Inverted → Type 0
 Is o n r = (ev : Evaluations) → length ev ≡ n → r ≡ answered alone (o ev)
 
--- what is kept of segment s: its row sums, and the values of both its ends
-abbrev pub keptOf : Basis → List Float → ℕ → List Float
-keptOf b ks s =
-    let w = weightsOf (matrixOf b) (drop (s * stepOf b) ks) in
-    w .w0 ∷ w .w1 ∷ w .w2 ∷ w .w3 ∷ segmentOf b ks s nought ∷ segmentOf b ks s one ∷ []
+-- what is kept of a segment: its row sums, and the values of both its ends
+abbrev pub keptOf : Weights → List Float
+keptOf w = w .w0 ∷ w .w1 ∷ w .w2 ∷ w .w3 ∷ hornerOf w nought ∷ hornerOf w one ∷ []
 
--- and whether they enclose y
-pub record TestedIs (b : Basis) (ks : List Float) (s : ℕ) (y : Float) (e : List Float) (r : Bool) : Type 0 where
-  pub kept-is : e ≡ keptOf b ks s
-  pub holds-is : r ≡ encloses (segmentOf b ks s nought) (segmentOf b ks s one) y
+-- this, and whether the ends enclose y
+pub record SettledIs (w : Weights) (y : Float) (e : List Float) (r : Bool) : Type 0 where
+  pub kept-is : e ≡ keptOf w
+  pub holds-is : r ≡ encloses (hornerOf w nought) (hornerOf w one) y
+
+abbrev pub weightsAt : Basis → List Float → ℕ → Weights
+weightsAt b ks s = weightsOf (matrixOf b) (drop (s * stepOf b) ks)
+
+abbrev pub TestedIs : Basis → List Float → ℕ → Float → List Float → Bool → Type 0
+TestedIs b ks s = SettledIs (weightsAt b ks s)
 
 -- segment s of k is entered after both its ends were evaluated; where s is k, none is
 abbrev pub went : (ℕ → Float → Float) → Float → ℕ → ℕ → Weighting → Float → ℕ → Evaluations → Outcome
@@ -42,7 +47,7 @@ module _ (b : Basis) (ks : List Float) (y : Float) where
   -- a search that comes to segment r of k, whatever the n evaluations before it were: m have been made by then, and e is what it keeps of segment r
   pub record Seeks (o : Trial → Evaluations → Outcome) (k n r m : ℕ) (e : List Float) : Type 0 where
     pub comes-to : (ev : Evaluations) → length ev ≡ n → (t : Evaluations) × (length t ≡ m) × ((W : Weighting) (ε : Float) (limit : ℕ) → o (trial W (segmentOf b ks) y ε limit) ev ≡ went (segmentOf b ks) y k r W ε limit t)
-    pub keeps : r < k → e ≡ keptOf b ks r
+    pub keeps : r < k → e ≡ keptOf (weightsAt b ks r)
 
   abbrev pub TriesIs : ℕ → ℕ → ℕ → ℕ → ℕ → ℕ → List Float → Type 0
   TriesIs n s = Seeks (λ E. tries E n s)

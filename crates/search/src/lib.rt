@@ -6,7 +6,7 @@ ghost use Rattle.basis.specs.Basis.{stepOf, matrixOf};
 ghost use Rattle.spline.specs.Segment.{weightsOf};
 ghost use Rattle.search.specs.Bound.{bitsOf, boundOf};
 ghost use Rattle.search.specs.Search.{before};
-ghost use Rattle.search.specs.Shown.{TestedIs, TriesIs, LastIs, HalveIs, SoughtIs, FindIs};
+ghost use Rattle.search.specs.Shown.{SettledIs, TestedIs, TriesIs, LastIs, HalveIs, SoughtIs, FindIs};
 use basis::Basis;
 use invert::Inverted;
 use invert::Weighing;
@@ -39,16 +39,62 @@ pub fn weights_at(b: Basis, knots: &[f64], s: usize) -> Weights
     spline::segment::weights(b, &knots[start..])
 }
 
-// Both ends of segment s are evaluated, once, and kept behind its four row sums: do they enclose y?
-pub fn probe(b: Basis, knots: &[f64], s: usize, y: f64, ends: &mut [f64; 6]) -> bool
-    requires { ⌜ (s * stepOf b + 4 ≤ length (now knots)) × (length (now knots) ≤ 4096) ⌝ }
-    ensures { λ r. ⌜ TestedIs b (now (knots .entry)) s y (now (ends .exit)) r ⌝ }
+// Both ends of the segment with these row sums are evaluated, once, and kept behind them: do they enclose y?
+fn settle(w: Weights, y: f64, ends: &mut [f64; 6]) -> bool
+    ensures { λ r. ⌜ SettledIs w y (now (ends .exit)) r ⌝ }
 {
-    let w = weights_at(b, knots, s);
     let v0 = spline::segment::horner(w, 0.0);
     let v1 = spline::segment::horner(w, 1.0);
     *ends = [w.w0, w.w1, w.w2, w.w3, v0, v1];
     invert::encloses(v0, v1, y)
+}
+
+// A match on the basis, so that each matrix is known where it is used, and no row sum is computed through memory.
+fn settle_by(b: Basis, cv: &[f64], y: f64, ends: &mut [f64; 6]) -> bool
+    requires { ⌜ 4 ≤ length (now cv) ⌝ }
+    ensures { λ r. ⌜ SettledIs (weightsOf (matrixOf b) (now (cv .entry))) y (now (ends .exit)) r ⌝ }
+{
+    match b {
+        Basis::Bspline => settle(
+            spline::segment::sums(basis::basis_macros::bspline(), cv),
+            y,
+            ends,
+        ),
+        Basis::Bezier => settle(
+            spline::segment::sums(basis::basis_macros::bezier(), cv),
+            y,
+            ends,
+        ),
+        Basis::CatmullRom => settle(
+            spline::segment::sums(basis::basis_macros::catmull_rom(), cv),
+            y,
+            ends,
+        ),
+        Basis::Hermite => settle(
+            spline::segment::sums(basis::basis_macros::hermite(), cv),
+            y,
+            ends,
+        ),
+        Basis::Linear => settle(
+            spline::segment::sums(basis::basis_macros::linear(), cv),
+            y,
+            ends,
+        ),
+        Basis::Power => settle(
+            spline::segment::sums(basis::basis_macros::power(), cv),
+            y,
+            ends,
+        ),
+    }
+}
+
+// Segment s is tested.
+pub fn probe(b: Basis, knots: &[f64], s: usize, y: f64, ends: &mut [f64; 6]) -> bool
+    requires { ⌜ (s * stepOf b + 4 ≤ length (now knots)) × (length (now knots) ≤ 4096) ⌝ }
+    ensures { λ r. ⌜ TestedIs b (now (knots .entry)) s y (now (ends .exit)) r ⌝ }
+{
+    let start = s * basis::step(b);
+    settle_by(b, &knots[start..], y, ends)
 }
 
 // The segments from `first` up to below `end`, in order: the first whose ends enclose the target; k, where none has such ends.

@@ -1,28 +1,47 @@
-use lib.Ieee.{ofBits}
-use Rattle.search.proofs.Calls.{tested}
+use mathlib.Core.Path.{ap, _∙_}
+use Prim.Native.Nat.{ℕ, _*_}
+use lib.ListN.{drop}
+use Rattle.spline.proofs.Parts.{rest}
+use Rattle.search.proofs.Calls.{settled-at}
 use borrow.Author.Needs.{needs}
 use Rattle.search.proofs.probe.Statement.{statement}
 use Rattle.search.proofs.probe.Tie as tie
 
-weights-at-requires : tie.Need-weights-at-requires
-weights-at-requires c κs = search needs
+step-requires : tie.Need-step-requires
+step-requires c κs = search needs
 
-horner-requires : tie.Need-horner-requires
-horner-requires c κs = search needs
+mul-start : tie.Need-mul-start
+mul-start c = let e = ap (λ (x : ℕ). c .before .before .args .s * x) (c .step .ensures .0) in search (needs, e)
 
-horner-requires-2 : tie.Need-horner-requires-2
-horner-requires-2 c κs = search needs
+mul-settle-by : tie.Need-mul-settle-by
+mul-settle-by c = let e = ap (λ (x : ℕ). c .before .before .args .s * x) (c .step .ensures .0) in search (needs, e)
 
-encloses-requires : tie.Need-encloses-requires
-encloses-requires c κs = search needs
+sub-settle-by : tie.Need-sub-settle-by
+sub-settle-by c = let e = ap (λ (x : ℕ). c .before .before .args .s * x) (c .step .ensures .0) in search (needs, e)
+
+part-settle-by-start : tie.Need-part-settle-by-start
+part-settle-by-start c = let e = ap (λ (x : ℕ). c .before .before .args .s * x) (c .step .ensures .0) in search (needs, e)
+
+part-settle-by-end : tie.Need-part-settle-by-end
+part-settle-by-end c = search needs
+
+settle-by-requires : tie.Need-settle-by-requires
+settle-by-requires c κs = let e = ap (λ (x : ℕ). c .before .before .before .before .args .s * x) (c .before .before .step .ensures .0) in search (needs, e)
 
 returns : tie.Need-returns
-unfolding ofBits
 returns c =
-    let a = c .before .before .before .before .before .before .args in
-    tested (a .b) (a .knots .now) (a .s) (a .y) (c .before .before .before .before .weights-at .ensures) (c .before .before .before .horner .ensures) (c .before .before .horner2 .ensures) (c .encloses .ensures)
+    let a = c .before .before .before .before .before .args in
+    settled-at (a .b) _ _ (rest _ (a .knots .now) ∙ ap (λ (x : ℕ). drop (a .s * x) (a .knots .now)) (c .before .before .before .step .ensures .0)) (c .settle-by .ensures)
 
 pub probe-spec : {M : Type 1} → statement M
 probe-spec =
     tie.close
-    (tie.spec weights-at-requires horner-requires horner-requires-2 encloses-requires returns)
+    (tie.spec
+    step-requires
+    mul-start
+    mul-settle-by
+    sub-settle-by
+    part-settle-by-start
+    part-settle-by-end
+    settle-by-requires
+    returns)
