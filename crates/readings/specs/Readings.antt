@@ -20,6 +20,7 @@ use Rattle.invert.specs.declared.Ground.{Ground}
 use Rattle.invert.specs.declared.Ground.the-variants.{End, Edge, Value}
 use Rattle.invert.specs.declared.Inverted.{Inverted}
 use Rattle.invert.specs.declared.Inverted.the-variants as I
+use Rattle.invert.specs.declared.Weighing.the-variants as W
 use Rattle.invert.specs.Answer.{defaultLimit, defaultPrecision}
 use Rattle.inverse.specs.Inverse.{inverseBy, inverseOf, inverseEvaluations}
 use Rattle.inverse.specs.declared.Mode.the-variants.{Curve}
@@ -83,7 +84,7 @@ abbrev pub answer : Asked → Told
 answer (knots-of b n) = ofVerdict (first (curveLength b n))
 answer (at b ks x) = ofEvaluated (splineOf b x ks)
 answer (place-of b ks y check ε) = ofInverted (inverseOf b y ks check defaultLimit ε)
-answer (own-place-of b ks y check ε) = ofInverted (inverseBy Curve b y ks check defaultLimit ε)
+answer (own-place-of b ks y check ε) = ofInverted (inverseBy Curve W.Value b y ks check defaultLimit ε)
 answer (visited b ks y) = segments (reverse (map (λ e. e .0) (inverseEvaluations b y ks true defaultLimit defaultPrecision)))
 answer (turned from to ks) = ofConversion (convertedOf from to ks 4096)
 
