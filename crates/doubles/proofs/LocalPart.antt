@@ -50,7 +50,7 @@ between a c k C h = (round-mono binary64 0 1 a c (lit< tt) C (simp zero-mul (ome
 product-le : (a b c d k : ℕ) → a ≤ c → b * 1 ≡ k * d → a * b ≤ k * (c * d)
 product-le a b c d k h e = le-trans (mul-le-mul h (le-of-eq (sym (mul-one b) ∙ e))) (le-of-eq (sym (mul-assoc c k d) ∙ (ap (λ (z : ℕ). z * d) (mul-comm c k) ∙ mul-assoc k c d)))
 
-product : (x y : Float) (k : ℕ) → HasValue y false k 1 → InOne x → T (le nought (mul binary64 x y)) × T (le (mul binary64 x y) (double k))
+pub product : (x y : Float) (k : ℕ) → HasValue y false k 1 → InOne x → T (le nought (mul binary64 x y)) × T (le (mul binary64 x y) (double k))
 unfolding mul le lt eq
 product nan y k v u = absurd (u .low)
 product (inf true) y k v u = absurd (u .low)
@@ -68,7 +68,7 @@ product (fin true m e) (fin false n d) k v u =
 
 -- ---- the rest
 -- y is at least the whole part, and at most one more
-whole-low : (m : ℕ) (y : Float) → T (le nought y) → T (le (double (wholeUpTo m y)) y)
+pub whole-low : (m : ℕ) (y : Float) → T (le nought y) → T (le (double (wholeUpTo m y)) y)
 unfolding wholeUpTo ofInt
 whole-low zero y h = h
 whole-low (suc m) y h = branch (λ (n : ℕ). T (le (double n) y)) (le (double (suc m)) y) (λ t. t) (λ t. whole-low m y h)

@@ -152,7 +152,7 @@ in-order f (fin false m e) (fin false n d) a b v w h =
 
 -- ---- whole numbers
 -- a value in other units
-scale-up : (x : Float) (n c : ℕ) → HasValue x false n 1 → HasValue x false (n * c) c
+pub scale-up : (x : Float) (n c : ℕ) → HasValue x false n 1 → HasValue x false (n * c) c
 scale-up nan n c v = v
 scale-up (inf s) n c v = v
 scale-up (fin s m e) n c v = (v .0, ap (λ (z : ℕ). z * c) (sym (mul-one (m * up e)) ∙ v .1) ∙ mul-right-comm n (down e) c)
