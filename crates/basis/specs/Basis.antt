@@ -1,4 +1,4 @@
--- The six bases: STEP, the length rule, and the matrices, each entry the double nearest to its fraction. Definitions only.
+-- The six bases: STEP, the length rule, and the matrices, each entry the double nearest to a fraction of whole numbers. Definitions only.
 use mathlib.Core.List.{List, [], _∷_}
 use mathlib.Core.Bool.{Bool, true, false, _&&_}
 use Prim.Native.Nat.{ℕ, suc, _-_, _+_, _/_, _%_}
@@ -27,16 +27,6 @@ lengthOk b n = leb 4 n && regular b n
 -- n knots give (n − 4)/STEP + 1 segments
 abbrev pub segmentsOf : Basis → ℕ → ℕ
 segmentsOf b n = (n - 4) / stepOf b + 1
-
--- the double nearest to z / d
-unfoldable pub frac : ℕ → ℤ → Float
-unfolding round
-frac d (pos n) = round binary64 false n d
-frac d (negsuc n) = round binary64 true (suc n) d
-
-unfoldable pub row : ℕ → ℤ → ℤ → ℤ → ℤ → List Float
-unfolding frac
-row d a b c e = frac d a ∷ frac d b ∷ frac d c ∷ frac d e ∷ []
 
 -- whole numbers, signed
 abbrev -6 : ℤ
@@ -69,45 +59,74 @@ abbrev +3 : ℤ
 abbrev +4 : ℤ
 +4 = pos 4
 
--- four rows of four
-unfoldable pub matrixOf : Basis → List (List Float)
+-- the whole numbers that a matrix is made of, four rows of four
+abbrev pub wholeOf : Basis → List (List ℤ)
+wholeOf Bspline =
+    (-1 ∷ +3 ∷ -3 ∷ +1 ∷ []) ∷
+    (+3 ∷ -6 ∷ +3 ∷ +0 ∷ []) ∷
+    (-3 ∷ +0 ∷ +3 ∷ +0 ∷ []) ∷
+    (+1 ∷ +4 ∷ +1 ∷ +0 ∷ []) ∷
+    []
+wholeOf Bezier =
+    (-1 ∷ +3 ∷ -3 ∷ +1 ∷ []) ∷
+    (+3 ∷ -6 ∷ +3 ∷ +0 ∷ []) ∷
+    (-3 ∷ +3 ∷ +0 ∷ +0 ∷ []) ∷
+    (+1 ∷ +0 ∷ +0 ∷ +0 ∷ []) ∷
+    []
+wholeOf CatmullRom =
+    (-1 ∷ +3 ∷ -3 ∷ +1 ∷ []) ∷
+    (+2 ∷ -5 ∷ +4 ∷ -1 ∷ []) ∷
+    (-1 ∷ +0 ∷ +1 ∷ +0 ∷ []) ∷
+    (+0 ∷ +2 ∷ +0 ∷ +0 ∷ []) ∷
+    []
+wholeOf Hermite =
+    (+2 ∷ +1 ∷ -2 ∷ +1 ∷ []) ∷
+    (-3 ∷ -2 ∷ +3 ∷ -1 ∷ []) ∷
+    (+0 ∷ +1 ∷ +0 ∷ +0 ∷ []) ∷
+    (+1 ∷ +0 ∷ +0 ∷ +0 ∷ []) ∷
+    []
+wholeOf Linear =
+    (+0 ∷ +0 ∷ +0 ∷ +0 ∷ []) ∷
+    (+0 ∷ +0 ∷ +0 ∷ +0 ∷ []) ∷
+    (+0 ∷ -1 ∷ +1 ∷ +0 ∷ []) ∷
+    (+0 ∷ +1 ∷ +0 ∷ +0 ∷ []) ∷
+    []
+wholeOf Power =
+    (+1 ∷ +0 ∷ +0 ∷ +0 ∷ []) ∷
+    (+0 ∷ +1 ∷ +0 ∷ +0 ∷ []) ∷
+    (+0 ∷ +0 ∷ +1 ∷ +0 ∷ []) ∷
+    (+0 ∷ +0 ∷ +0 ∷ +1 ∷ []) ∷
+    []
+
+-- and the one that divides them
+abbrev pub divisorOf : Basis → ℕ
+divisorOf Bspline = 6
+divisorOf Bezier = 1
+divisorOf CatmullRom = 2
+divisorOf Hermite = 1
+divisorOf Linear = 1
+divisorOf Power = 1
+
+-- the double nearest to z / d
+unfoldable pub frac : ℕ → ℤ → Float
+unfolding round
+frac d (pos n) = round binary64 false n d
+frac d (negsuc n) = round binary64 true (suc n) d
+
+unfoldable pub row : ℕ → List ℤ → List Float
+unfolding frac
+row d [] = []
+row d (z ∷ zs) = frac d z ∷ row d zs
+
+unfoldable pub rows : ℕ → List (List ℤ) → List (List Float)
 unfolding row
-matrixOf Bspline =
-    row 6 -1 +3 -3 +1 ∷
-    row 6 +3 -6 +3 +0 ∷
-    row 6 -3 +0 +3 +0 ∷
-    row 6 +1 +4 +1 +0 ∷
-    []
-matrixOf Bezier =
-    row 1 -1 +3 -3 +1 ∷
-    row 1 +3 -6 +3 +0 ∷
-    row 1 -3 +3 +0 +0 ∷
-    row 1 +1 +0 +0 +0 ∷
-    []
-matrixOf CatmullRom =
-    row 2 -1 +3 -3 +1 ∷
-    row 2 +2 -5 +4 -1 ∷
-    row 2 -1 +0 +1 +0 ∷
-    row 2 +0 +2 +0 +0 ∷
-    []
-matrixOf Hermite =
-    row 1 +2 +1 -2 +1 ∷
-    row 1 -3 -2 +3 -1 ∷
-    row 1 +0 +1 +0 +0 ∷
-    row 1 +1 +0 +0 +0 ∷
-    []
-matrixOf Linear =
-    row 1 +0 +0 +0 +0 ∷
-    row 1 +0 +0 +0 +0 ∷
-    row 1 +0 -1 +1 +0 ∷
-    row 1 +0 +1 +0 +0 ∷
-    []
-matrixOf Power =
-    row 1 +1 +0 +0 +0 ∷
-    row 1 +0 +1 +0 +0 ∷
-    row 1 +0 +0 +1 +0 ∷
-    row 1 +0 +0 +0 +1 ∷
-    []
+rows d [] = []
+rows d (r ∷ rs) = row d r ∷ rows d rs
+
+-- four rows of four doubles
+unfoldable pub matrixOf : Basis → List (List Float)
+unfolding rows
+matrixOf b = rows (divisorOf b) (wholeOf b)
 
 -- the one basis whose matrix has no inverse
 abbrev pub isLinear : Basis → Bool
