@@ -15,7 +15,7 @@ use lib.Ieee.Order.{drop, kept}
 use lib.Ieee.Scale.{grid, overflow, finite}
 use Rattle.doubles.specs.Numbers.{nought, one, clamp}
 use Rattle.doubles.proofs.Tests.{branch}
-use Rattle.doubles.proofs.Order.{at-most, at-least, le-trans-float, not-lt→le}
+use Rattle.doubles.proofs.Order.{of-Le, at-most, at-least, le-trans-float, not-lt→le}
 use Rattle.doubles.proofs.Rounding.{grid-le}
 
 abbrev pub Size : ℕ → Float → Type 0
@@ -59,6 +59,9 @@ size-of-value nan s g l a L v h = v
 size-of-value (inf t) s g l a L v h = v
 size-of-value (fin t m e) s g l a L v h =
     le-of-mul-le-mul-right (le-trans (le-of-eq (v .1)) (le-trans (mul-le-mul-right (down e) h) (le-of-eq (mul-right-comm (2 ^ a) l (down e))))) L
+
+pub value-within : (x : Float) (s : Bool) (g l a : ℕ) → 0 < l → HasValue x s g l → g ≤ 2 ^ a * l → Within a x
+value-within x s g l a L v h = record { held = size-of-value x s g l a L v h }
 
 one-digit : (f : Format) → 1 < 2 ^ prec f
 one-digit f = pow-lt {i = 0} (le-trans (lit≤ tt) (two f))
@@ -125,6 +128,17 @@ between a (fin false m e) l h = simp (mul-one, one-mul) at (at-most (m * up e * 
 
 pub between-within : (a : ℕ) (x : Float) → T (le (fin true 1 (pos a)) x) → T (le x (fin false 1 (pos a))) → Within a x
 between-within a x l h = record { held = between a x l h }
+
+-- and back
+sized-between : (a : ℕ) (x : Float) → Size a x → T (le (fin true 1 (pos a)) x) × T (le x (fin false 1 (pos a)))
+unfolding le lt eq
+sized-between a nan w = absurd w
+sized-between a (inf s) w = absurd w
+sized-between a (fin true m e) w = (of-Le true (1 * 2 ^ a * down e) true (m * up e * 1) (simp (mul-one, one-mul) w), of-Le true (m * up e * 1) false (1 * 2 ^ a * down e) tt)
+sized-between a (fin false m e) w = (of-Le true (1 * 2 ^ a * down e) false (m * up e * 1) tt, of-Le false (m * up e * 1) false (1 * 2 ^ a * down e) (simp (mul-one, one-mul) w))
+
+pub within-between : {a : ℕ} {x : Float} → Within a x → T (le (fin true 1 (pos a)) x) × T (le x (fin false 1 (pos a)))
+within-between {a} {x} w = sized-between a x (w .held)
 
 minus-one-below : T (le (fin true 1 (pos 0)) nought)
 unfolding le

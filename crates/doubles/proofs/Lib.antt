@@ -8,3 +8,4 @@ pub mod Reciprocal
 pub mod Share
 pub mod WholePart
 pub mod LocalPart
+pub mod Exact

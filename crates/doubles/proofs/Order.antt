@@ -21,7 +21,7 @@ at-least a b t h = or-elim (ltb b a) (eqb a b && t) (λ p. le-of-lt (ltb→lt b 
 
 -- ---- the order of two signed numbers
 -- ±a ≤ ±b
-abbrev Le : Bool → ℕ → Bool → ℕ → Type 0
+abbrev pub Le : Bool → ℕ → Bool → ℕ → Type 0
 Le false a false b = a ≤ b
 Le false a true b = (a ≡ 0) × (b ≡ 0)
 Le true a false b = Unit
@@ -35,7 +35,7 @@ Le-of false a true b h =
 Le-of true a false b h = tt
 Le-of true a true b h = at-least a b true h
 
-of-Le : (s : Bool) (a : ℕ) (t : Bool) (b : ℕ) → Le s a t b → T (below s a t b || level s a t b)
+pub of-Le : (s : Bool) (a : ℕ) (t : Bool) (b : ℕ) → Le s a t b → T (below s a t b || level s a t b)
 of-Le false a false b h = elim (eq-or-lt-of-le h) [ inl e ↦ or-r (ltb a b) (eqb a b && true) (and-i (eqb a b) true (eq→eqb e) tt) | inr l ↦ or-l (ltb a b) (eqb a b && true) (lt→ltb a b l) ]
 of-Le false a true b h = and-i (eqb a b) (eqb a 0) (eq→eqb (h .0 ∙ sym (h .1))) (eq→eqb (h .0))
 of-Le true a false b h =

@@ -1,3 +1,4 @@
 pub mod Numbers
 pub mod Lerp
 pub mod Whole
+pub mod Number
