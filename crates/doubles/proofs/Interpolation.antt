@@ -34,7 +34,7 @@ many : (f : Format) → 99 ≤ 2 ^ (prec f - 1)
 many binary32 = lit≤ tt
 many binary64 = lit≤ tt
 
-part : (f : Format) (x a b : ℕ) → 0 < b → 100 * a ≤ 99 * b → grid f (grid f x (2 ^ low f) * a) (2 ^ low f * b) ≤ x
+pub part : (f : Format) (x a b : ℕ) → 0 < b → 100 * a ≤ 99 * b → grid f (grid f x (2 ^ low f) * a) (2 ^ low f * b) ≤ x
 part f x a b B h =
     let l = low f in
     let c = 2 ^ l in

@@ -1,4 +1,4 @@
--- One round: the bracket stays in 0 to 1 and keeps the target between its values. For any weighting that keeps the places,
+-- One round: the bracket stays in 0 to 1 and keeps the target between its values. For any lawful rule,
 -- and any function of the local place that is a number on 0 to 1. Assumes nothing.
 use mathlib.Core.Path.{_≡_, sym, subst₂}
 use mathlib.Core.Logic.{_⊎_}
@@ -20,9 +20,9 @@ use Rattle.invert.specs.declared.Ground.the-variants.{End, Edge, Value, 
 use Rattle.invert.specs.declared.Bracket.{Bracket}
 use Rattle.invert.specs.declared.State.{State}
 use Rattle.invert.specs.Evaluations.{Evaluations}
-use Rattle.invert.specs.Round.{greater, narrow, midpoint, Weighting, weighed, kept, fraction, moved, Turn, found, on, settled, probed, turn}
+use Rattle.invert.specs.Round.{greater, narrow, midpoint, Rule, moved, Turn, found, on, settled, probed, turn}
 use Rattle.invert.specs.Segment.{near}
-use Rattle.invert.proofs.Weighting.{Keeps}
+use Rattle.invert.proofs.Rules.{Placing, Lawful, half-inside}
 
 -- the target is a number, and so is each value on 0 to 1
 pub record Numbers (f : Float → Float) (y : Float) : Type 0 where
@@ -39,34 +39,6 @@ pub record Bracketed (f : Float → Float) (y : Float) (rising : Bool) (lower up
 
 inside-in : {lower upper x : Float} → Inside lower upper x → InUnit upper → InUnit x
 inside-in {lower} {upper} {x} i u = record { sign = i .sign; held = i .held; top = le-trans-float x upper one (i .below) (u .top) }
-
--- ---- the fraction
-clear-between : (t : Float) → T (lt hundredth t) → T (lt t ninetyNineHundredths) → T (clear t)
-unfolding lt
-clear-between nan h k = h
-clear-between (inf true) h k = h
-clear-between (inf false) h k = k
-clear-between (fin true m e) h k = h
-clear-between (fin false m e) h k = tt
-
-record Part (t : Float) : Type 0 where
-  sign : T (clear t)
-  under : T (lt t ninetyNineHundredths)
-
-half-part : Part half
-unfolding lt
-half-part = record { sign = tt; under = tt }
-
-kept-part : (t : Float) → Part (kept t)
-unfolding kept
-kept-part t =
-    let a = lt hundredth t in
-    let b = lt t ninetyNineHundredths in
-    branch Part (a && b) (λ h. record { sign = clear-between t (and-l a b h) (and-r a b h); under = and-r a b h }) (λ _. half-part)
-
-fraction-part : (y : Float) (regula : Bool) (b : Bracket) → Part (fraction y regula b)
-unfolding fraction
-fraction-part y regula b = branch Part regula (λ _. kept-part _) (λ _. half-part)
 
 -- ---- the width
 under-greater : (w t ε : Float) → T (le t w) → T (lt w (greater ε t)) → T (lt w ε)
@@ -121,18 +93,11 @@ module _ (f : Float → Float) (y ε : Float) (rising : Bool) (limit base : ℕ)
     pub count : n ≤ base + limit
 
 -- ---- the round
-module _ (W : Weighting) (keeps : Keeps W) (f : Float → Float) (s : ℕ) (y ε : Float) (rising : Bool) (limit : ℕ) (numbers : Numbers f y) (base : ℕ) where
+module _ (R : Rule) (lawful : Lawful R) (f : Float → Float) (s : ℕ) (y ε : Float) (rising : Bool) (limit : ℕ) (numbers : Numbers f y) (base : ℕ) where
   -- i rounds are done
   abbrev pub Fine : ℕ → Turn → Type 0
   Fine i (found g x b ev) = Sound f y ε rising limit base g x (b .lower) (b .upper) (length ev)
   Fine i (on st ev) = Bracketed f y rising (st .bracket .lower) (st .bracket .upper) × (length ev ≡ base + i)
-
-  weighed-bracketed : (regula : Bool) (st : State) → Bracketed f y rising (st .bracket .lower) (st .bracket .upper) → Bracketed f y rising (weighed W y regula st .lower) (weighed W y regula st .upper)
-  unfolding weighed
-  weighed-bracketed regula st h =
-      branch (λ (b : Bracket). Bracketed f y rising (b .lower) (b .upper)) (regula && ltb 0 (st .repeats))
-      (λ _. subst₂ (λ (l u : Float). Bracketed f y rising l u) (sym (keeps .keeps-lower y (eqb (st .side) 1) (st .bracket))) (sym (keeps .keeps-upper y (eqb (st .side) 1) (st .bracket))) h)
-      (λ _. h)
 
   -- the bracket after a move, and the place that it moved to
   moved-bracketed : (p : Bool) (b : Bracket) (st : State) (x : Float) → Bracketed f y rising (b .lower) (b .upper) → Inside (b .lower) (b .upper) x
@@ -152,19 +117,21 @@ module _ (W : Weighting) (keeps : Keeps W) (f : Float → Float) (s : ℕ) (y ε
       let m = moved-bracketed (Bool·beq (lt (f x) y) rising) b st x h n (lower-says rising (f x) y v (numbers .target)) (upper-says rising (f x) y v (numbers .target)) in
       branch (Fine (suc i)) (lt (magnitudeOf (sub binary64 (f x) y)) ε) (λ k. record { bracketed = m .0; inside = m .1; says = k; count = omega arith }) (λ _. (m .0, c))
 
-  lerped : (lower upper t : Float) → Bracketed f y rising lower upper → Part t → Inside lower upper (lerpOf lower upper t)
-  lerped lower upper t h p = lerp-inside lower upper t (h .lower-in .held) (h .upper-in .held) (h .lower-in .sign) (h .upper-in .sign) (p .sign) (h .order) (p .under)
+  placing : (b : Bracket) → Bracketed f y rising (b .lower) (b .upper) → Placing b
+  placing b h = record { lower-in = h .lower-in; upper-in = h .upper-in; order = h .order }
 
   pub midpoint-inside : (b : Bracket) → Bracketed f y rising (b .lower) (b .upper) → Inside (b .lower) (b .upper) (midpoint b)
-  midpoint-inside b h = lerped (b .lower) (b .upper) half h half-part
+  midpoint-inside b h = half-inside b (placing b h)
 
-  pub turn-fine : (i : ℕ) (regula : Bool) (st : State) (ev : Evaluations) → suc i ≤ limit → Bracketed f y rising (st .bracket .lower) (st .bracket .upper) → length ev ≡ base + i
-      → Fine (suc i) (turn W f s y ε rising regula st ev)
+  pub turn-fine : (i : ℕ) (st : State) (ev : Evaluations) → suc i ≤ limit → Bracketed f y rising (st .bracket .lower) (st .bracket .upper) → length ev ≡ base + i
+      → Fine (suc i) (turn R f s y ε rising limit i st ev)
   unfolding turn probed
-  turn-fine i regula st ev I h c =
+  turn-fine i st ev I h c =
       branch (Fine (suc i)) (narrow ε (st .bracket))
       (λ k. record { bracketed = h; inside = midpoint-inside (st .bracket) h; says = narrow-width ε (st .bracket) (h .lower-in) (h .upper-in) (h .order) k; count = omega arith })
       (λ _.
-      let b = weighed W y regula st in
-      let r = weighed-bracketed regula st h in
-      settled-fine i b st (lerpOf (b .lower) (b .upper) (fraction y regula b)) _ I r (lerped (b .lower) (b .upper) (fraction y regula b) r (fraction-part y regula b)) (omega arith))
+      let r = R limit i y st in
+      let e = lawful .same-lower limit i y st in
+      let d = lawful .same-upper limit i y st in
+      settled-fine i (r .bracket) st (r .place) _ I (subst₂ (λ (l u : Float). Bracketed f y rising l u) (sym e) (sym d) h)
+      (subst₂ (λ (l u : Float). Inside l u (r .place)) (sym e) (sym d) (lawful .between limit i y st (placing (st .bracket) h))) (omega arith))

@@ -1,4 +1,4 @@
--- The evaluations made before a segment is entered touch its place in nothing but the count. For any weighting. Assumes nothing.
+-- The evaluations made before a segment is entered touch its place in nothing but the count. For any rule. Assumes nothing.
 use mathlib.Core.Path.{_≡_, refl}
 use mathlib.Core.Bool.{Bool, true, false, cond}
 use Prim.Native.Nat.{ℕ, zero, suc, _+_}
@@ -6,12 +6,11 @@ use native.Mathlib.Omega.{arith}
 use lib.ListN.{length}
 use lib.Ieee.{Float, binary64, sub, lt}
 use Rattle.doubles.specs.Numbers.{magnitudeOf}
-use Rattle.doubles.specs.Lerp.{lerpOf}
 use Rattle.invert.specs.declared.Ground.{Ground}
 use Rattle.invert.specs.declared.Bracket.{Bracket}
 use Rattle.invert.specs.declared.State.{State}
 use Rattle.invert.specs.Evaluations.{Evaluations}
-use Rattle.invert.specs.Round.{Weighting, narrow, falsi, weighed, fraction, Turn, found, on, settled, probed, turn}
+use Rattle.invert.specs.Round.{Rule, narrow, Turn, found, on, settled, probed, turn}
 use Rattle.invert.specs.Rounds.{Placed, rounds}
 use Rattle.invert.specs.Segment.{near, opening, start, entered}
 
@@ -36,23 +35,22 @@ choice : (n : ℕ) (t : Bool) {a b c d : Placed} → More n a c → More n b d �
 choice n true p q = p
 choice n false p q = q
 
-module _ (W : Weighting) (f : Float → Float) (s : ℕ) (y ε : Float) (n : ℕ) where
-  turn-more : (rising regula : Bool) (st : State) (ev et : Evaluations) → length et ≡ length ev + n → Turned n (turn W f s y ε rising regula st ev) (turn W f s y ε rising regula st et)
+module _ (R : Rule) (f : Float → Float) (s : ℕ) (y ε : Float) (n : ℕ) where
+  turn-more : (rising : Bool) (limit i : ℕ) (st : State) (ev et : Evaluations) → length et ≡ length ev + n → Turned n (turn R f s y ε rising limit i st ev) (turn R f s y ε rising limit i st et)
   unfolding turn probed settled
-  turn-more rising regula st ev et e =
-      let b = weighed W y regula st in
-      let x = lerpOf (b .lower) (b .upper) (fraction y regula b) in
+  turn-more rising limit i st ev et e =
+      let x = R limit i y st .place in
       either n (narrow ε (st .bracket)) (founds e) (either n (lt (magnitudeOf (sub binary64 (f x) y)) ε) (founds (omega arith)) (ons (omega arith)))
 
-  rounds-more : (rising : Bool) (limit m i : ℕ) (t u : Turn) → Turned n t u → More n (rounds W f s y ε rising limit m i t) (rounds W f s y ε rising limit m i u)
+  rounds-more : (rising : Bool) (limit m i : ℕ) (t u : Turn) → Turned n t u → More n (rounds R f s y ε rising limit m i t) (rounds R f s y ε rising limit m i u)
   unfolding rounds
   rounds-more rising limit zero i _ _ (founds e) = record { ground = refl; segment = refl; local = refl; lower = refl; upper = refl; count = e }
   rounds-more rising limit zero i _ _ (ons e) = record { ground = refl; segment = refl; local = refl; lower = refl; upper = refl; count = e }
   rounds-more rising limit (suc m) i _ _ (founds e) = record { ground = refl; segment = refl; local = refl; lower = refl; upper = refl; count = e }
   rounds-more rising limit (suc m) i _ _ (ons {st} {ev} {et} e) =
-      rounds-more rising limit m (suc i) (turn W f s y ε rising (falsi limit i st) st ev) (turn W f s y ε rising (falsi limit i st) st et) (turn-more rising (falsi limit i st) st ev et e)
+      rounds-more rising limit m (suc i) (turn R f s y ε rising limit i st ev) (turn R f s y ε rising limit i st et) (turn-more rising limit i st ev et e)
 
-  pub entered-more : (limit : ℕ) (v0 v1 : Float) (ev et : Evaluations) → length et ≡ length ev + n → More n (entered W f s y ε limit v0 v1 ev) (entered W f s y ε limit v0 v1 et)
+  pub entered-more : (limit : ℕ) (v0 v1 : Float) (ev et : Evaluations) → length et ≡ length ev + n → More n (entered R f s y ε limit v0 v1 ev) (entered R f s y ε limit v0 v1 et)
   unfolding entered
   entered-more limit v0 v1 ev et e =
       choice n (near y v0 ε) (record { ground = refl; segment = refl; local = refl; lower = refl; upper = refl; count = e })

@@ -1,6 +1,7 @@
 pub mod Ends
 pub mod Turns
 pub mod Weighting
+pub mod Rules
 pub mod Enclosing
 pub mod Places
 pub mod Complete

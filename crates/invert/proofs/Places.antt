@@ -1,4 +1,4 @@
--- The inversion of one segment: what its answer owes, for any weighting that keeps the places and any function of the local place
+-- The inversion of one segment: what its answer owes, for any lawful rule and any function of the local place
 -- that is a number on 0 to 1. Assumes nothing.
 use mathlib.Core.Path.{_≡_, refl}
 use mathlib.Core.Logic.{inl, inr}
@@ -15,33 +15,33 @@ use Rattle.doubles.proofs.Order.{lt→le, not-lt→le, le-trans-float}
 use Rattle.doubles.proofs.Units.{nought-in, one-in}
 use Rattle.doubles.proofs.Interpolation.{Inside}
 use Rattle.invert.specs.Evaluations.{Evaluations}
-use Rattle.invert.specs.Round.{Weighting, falsi, Turn, found, on, turn}
+use Rattle.invert.specs.Round.{Rule, Turn, found, on, turn}
 use Rattle.invert.specs.Rounds.{Placed, rounds}
 use Rattle.invert.specs.Segment.{encloses, near, opening, start, entered, Entry, outside, inside, enter}
 use Rattle.invert.proofs.Ends.{both}
-use Rattle.invert.proofs.Weighting.{Keeps}
+use Rattle.invert.proofs.Rules.{Lawful}
 use Rattle.invert.proofs.Enclosing.{Numbers, Bracketed, Sound, Fine, midpoint-inside, turn-fine}
 
 -- ---- the rounds
 abbrev pub SoundAt : (Float → Float) → Float → Float → Bool → ℕ → ℕ → Placed → Type 0
 SoundAt f y ε rising limit base p = Sound f y ε rising limit base (p .ground) (p .local) (p .lower) (p .upper) (length (p .made))
 
-module _ (W : Weighting) (keeps : Keeps W) (f : Float → Float) (s : ℕ) (y ε : Float) (rising : Bool) (limit : ℕ) (numbers : Numbers f y) (base : ℕ) where
-  rounds-sound : (n i : ℕ) (t : Turn) → i + n ≡ limit → Fine W keeps f s y ε rising limit numbers base i t → SoundAt f y ε rising limit base (rounds W f s y ε rising limit n i t)
+module _ (R : Rule) (lawful : Lawful R) (f : Float → Float) (s : ℕ) (y ε : Float) (rising : Bool) (limit : ℕ) (numbers : Numbers f y) (base : ℕ) where
+  rounds-sound : (n i : ℕ) (t : Turn) → i + n ≡ limit → Fine R lawful f s y ε rising limit numbers base i t → SoundAt f y ε rising limit base (rounds R f s y ε rising limit n i t)
   unfolding rounds
   rounds-sound zero i (found g x b ev) e h = h
-  rounds-sound zero i (on st ev) e h = record { bracketed = h .0; inside = midpoint-inside W keeps f s y ε rising limit numbers base (st .bracket) (h .0); says = omega arith; count = omega arith }
+  rounds-sound zero i (on st ev) e h = record { bracketed = h .0; inside = midpoint-inside R lawful f s y ε rising limit numbers base (st .bracket) (h .0); says = omega arith; count = omega arith }
   rounds-sound (suc n) i (found g x b ev) e h = h
   rounds-sound (suc n) i (on st ev) e h =
-      rounds-sound n (suc i) (turn W f s y ε rising (falsi limit i st) st ev) (omega arith) (turn-fine W keeps f s y ε rising limit numbers base i (falsi limit i st) st ev (omega arith) (h .0) (h .1))
+      rounds-sound n (suc i) (turn R f s y ε rising limit i st ev) (omega arith) (turn-fine R lawful f s y ε rising limit numbers base i st ev (omega arith) (h .0) (h .1))
 
-module _ (W : Weighting) (f : Float → Float) (s : ℕ) (y ε : Float) (rising : Bool) (limit : ℕ) where
-  segment-of : (n i : ℕ) (t : Turn) → rounds W f s y ε rising limit n i t .segment ≡ s
+module _ (R : Rule) (f : Float → Float) (s : ℕ) (y ε : Float) (rising : Bool) (limit : ℕ) where
+  segment-of : (n i : ℕ) (t : Turn) → rounds R f s y ε rising limit n i t .segment ≡ s
   unfolding rounds
   segment-of zero i (found g x b ev) = refl
   segment-of zero i (on st ev) = refl
   segment-of (suc n) i (found g x b ev) = refl
-  segment-of (suc n) i (on st ev) = segment-of n (suc i) (turn W f s y ε rising (falsi limit i st) st ev)
+  segment-of (suc n) i (on st ev) = segment-of n (suc i) (turn R f s y ε rising limit i st ev)
 
 -- ---- the ends
 split-encloses : (p : Bool) (a b c d : Bool) → T (cond p (a && b) (c && d)) → T (cond p a d) × T (cond p b c)
@@ -81,8 +81,8 @@ pub data Tells (f : Float → Float) (s : ℕ) (y ε : Float) (limit : ℕ) (ev 
   missed : T (not (encloses (f nought) (f one) y)) → Tells f s y ε limit ev (outside (f nought) (both s ev))
   hit : {p : Placed} → T (encloses (f nought) (f one) y) → SoundAt f y ε (lt (f nought) (f one)) limit (length ev + 2) p → p .segment ≡ s → Tells f s y ε limit ev (inside p)
 
-module _ (W : Weighting) (keeps : Keeps W) (f : Float → Float) (s : ℕ) (y ε : Float) (limit : ℕ) (ev : Evaluations) (numbers : Numbers f y) where
-  entered-sound : T (encloses (f nought) (f one) y) → let p = entered W f s y ε limit (f nought) (f one) (both s ev) in SoundAt f y ε (lt (f nought) (f one)) limit (length ev + 2) p × (p .segment ≡ s)
+module _ (R : Rule) (lawful : Lawful R) (f : Float → Float) (s : ℕ) (y ε : Float) (limit : ℕ) (ev : Evaluations) (numbers : Numbers f y) where
+  entered-sound : T (encloses (f nought) (f one) y) → let p = entered R f s y ε limit (f nought) (f one) (both s ev) in SoundAt f y ε (lt (f nought) (f one)) limit (length ev + 2) p × (p .segment ≡ s)
   unfolding entered
   entered-sound h =
       let rising = lt (f nought) (f one) in
@@ -91,9 +91,9 @@ module _ (W : Weighting) (keeps : Keeps W) (f : Float → Float) (s : ℕ) (y ε
       let P : Placed → Type 0 = λ p. SoundAt f y ε rising limit (length ev + 2) p × (p .segment ≡ s) in
       branch P (near y (f nought) ε) (λ k. (record { bracketed = w; inside = nought-inside; says = inl (refl, k); count = omega arith }, refl))
       (λ far. branch P (near y (f one) ε) (λ k. (record { bracketed = w; inside = one-inside; says = inr (refl, far, k); count = omega arith }, refl))
-      (λ _. (rounds-sound W keeps f s y ε rising limit numbers (length ev + 2) limit 0 t (omega arith) (w, omega arith), segment-of W f s y ε rising limit limit 0 t)))
+      (λ _. (rounds-sound R lawful f s y ε rising limit numbers (length ev + 2) limit 0 t (omega arith) (w, omega arith), segment-of R f s y ε rising limit limit 0 t)))
 
-  pub enter-tells : Tells f s y ε limit ev (enter W f s y ε limit ev)
+  pub enter-tells : Tells f s y ε limit ev (enter R f s y ε limit ev)
   unfolding enter
   enter-tells =
       branch (Tells f s y ε limit ev) (encloses (f nought) (f one) y)

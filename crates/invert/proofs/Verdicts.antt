@@ -25,7 +25,7 @@ use Rattle.invert.specs.Evaluations.{Evaluations}
 use Rattle.invert.specs.declared.Place.{Place}
 use Rattle.invert.specs.declared.Tried.{Tried}
 use Rattle.invert.specs.declared.Tried.the-variants.{Outside, Inside}
-use Rattle.invert.specs.Round.{halving}
+use Rattle.invert.specs.Round.{asCrate}
 use Rattle.invert.specs.Segment.{Outcome, off, placed, Entry, enter, outcomeOf}
 use Rattle.invert.specs.Shown.{tried}
 use Rattle.invert.proofs.Turns.{was-outside, was-inside}
@@ -102,19 +102,19 @@ module _ (b : Basis) (y : Float) (cv : List Float) (limit : ℕ) (ε : Float) {v
   refused-is d = rw (← e, d)
 
   -- its trial, over the row sums
-  told : v ≡ Passed → (w : Weights) → w ≡ weightsOf (matrixOf b) cv → answered alone (outcomeOf (enter halving (hornerOf w) 0 y ε limit [])) ≡ inverseSegmentOf b y cv limit ε
+  told : v ≡ Passed → (w : Weights) → w ≡ weightsOf (matrixOf b) cv → answered alone (outcomeOf (enter asCrate (hornerOf w) 0 y ε limit [])) ≡ inverseSegmentOf b y cv limit ε
   unfolding inverseSegmentOf
   told d w e-w =
-      let told : Weights → Inverted = λ z. answered alone (outcomeOf (enter halving (hornerOf z) 0 y ε limit [])) in
+      let told : Weights → Inverted = λ z. answered alone (outcomeOf (enter asCrate (hornerOf z) 0 y ε limit [])) in
       rw (← e, d) (ap told e-w ∙ sym (ap (λ (n : ℕ). told (weightsOf (matrixOf b) (drop n cv))) (zero-mul (stepOf b))))
 
-  module _ (d : v ≡ Passed) (w : Weights) (e-w : w ≡ weightsOf (matrixOf b) cv) (t : Tried) (k : (ev : Evaluations) → length ev ≡ 0 → t ≡ tried (enter halving (hornerOf w) 0 y ε limit ev)) where
+  module _ (d : v ≡ Passed) (w : Weights) (e-w : w ≡ weightsOf (matrixOf b) cv) (t : Tried) (k : (ev : Evaluations) → length ev ≡ 0 → t ≡ tried (enter asCrate (hornerOf w) 0 y ε limit ev)) where
     pub place-is : {p : Place} → t ≡ Inside p → At p ≡ inverseSegmentOf b y cv limit ε
     place-is {p} i =
-        let r = was-inside halving (hornerOf w) 0 y ε limit [] (sym i ∙ k [] refl) in
+        let r = was-inside asCrate (hornerOf w) 0 y ε limit [] (sym i ∙ k [] refl) in
         ap At (r .2) ∙ sym (ap (λ (z : Entry). answered alone (outcomeOf z)) (r .1)) ∙ told d w e-w
 
     pub off-is : {x : Float} → t ≡ Outside x → OffSegment 2 ≡ inverseSegmentOf b y cv limit ε
     off-is i =
-        let r = was-outside halving (hornerOf w) 0 y ε limit [] (sym i ∙ k [] refl) in
+        let r = was-outside asCrate (hornerOf w) 0 y ε limit [] (sym i ∙ k [] refl) in
         sym (ap (λ (z : Entry). answered alone (outcomeOf z)) (r .1)) ∙ told d w e-w

@@ -5,7 +5,7 @@ use lib.Ieee.{Float}
 use Rattle.invert.specs.declared.Bracket.{Bracket}
 use Rattle.invert.specs.declared.Weighing.{Weighing}
 use Rattle.invert.specs.declared.Weighing.the-variants.{Value, Distance}
-use Rattle.invert.specs.Round.{Weighting, halving, drawing, weightingOf}
+use Rattle.invert.specs.Round.{Weighting, halving, toward, weightingOf}
 
 pub record Keeps (W : Weighting) : Type 0 where
   pub keeps-lower : (y : Float) (lower : Bool) (b : Bracket) → W y lower b .lower ≡ b .lower
@@ -24,16 +24,19 @@ halving-upper y false b = refl
 pub halving-keeps : Keeps halving
 halving-keeps = record { keeps-lower = halving-lower; keeps-upper = halving-upper }
 
-drawing-lower : (y : Float) (lower : Bool) (b : Bracket) → drawing y lower b .lower ≡ b .lower
-unfolding drawing
-drawing-lower y true b = refl
-drawing-lower y false b = refl
+toward-lower : (y : Float) (lower : Bool) (b : Bracket) → toward y lower b .lower ≡ b .lower
+unfolding toward
+toward-lower y true b = refl
+toward-lower y false b = refl
 
-drawing-upper : (y : Float) (lower : Bool) (b : Bracket) → drawing y lower b .upper ≡ b .upper
-unfolding drawing
-drawing-upper y true b = refl
-drawing-upper y false b = refl
+toward-upper : (y : Float) (lower : Bool) (b : Bracket) → toward y lower b .upper ≡ b .upper
+unfolding toward
+toward-upper y true b = refl
+toward-upper y false b = refl
+
+pub toward-keeps : Keeps toward
+toward-keeps = record { keeps-lower = toward-lower; keeps-upper = toward-upper }
 
 pub weighing-keeps : (m : Weighing) → Keeps (weightingOf m)
 weighing-keeps Value = halving-keeps
-weighing-keeps Distance = record { keeps-lower = drawing-lower; keeps-upper = drawing-upper }
+weighing-keeps Distance = toward-keeps

@@ -16,7 +16,7 @@ use Rattle.doubles.specs.Numbers.{nought}
 use Rattle.invert.specs.declared.Place.{Place}
 use Rattle.invert.specs.declared.Inverted.{Inverted}
 use Rattle.invert.specs.declared.Inverted.the-variants.{Refused, OffCurve, At}
-use Rattle.invert.specs.Round.{halving}
+use Rattle.invert.specs.Round.{asCrate}
 use Rattle.invert.specs.Rounds.{Placed}
 use Rattle.invert.specs.Segment.{Outcome, off, placed, enter, outcomeOf}
 
@@ -71,4 +71,4 @@ abbrev pub defaultPrecision : Float
 defaultPrecision = ofBits binary64 0x3ddb_7cdf_d9d7_bdbb
 
 unfoldable pub inverseSegmentOf : Basis → Float → List Float → ℕ → Float → Inverted
-inverseSegmentOf b y cv limit ε = inverted (first (inverseSegmentUses y cv limit ε)) (answered alone (outcomeOf (enter halving (segmentOf b cv 0) 0 y ε limit [])))
+inverseSegmentOf b y cv limit ε = inverted (first (inverseSegmentUses y cv limit ε)) (answered alone (outcomeOf (enter asCrate (segmentOf b cv 0) 0 y ε limit [])))

@@ -41,13 +41,13 @@ halving y false b = record { lower = b .lower; upper = b .upper; v0 = b .v0; v1 
 abbrev pub nearer : Float → Float → Float
 nearer y w = add binary64 y (mul binary64 (sub binary64 w y) half)
 
-unfoldable pub drawing : Weighting
-drawing y true b = record { lower = b .lower; upper = b .upper; v0 = b .v0; v1 = nearer y (b .v1) }
-drawing y false b = record { lower = b .lower; upper = b .upper; v0 = nearer y (b .v0); v1 = b .v1 }
+unfoldable pub toward : Weighting
+toward y true b = record { lower = b .lower; upper = b .upper; v0 = b .v0; v1 = nearer y (b .v1) }
+toward y false b = record { lower = b .lower; upper = b .upper; v0 = nearer y (b .v0); v1 = b .v1 }
 
 abbrev pub weightingOf : Weighing → Weighting
 weightingOf ByValue = halving
-weightingOf Distance = drawing
+weightingOf Distance = toward
 
 -- ---- the fraction
 -- whether a round goes by regula falsi: its number, from 0, is below 3·limit/4 rounded down, and the same-side count below 3
@@ -65,6 +65,30 @@ kept t = cond (lt hundredth t && lt t ninetyNineHundredths) t half
 -- (y − v0)/(v1 − v0) in a round by regula falsi; a half in any other
 unfoldable pub fraction : Float → Bool → Bracket → Float
 fraction y regula b = cond regula (kept (div binary64 (sub binary64 y (b .v0)) (sub binary64 (b .v1) (b .v0)))) half
+
+-- ---- the rule
+-- what a round goes by: the bracket as weighed, and the place that is evaluated
+pub record Choice : Type 0 where
+  pub bracket : Bracket
+  pub place : Float
+
+-- given the limit, the round's number from 0, the target and the state
+abbrev pub Rule : Type 0
+Rule = ℕ → ℕ → Float → State → Choice
+
+-- the weighted chord's place, over the weighting
+unfoldable pub chord : Weighting → Rule
+chord W limit i y st =
+    let regula = falsi limit i st in
+    let b = weighed W y regula st in
+    record { bracket = b; place = lerpOf (b .lower) (b .upper) (fraction y regula b) }
+
+-- by the weighting that halves: document 01's rule
+abbrev pub asCrate : Rule
+asCrate = chord halving
+
+abbrev pub chordOf : Weighing → Rule
+chordOf m = chord (weightingOf m)
 
 -- ---- the move
 -- the lower end moves to x, whose value is v, or else the upper; the count grows on a repeated side and is 0 otherwise
@@ -84,16 +108,15 @@ settled y ε rising b st x v ev =
     let next = moved (Bool·beq (lt v y) rising) b st x v in
     cond (lt (magnitudeOf (sub binary64 v y)) ε) (found Value x (next .bracket) ev) (on next ev)
 
--- the segment is evaluated at the interpolated place
-unfoldable pub probed : Weighting → (Float → Float) → ℕ → Float → Float → Bool → Bool → State → Evaluations → Turn
-probed W f s y ε rising regula st ev =
-    let b = weighed W y regula st in
-    let x = lerpOf (b .lower) (b .upper) (fraction y regula b) in
-    let seen = see f s x ev in
-    settled y ε rising b st x (seen .value) (seen .made)
+-- the segment is evaluated at the place that the rule chooses
+unfoldable pub probed : Rule → (Float → Float) → ℕ → Float → Float → Bool → ℕ → ℕ → State → Evaluations → Turn
+probed R f s y ε rising limit i st ev =
+    let c = R limit i y st in
+    let seen = see f s (c .place) ev in
+    settled y ε rising (c .bracket) st (c .place) (seen .value) (seen .made)
 
 -- the width test comes first, and the midpoint is its answer
-unfoldable pub turn : Weighting → (Float → Float) → ℕ → Float → Float → Bool → Bool → State → Evaluations → Turn
-turn W f s y ε rising regula st ev =
-    let r = probed W f s y ε rising regula st ev in
+unfoldable pub turn : Rule → (Float → Float) → ℕ → Float → Float → Bool → ℕ → ℕ → State → Evaluations → Turn
+turn R f s y ε rising limit i st ev =
+    let r = probed R f s y ε rising limit i st ev in
     cond (narrow ε (st .bracket)) (found Width (midpoint (st .bracket)) (st .bracket) ev) r

@@ -6,7 +6,7 @@ use Rattle.invert.specs.declared.Ground.{Ground}
 use Rattle.invert.specs.declared.Ground.the-variants.{Spent}
 use Rattle.invert.specs.declared.Bracket.{Bracket}
 use Rattle.invert.specs.Evaluations.{Evaluations}
-use Rattle.invert.specs.Round.{Weighting, midpoint, falsi, Turn, found, on, turn}
+use Rattle.invert.specs.Round.{Rule, midpoint, Turn, found, on, turn}
 
 -- where an inversion came out, and the evaluations made until then
 pub record Placed : Type 0 where
@@ -22,8 +22,8 @@ abbrev pub stopped : ℕ → Ground → Float → Bracket → Evaluations → Pl
 stopped s g x b ev = record { ground = g; segment = s; local = x; lower = b .lower; upper = b .upper; made = ev }
 
 -- n rounds are left and i are done, the last of which left the turn; after the last round, the midpoint
-unfoldable pub rounds : Weighting → (Float → Float) → ℕ → Float → Float → Bool → ℕ → ℕ → ℕ → Turn → Placed
-rounds W f s y ε rising limit zero i (found g x b ev) = stopped s g x b ev
-rounds W f s y ε rising limit zero i (on st ev) = stopped s Spent (midpoint (st .bracket)) (st .bracket) ev
-rounds W f s y ε rising limit (suc n) i (found g x b ev) = stopped s g x b ev
-rounds W f s y ε rising limit (suc n) i (on st ev) = rounds W f s y ε rising limit n (suc i) (turn W f s y ε rising (falsi limit i st) st ev)
+unfoldable pub rounds : Rule → (Float → Float) → ℕ → Float → Float → Bool → ℕ → ℕ → ℕ → Turn → Placed
+rounds R f s y ε rising limit zero i (found g x b ev) = stopped s g x b ev
+rounds R f s y ε rising limit zero i (on st ev) = stopped s Spent (midpoint (st .bracket)) (st .bracket) ev
+rounds R f s y ε rising limit (suc n) i (found g x b ev) = stopped s g x b ev
+rounds R f s y ε rising limit (suc n) i (on st ev) = rounds R f s y ε rising limit n (suc i) (turn R f s y ε rising limit i st ev)

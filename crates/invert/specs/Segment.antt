@@ -7,7 +7,7 @@ use Rattle.invert.specs.declared.Ground.the-variants.{Edge}
 use Rattle.invert.specs.declared.Bracket.{Bracket}
 use Rattle.invert.specs.declared.State.{State}
 use Rattle.invert.specs.Evaluations.{Evaluations, see}
-use Rattle.invert.specs.Round.{Weighting, on}
+use Rattle.invert.specs.Round.{Rule, on}
 use Rattle.invert.specs.Rounds.{Placed, stopped, rounds}
 
 -- the target is in the closed range of the two end values
@@ -27,9 +27,9 @@ abbrev pub start : Bracket → State
 start b = record { bracket = b; side = 0; repeats = 0 }
 
 -- a segment whose end values v0 and v1 enclose y: local 0, or else local 1, or else the rounds. Rising means v0 < v1
-unfoldable pub entered : Weighting → (Float → Float) → ℕ → Float → Float → ℕ → Float → Float → Evaluations → Placed
-entered W f s y ε limit v0 v1 ev =
-    let r = rounds W f s y ε (lt v0 v1) limit limit 0 (on (start (opening v0 v1)) ev) in
+unfoldable pub entered : Rule → (Float → Float) → ℕ → Float → Float → ℕ → Float → Float → Evaluations → Placed
+entered R f s y ε limit v0 v1 ev =
+    let r = rounds R f s y ε (lt v0 v1) limit limit 0 (on (start (opening v0 v1)) ev) in
     cond (near y v0 ε) (stopped s Edge nought (opening v0 v1) ev) (cond (near y v1 ε) (stopped s Edge one (opening v0 v1) ev) r)
 
 -- what trying a segment comes to: its ends do not enclose y, and the value of its start; or a place in it
@@ -38,11 +38,11 @@ pub data Entry : Type 0 where
   inside : Placed → Entry
 
 -- both ends are evaluated, 0 and then 1, and only once; the segment is entered where they enclose y
-unfoldable pub enter : Weighting → (Float → Float) → ℕ → Float → Float → ℕ → Evaluations → Entry
-enter W f s y ε limit ev =
+unfoldable pub enter : Rule → (Float → Float) → ℕ → Float → Float → ℕ → Evaluations → Entry
+enter R f s y ε limit ev =
     let a = see f s nought ev in
     let b = see f s one (a .made) in
-    let r = inside (entered W f s y ε limit (a .value) (b .value) (b .made)) in
+    let r = inside (entered R f s y ε limit (a .value) (b .value) (b .made)) in
     cond (encloses (a .value) (b .value) y) r (outside (a .value) (b .made))
 
 -- what an inversion comes to: not on the segment or the curve, or a place

@@ -16,7 +16,7 @@ use Rattle.invert.specs.declared.Place.{Place}
 use Rattle.invert.specs.declared.Tried.{Tried}
 use Rattle.invert.specs.declared.Tried.the-variants.{Outside, Inside}
 use Rattle.invert.specs.Evaluations.{Evaluations}
-use Rattle.invert.specs.Round.{weightingOf, Turn, found, on, turn}
+use Rattle.invert.specs.Round.{falsi, chordOf, Turn, found, on, turn}
 use Rattle.invert.specs.Rounds.{rounds}
 use Rattle.invert.specs.Segment.{start, entered, Entry, outside, inside, enter}
 use Rattle.invert.specs.Answer.{placeOf, alone}
@@ -44,13 +44,13 @@ tried (inside p) = Inside (placeOf alone p)
 
 -- r is what the definition gives, whatever the n evaluations before it were
 abbrev pub TurnIs : Weighing → Weights → Float → Float → Bool → Bool → State → ℕ → Turned → Type 0
-TurnIs m w y ε rising regula st n r = (s : ℕ) (ev : Evaluations) → length ev ≡ n → r ≡ shown (turn (weightingOf m) (hornerOf w) s y ε rising regula st ev)
+TurnIs m w y ε rising regula st n r = (limit i : ℕ) → regula ≡ falsi limit i st → (s : ℕ) (ev : Evaluations) → length ev ≡ n → r ≡ shown (turn (chordOf m) (hornerOf w) s y ε rising limit i st ev)
 
 abbrev pub RoundsIs : Weighing → Weights → ℕ → Float → Float → Bool → Bracket → ℕ → ℕ → Place → Type 0
-RoundsIs m w s y ε rising b limit n r = (ev : Evaluations) → length ev ≡ n → r ≡ placeOf alone (rounds (weightingOf m) (hornerOf w) s y ε rising limit limit 0 (on (start b) ev))
+RoundsIs m w s y ε rising b limit n r = (ev : Evaluations) → length ev ≡ n → r ≡ placeOf alone (rounds (chordOf m) (hornerOf w) s y ε rising limit limit 0 (on (start b) ev))
 
 abbrev pub EnteredIs : Weighing → Weights → ℕ → Float → Float → ℕ → Float → Float → ℕ → Place → Type 0
-EnteredIs m w s y ε limit v0 v1 n r = (ev : Evaluations) → length ev ≡ n → r ≡ placeOf alone (entered (weightingOf m) (hornerOf w) s y ε limit v0 v1 ev)
+EnteredIs m w s y ε limit v0 v1 n r = (ev : Evaluations) → length ev ≡ n → r ≡ placeOf alone (entered (chordOf m) (hornerOf w) s y ε limit v0 v1 ev)
 
 abbrev pub EnterIs : Weighing → Weights → ℕ → Float → Float → ℕ → ℕ → Tried → Type 0
-EnterIs m w s y ε limit n r = (ev : Evaluations) → length ev ≡ n → r ≡ tried (enter (weightingOf m) (hornerOf w) s y ε limit ev)
+EnterIs m w s y ε limit n r = (ev : Evaluations) → length ev ≡ n → r ≡ tried (enter (chordOf m) (hornerOf w) s y ε limit ev)

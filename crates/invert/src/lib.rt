@@ -74,7 +74,7 @@ pub enum Inverted {
 }
 
 // For one segment the parameter is the local place.
-fn told_at(s: usize, ground: Ground, x: f64, b: Bracket, n: u32) -> Place
+pub fn told_at(s: usize, ground: Ground, x: f64, b: Bracket, n: u32) -> Place
     ensures { λ r. ⌜ r ≡ toldAt s ground x b n ⌝ }
 {
     Place {
@@ -146,7 +146,7 @@ pub fn encloses(v0: f64, v1: f64, y: f64) -> bool
     }
 }
 
-fn is_near(y: f64, v: f64, precision: f64) -> bool
+pub fn is_near(y: f64, v: f64, precision: f64) -> bool
     ensures { λ r. ⌜ r ≡ near y v precision ⌝ }
 {
     doubles::magnitude(y - v) < 2.0 * precision

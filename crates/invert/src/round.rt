@@ -3,7 +3,7 @@ ghost use mathlib.Core.Path.{_≡_};
 ghost use Prim.Native.Nat.{_≤_, _<_, _+_};
 ghost use lib.Dec.{ltb};
 ghost use mathlib.Core.Bool.{_&&_};
-ghost use Rattle.invert.specs.Round.{narrow, halving, drawing, weightingOf, weighed, fraction, moved};
+ghost use Rattle.invert.specs.Round.{narrow, halving, toward, weightingOf, weighed, fraction, moved};
 ghost use Rattle.invert.specs.Shown.{TurnIs, repeatsAfter, countAfter};
 use crate::Bracket;
 use crate::Ground;
@@ -46,8 +46,8 @@ pub fn halved(y: f64, lower: bool, b: Bracket) -> Bracket
 }
 
 // The distance to the target is halved at the end that did not move last.
-pub fn drawn(y: f64, lower: bool, b: Bracket) -> Bracket
-    ensures { λ r. ⌜ r ≡ drawing y lower b ⌝ }
+pub fn toward(y: f64, lower: bool, b: Bracket) -> Bracket
+    ensures { λ r. ⌜ r ≡ toward y lower b ⌝ }
 {
     if lower {
         Bracket {
@@ -71,7 +71,7 @@ fn reweighed(m: Weighing, y: f64, lower: bool, b: Bracket) -> Bracket
 {
     match m {
         Weighing::Value => halved(y, lower, b),
-        Weighing::Distance => drawn(y, lower, b),
+        Weighing::Distance => toward(y, lower, b),
     }
 }
 

@@ -1,7 +1,7 @@
 use mathlib.Core.Path.{sym, _∙_}
 use lib.Ieee.{ofBits}
 use Rattle.spline.specs.Segment.{hornerOf}
-use Rattle.invert.specs.Round.{weightingOf}
+use Rattle.invert.specs.Round.{chordOf}
 use Rattle.invert.proofs.Turns.{left-out, taken-in}
 use borrow.Author.Needs.{needs}
 use Rattle.invert.proofs.enter.Statement.{statement}
@@ -29,11 +29,11 @@ entered-requires c κs = search needs
 
 returns : tie.Need-returns
 unfolding ofBits
-returns c = λ ev k. taken-in (weightingOf (c .before .before .before .before .before .args .m)) (hornerOf (c .before .before .before .before .before .args .w)) (c .before .before .before .before .before .args .s) (c .before .before .before .before .before .args .y) (c .before .before .before .before .before .args .precision) (c .before .before .before .before .before .args .limit) (c .before .before .before .before .horner .ensures) (c .before .before .before .horner2 .ensures) ev (c .entered .result) (sym (c .before .if1 .taken) ∙ c .before .before .encloses .ensures) k (c .entered .ensures)
+returns c = λ ev k. taken-in (chordOf (c .before .before .before .before .before .args .m)) (hornerOf (c .before .before .before .before .before .args .w)) (c .before .before .before .before .before .args .s) (c .before .before .before .before .before .args .y) (c .before .before .before .before .before .args .precision) (c .before .before .before .before .before .args .limit) (c .before .before .before .before .horner .ensures) (c .before .before .before .horner2 .ensures) ev (c .entered .result) (sym (c .before .if1 .taken) ∙ c .before .before .encloses .ensures) k (c .entered .ensures)
 
 returns-2 : tie.Need-returns-2
 unfolding ofBits
-returns-2 c = λ ev k. left-out (weightingOf (c .before .before .before .before .args .m)) (hornerOf (c .before .before .before .before .args .w)) (c .before .before .before .before .args .s) (c .before .before .before .before .args .y) (c .before .before .before .before .args .precision) (c .before .before .before .before .args .limit) (c .before .before .before .horner .ensures) (c .before .before .horner2 .ensures) ev (sym (c .if1 .left) ∙ c .before .encloses .ensures)
+returns-2 c = λ ev k. left-out (chordOf (c .before .before .before .before .args .m)) (hornerOf (c .before .before .before .before .args .w)) (c .before .before .before .before .args .s) (c .before .before .before .before .args .y) (c .before .before .before .before .args .precision) (c .before .before .before .before .args .limit) (c .before .before .before .horner .ensures) (c .before .before .horner2 .ensures) ev (sym (c .if1 .left) ∙ c .before .encloses .ensures)
 
 pub enter-spec : {M : Type 1} → statement M
 enter-spec =

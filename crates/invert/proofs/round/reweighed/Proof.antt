@@ -11,15 +11,15 @@ halved-requires c κs = search needs
 enum-told-2 : tie.Need-enum-told-2
 enum-told-2 c = search needs
 
-drawn-requires : tie.Need-drawn-requires
-drawn-requires c κs = search needs
+toward-requires : tie.Need-toward-requires
+toward-requires c κs = search needs
 
 returns : tie.Need-returns
 returns c = rw (c .before .enum-told .given .1) (c .halved .ensures)
 
 returns-2 : tie.Need-returns-2
-returns-2 c = rw (c .before .enum-told2 .given .1) (c .drawn .ensures)
+returns-2 c = rw (c .before .enum-told2 .given .1) (c .toward .ensures)
 
 pub reweighed-spec : {M : Type 1} → statement M
 reweighed-spec =
-    tie.close (tie.spec enum-told halved-requires enum-told-2 drawn-requires returns returns-2)
+    tie.close (tie.spec enum-told halved-requires enum-told-2 toward-requires returns returns-2)

@@ -1,0 +1,7 @@
+pub mod Halving
+pub mod Lawful
+pub mod Ending
+pub mod Times
+pub mod Choosing
+pub mod Turning
+pub mod Examples

@@ -1,0 +1,216 @@
+// Inversion of one segment by each method; the steady rule.
+ghost use mathlib.Core.Path.{_≡_};
+ghost use Prim.Native.Nat.{_≤_, _<_, _+_};
+ghost use mathlib.Core.Bool.{true};
+ghost use Rattle.invert.specs.Round.{toward, weighed};
+ghost use Rattle.invert.specs.Shown.{repeatsAfter, countAfter};
+ghost use Rattle.steady.specs.Steady.{inner};
+ghost use Rattle.steady.specs.Shown.{ChosenIs, TurnIs, RoundsIs, EnteredIs, EnteredBy, EnterIs};
+use invert::Bracket;
+use invert::Ground;
+use invert::Place;
+use invert::State;
+use invert::Tried;
+use invert::Turned;
+use invert::Weighing;
+use spline::Weights;
+
+// How the next place is chosen: as the crate does, with the weighting as it is taught, or at the pace.
+pub enum Method {
+    AsCrate,
+    Taught,
+    Steady,
+}
+
+// The bracket as weighed, and the place that is evaluated.
+pub struct Chosen {
+    pub bracket: Bracket,
+    pub place: f64,
+}
+
+pub fn weighed(y: f64, st: State) -> Bracket
+    ensures { λ r. ⌜ r ≡ weighed toward y true st ⌝ }
+{
+    if 0 < st.repeats {
+        return invert::round::toward(y, st.side == 1, st.bracket);
+    }
+    st.bracket
+}
+
+pub fn inner(b: Bracket, x: f64) -> f64
+    ensures { λ r. ⌜ r ≡ inner b x ⌝ }
+{
+    if b.lower < x {
+        if x < b.upper {
+            return x;
+        }
+        return doubles::lerp(b.lower, b.upper, 0.5);
+    }
+    doubles::lerp(b.lower, b.upper, 0.5)
+}
+
+pub fn choose(y: f64, width: f64, st: State) -> Chosen
+    ensures { λ r. ⌜ ChosenIs y width st r ⌝ }
+{
+    let b = st.bracket;
+    if width < b.upper - b.lower {
+        return Chosen {
+            bracket: b,
+            place: doubles::lerp(b.lower, b.upper, 0.5),
+        };
+    }
+    let a = weighed(y, st);
+    let t = (y - a.v0) / (a.v1 - a.v0);
+    Chosen {
+        bracket: a,
+        place: inner(a, doubles::lerp(a.lower, a.upper, t)),
+    }
+}
+
+// n evaluations have been made before the round.
+pub fn turn(
+    w: Weights,
+    y: f64,
+    precision: f64,
+    rising: bool,
+    width: f64,
+    st: State,
+    n: u32,
+) -> Turned
+    requires { ⌜ (st .repeats < 65536) × (n < 2000000) ⌝ }
+    ensures { λ r. ⌜ (TurnIs w y precision rising width st n r) × (repeatsAfter r ≤ st .repeats + 1) × (countAfter r ≤ n + 1) ⌝ }
+{
+    let b = st.bracket;
+    if invert::round::is_narrow(precision, b) {
+        return Turned::Done(Ground::Width, doubles::lerp(b.lower, b.upper, 0.5), b, n);
+    }
+    let c = choose(y, width, st);
+    let a = c.bracket;
+    let x = c.place;
+    let v = spline::segment::horner(w, x);
+    let next = invert::round::moved((v < y) == rising, a, st, x, v);
+    if doubles::magnitude(v - y) < precision {
+        let e = next.bracket;
+        return Turned::Done(Ground::Value, x, e, n + 1);
+    }
+    Turned::Next(next, n + 1)
+}
+
+// The rounds, from the bracket that is given; n evaluations have been made before them.
+pub fn rounds(
+    w: Weights,
+    s: usize,
+    y: f64,
+    precision: f64,
+    rising: bool,
+    first: Bracket,
+    limit: u16,
+    n: u32,
+) -> Place
+    requires { ⌜ n ≤ 1000000 ⌝ }
+    ensures { λ r. ⌜ RoundsIs w s y precision rising first limit n r ⌝ }
+{
+    let most = limit as u32;
+    let mut st = State {
+        bracket: first,
+        side: 0,
+        repeats: 0,
+    };
+    let mut width = 16.0;
+    let mut i: u32 = 0;
+    let mut count = n;
+    while i < most {
+        let t = turn(w, y, precision, rising, width, st, count);
+        match t {
+            Turned::Next(next, k) => {
+                st = next;
+                count = k;
+            }
+            Turned::Done(ground, x, b, k) => {
+                return invert::told_at(s, ground, x, b, k);
+            }
+        }
+        width = width * 0.5;
+        i += 1;
+    }
+    let b = st.bracket;
+    invert::told_at(
+        s,
+        Ground::Spent,
+        doubles::lerp(b.lower, b.upper, 0.5),
+        b,
+        count,
+    )
+}
+
+// The place in segment s, whose end values v0 and v1 enclose y; n evaluations have been made, those of its ends among them.
+pub fn entered(
+    w: Weights,
+    s: usize,
+    y: f64,
+    precision: f64,
+    limit: u16,
+    v0: f64,
+    v1: f64,
+    n: u32,
+) -> Place
+    requires { ⌜ n ≤ 1000000 ⌝ }
+    ensures { λ r. ⌜ EnteredIs w s y precision limit v0 v1 n r ⌝ }
+{
+    let whole = Bracket {
+        lower: 0.0,
+        upper: 1.0,
+        v0: v0,
+        v1: v1,
+    };
+    if invert::is_near(y, v0, precision) {
+        return invert::told_at(s, Ground::Edge, 0.0, whole, n);
+    }
+    if invert::is_near(y, v1, precision) {
+        return invert::told_at(s, Ground::Edge, 1.0, whole, n);
+    }
+    rounds(w, s, y, precision, v0 < v1, whole, limit, n)
+}
+
+// By the method that is asked for.
+fn entered_by(
+    how: Method,
+    w: Weights,
+    s: usize,
+    y: f64,
+    precision: f64,
+    limit: u16,
+    v0: f64,
+    v1: f64,
+    n: u32,
+) -> Place
+    requires { ⌜ n ≤ 1000000 ⌝ }
+    ensures { λ r. ⌜ EnteredBy how w s y precision limit v0 v1 n r ⌝ }
+{
+    match how {
+        Method::AsCrate => invert::entered(Weighing::Value, w, s, y, precision, limit, v0, v1, n),
+        Method::Taught => invert::entered(Weighing::Distance, w, s, y, precision, limit, v0, v1, n),
+        Method::Steady => entered(w, s, y, precision, limit, v0, v1, n),
+    }
+}
+
+// Segment s is tried: both its ends are evaluated, once, and it is entered where they enclose y. `count` evaluations have been made before.
+pub fn enter(
+    how: Method,
+    w: Weights,
+    s: usize,
+    y: f64,
+    precision: f64,
+    limit: u16,
+    count: u32,
+) -> Tried
+    requires { ⌜ count < 900000 ⌝ }
+    ensures { λ r. ⌜ EnterIs how w s y precision limit count r ⌝ }
+{
+    let v0 = spline::segment::horner(w, 0.0);
+    let v1 = spline::segment::horner(w, 1.0);
+    if invert::encloses(v0, v1, y) {
+        return Tried::Inside(entered_by(how, w, s, y, precision, limit, v0, v1, count + 2));
+    }
+    Tried::Outside(v0)
+}
