@@ -16,12 +16,13 @@ use Rattle.spline.specs.Segment.{weightsOf, hornerOf, segmentOf}
 use Rattle.invert.specs.declared.Inverted.{Inverted}
 use Rattle.invert.specs.declared.Inverted.the-variants.{OffCurve, At}
 use Rattle.invert.specs.declared.Place.{Place}
-use Rattle.invert.specs.declared.Weighing.{Weighing}
 use Rattle.invert.specs.Evaluations.{Evaluations}
-use Rattle.invert.specs.Round.{Weighting, weightingOf}
+use Rattle.invert.specs.Round.{Rule}
 use Rattle.invert.specs.Segment.{Outcome, off, placed, encloses, entered, enter, orElse}
 use Rattle.invert.specs.Answer.{placeOf, answered, alone}
-use Rattle.invert.specs.Shown.{EnteredIs}
+use Rattle.steady.specs.declared.Method.{Method}
+use Rattle.steady.specs.Method.{ruleOf}
+use Rattle.steady.specs.Shown.{EnteredBy}
 use Rattle.invert.proofs.Ends.{both}
 use Rattle.search.specs.Bound.{bitsOf}
 use Rattle.search.specs.Search.{before, Trial, tries, last, halve, find}
@@ -52,20 +53,20 @@ pub settled-at : (b : Basis) (p q : List Float) {e : List Float} {y : Float} {h 
 settled-at b p q {e} {y} {h} r i = subst (λ (cv : List Float). SettledIs (weightsOf (matrixOf b) cv) y e h) r i
 
 -- ---- what a search comes to
-module _ (g : ℕ → Float → Float) (y : Float) (k s : ℕ) (W : Weighting) (ε : Float) (limit : ℕ) (t : Evaluations) where
-  went-in : s < k → went g y k s W ε limit t ≡ placed (entered W (g s) s y ε limit (g s nought) (g s one) t)
+module _ (g : ℕ → Float → Float) (y : Float) (k s : ℕ) (R : Rule) (ε : Float) (limit : ℕ) (t : Evaluations) where
+  went-in : s < k → went g y k s R ε limit t ≡ placed (entered R (g s) s y ε limit (g s nought) (g s one) t)
   went-in h = simp (lt-ltb s k h)
 
-  went-none : k ≤ s → went g y k s W ε limit t ≡ off t
+  went-none : k ≤ s → went g y k s R ε limit t ≡ off t
   went-none h = simp (le-ltb s k h)
 
 -- segment s is entered, or passed over
-module _ (W : Weighting) (g : ℕ → Float → Float) (y ε : Float) (limit s : ℕ) (ev : Evaluations) (f : Float → Evaluations → Outcome) where
-  into : encloses (g s nought) (g s one) y ≡ true → orElse (trial W g y ε limit s ev) f ≡ placed (entered W (g s) s y ε limit (g s nought) (g s one) (both s ev))
+module _ (R : Rule) (g : ℕ → Float → Float) (y ε : Float) (limit s : ℕ) (ev : Evaluations) (f : Float → Evaluations → Outcome) where
+  into : encloses (g s nought) (g s one) y ≡ true → orElse (trial R g y ε limit s ev) f ≡ placed (entered R (g s) s y ε limit (g s nought) (g s one) (both s ev))
   unfolding enter
   into h = simp h
 
-  past : encloses (g s nought) (g s one) y ≡ false → orElse (trial W g y ε limit s ev) f ≡ f (g s nought) (both s ev)
+  past : encloses (g s nought) (g s one) y ≡ false → orElse (trial R g y ε limit s ev) f ≡ f (g s nought) (both s ev)
   unfolding enter
   past h = simp h
 
@@ -73,19 +74,19 @@ module _ (W : Weighting) (g : ℕ → Float → Float) (y ε : Float) (limit s :
 -- the segments from first up to below end are tried in order, and those below s are done
 pub record Carried (b : Basis) (ks : List Float) (y : Float) (first end count s made : ℕ) : Type 0 where
   pub so-far : (ev : Evaluations) → length ev ≡ count
-      → (t : Evaluations) × (length t ≡ made) × ((W : Weighting) (ε : Float) (limit : ℕ) → tries (trial W (segmentOf b ks) y ε limit) (end - first) first ev ≡ tries (trial W (segmentOf b ks) y ε limit) (end - s) s t)
+      → (t : Evaluations) × (length t ≡ made) × ((R : Rule) (ε : Float) (limit : ℕ) → tries (trial R (segmentOf b ks) y ε limit) (end - first) first ev ≡ tries (trial R (segmentOf b ks) y ε limit) (end - s) s t)
 
 module _ (b : Basis) (ks : List Float) (y : Float) where
-  abbrev E : Weighting → Float → ℕ → Trial
-  E W ε limit = trial W (segmentOf b ks) y ε limit
+  abbrev E : Rule → Float → ℕ → Trial
+  E R ε limit = trial R (segmentOf b ks) y ε limit
 
   pub tries-start : (first end count : ℕ) → Carried b ks y first end count first count
-  tries-start first end count = record { so-far = λ ev l. (ev, l, λ W ε limit. refl) }
+  tries-start first end count = record { so-far = λ ev l. (ev, l, λ R ε limit. refl) }
 
   module _ (s : ℕ) {e : List Float} {h : Bool} (is : TestedIs b ks s y e h) {first end count made : ℕ} (l : s < end) (carried : Carried b ks y first end count s made) where
-    one-more : (W : Weighting) (ε : Float) (limit : ℕ) (ev : Evaluations) → tries (E W ε limit) (end - s) s ev ≡ orElse (E W ε limit s ev) (λ v t. tries (E W ε limit) (end - suc s) (suc s) t)
+    one-more : (R : Rule) (ε : Float) (limit : ℕ) (ev : Evaluations) → tries (E R ε limit) (end - s) s ev ≡ orElse (E R ε limit s ev) (λ v t. tries (E R ε limit) (end - suc s) (suc s) t)
     unfolding tries
-    one-more W ε limit ev = let q : end - s ≡ suc (end - suc s) = omega arith in ap (λ (n : ℕ). tries (E W ε limit) n s ev) q
+    one-more R ε limit ev = let q : end - s ≡ suc (end - suc s) = omega arith in ap (λ (n : ℕ). tries (E R ε limit) n s ev) q
 
     pub tries-hit : {k : ℕ} → end ≤ k → h ≡ true → TriesIs b ks y (end - first) first k count s (made + 2) e
     tries-hit {k} w i =
@@ -94,8 +95,8 @@ module _ (b : Basis) (ks : List Float) (y : Float) where
               let c = carried .so-far ev n in (
                 both s (c .0),
                 omega (arith, c .1),
-                λ W ε limit. c .2 W ε limit ∙ one-more W ε limit (c .0) ∙ into W (segmentOf b ks) y ε limit s (c .0) (λ v t. tries (E W ε limit) (end - suc s) (suc s) t) (sym (is .holds-is) ∙ i)
-                    ∙ sym (went-in (segmentOf b ks) y k s W ε limit (both s (c .0)) (omega arith)),
+                λ R ε limit. c .2 R ε limit ∙ one-more R ε limit (c .0) ∙ into R (segmentOf b ks) y ε limit s (c .0) (λ v t. tries (E R ε limit) (end - suc s) (suc s) t) (sym (is .holds-is) ∙ i)
+                    ∙ sym (went-in (segmentOf b ks) y k s R ε limit (both s (c .0)) (omega arith)),
               );
           keeps = λ _. is .kept-is;
         }
@@ -108,8 +109,8 @@ module _ (b : Basis) (ks : List Float) (y : Float) where
               let q : suc s ≡ s + 1 = omega arith in (
                 both s (c .0),
                 omega (arith, c .1),
-                λ W ε limit. c .2 W ε limit ∙ one-more W ε limit (c .0) ∙ past W (segmentOf b ks) y ε limit s (c .0) (λ v t. tries (E W ε limit) (end - suc s) (suc s) t) (sym (is .holds-is) ∙ i)
-                    ∙ ap (λ (i : ℕ). tries (E W ε limit) (end - i) i (both s (c .0))) q,
+                λ R ε limit. c .2 R ε limit ∙ one-more R ε limit (c .0) ∙ past R (segmentOf b ks) y ε limit s (c .0) (λ v t. tries (E R ε limit) (end - suc s) (suc s) t) (sym (is .holds-is) ∙ i)
+                    ∙ ap (λ (i : ℕ). tries (E R ε limit) (end - i) i (both s (c .0))) q,
               );
         }
 
@@ -122,25 +123,25 @@ module _ (b : Basis) (ks : List Float) (y : Float) where
             let q : end - s ≡ 0 = omega arith in (
               c .0,
               c .1,
-              λ W ε limit. c .2 W ε limit ∙ ap (λ (n : ℕ). tries (E W ε limit) n s (c .0)) q ∙ none W ε limit s (c .0) ∙ sym (went-none (segmentOf b ks) y k k W ε limit (c .0) (omega arith)),
+              λ R ε limit. c .2 R ε limit ∙ ap (λ (n : ℕ). tries (E R ε limit) n s (c .0)) q ∙ none R ε limit s (c .0) ∙ sym (went-none (segmentOf b ks) y k k R ε limit (c .0) (omega arith)),
             );
         keeps = λ h. absurd (omega (arith, h));
       }
     where
-      none : (W : Weighting) (ε : Float) (limit s : ℕ) (t : Evaluations) → tries (E W ε limit) 0 s t ≡ off t
-      none W ε limit s t = refl
+      none : (R : Rule) (ε : Float) (limit s : ℕ) (t : Evaluations) → tries (E R ε limit) 0 s t ≡ off t
+      none R ε limit s t = refl
 
   -- ---- the last tries
   pub last-tried : (k left first end : ℕ) {count r made : ℕ} {e : List Float} → first ≡ left - 1 → end ≡ min (first + 2) k → TriesIs b ks y (end - first) first k count r made e → LastIs b ks y k left count r made e
   unfolding last
   last-tried k left first end p q i =
       record {
-        comes-to = λ ev n. let c = i .comes-to ev n in (c .0, c .1, λ W ε limit. same W ε limit ev ∙ c .2 W ε limit);
+        comes-to = λ ev n. let c = i .comes-to ev n in (c .0, c .1, λ R ε limit. same R ε limit ev ∙ c .2 R ε limit);
         keeps = i .keeps;
       }
     where
-      same : (W : Weighting) (ε : Float) (limit : ℕ) (ev : Evaluations) → last (E W ε limit) k left ev ≡ tries (E W ε limit) (end - first) first ev
-      same W ε limit ev = rw (q, p)
+      same : (R : Rule) (ε : Float) (limit : ℕ) (ev : Evaluations) → last (E R ε limit) k left ev ≡ tries (E R ε limit) (end - first) first ev
+      same R ε limit ev = rw (q, p)
 
   -- ---- the halvings
   module _ (rising : Bool) (k left : ℕ) where
@@ -152,7 +153,7 @@ module _ (b : Basis) (ks : List Float) (y : Float) where
     pub halve-end : (wide : ℕ) {count r made : ℕ} {e : List Float} → wide ≡ 0 → LastIs b ks y k left count r made e → HalveIs b ks y rising k left wide count r made e
     halve-end wide q i h room =
         record {
-          comes-to = λ ev n. let c = i .comes-to ev n in (c .0, c .1, λ W ε limit. ap (λ (c : ℕ). halve (E W ε limit) y rising k h left c ev) q ∙ none-open (E W ε limit) h ev ∙ c .2 W ε limit);
+          comes-to = λ ev n. let c = i .comes-to ev n in (c .0, c .1, λ R ε limit. ap (λ (c : ℕ). halve (E R ε limit) y rising k h left c ev) q ∙ none-open (E R ε limit) h ev ∙ c .2 R ε limit);
           keeps = i .keeps;
         }
 
@@ -177,17 +178,17 @@ module _ (b : Basis) (ks : List Float) (y : Float) where
             comes-to = λ ev l. (
                 both (left + half) ev,
                 omega arith,
-                λ W ε limit. opened (E W ε limit) n ev ∙ into W (segmentOf b ks) y ε limit (left + half) ev (on (E W ε limit) n wide half (left + half)) (sym (is .holds-is) ∙ i)
-                    ∙ sym (went-in (segmentOf b ks) y k (left + half) W ε limit (both (left + half) ev) w),
+                λ R ε limit. opened (E R ε limit) n ev ∙ into R (segmentOf b ks) y ε limit (left + half) ev (on (E R ε limit) n wide half (left + half)) (sym (is .holds-is) ∙ i)
+                    ∙ sym (went-in (segmentOf b ks) y k (left + half) R ε limit (both (left + half) ev) w),
               );
             keeps = λ _. is .kept-is;
           }
 
       module _ {v : Float} (a : v ≡ segmentOf b ks (left + half) nought) (i : h ≡ false) where
-        went-past : (W : Weighting) (ε : Float) (limit n : ℕ) (ev : Evaluations) → halve (E W ε limit) y rising k (suc n) left wide ev ≡ on (E W ε limit) n wide half (left + half) v (both (left + half) ev)
-        went-past W ε limit n ev =
-            opened (E W ε limit) n ev ∙ past W (segmentOf b ks) y ε limit (left + half) ev (on (E W ε limit) n wide half (left + half)) (sym (is .holds-is) ∙ i)
-            ∙ ap (λ (v : Float). on (E W ε limit) n wide half (left + half) v (both (left + half) ev)) (sym a)
+        went-past : (R : Rule) (ε : Float) (limit n : ℕ) (ev : Evaluations) → halve (E R ε limit) y rising k (suc n) left wide ev ≡ on (E R ε limit) n wide half (left + half) v (both (left + half) ev)
+        went-past R ε limit n ev =
+            opened (E R ε limit) n ev ∙ past R (segmentOf b ks) y ε limit (left + half) ev (on (E R ε limit) n wide half (left + half)) (sym (is .holds-is) ∙ i)
+            ∙ ap (λ (v : Float). on (E R ε limit) n wide half (left + half) v (both (left + half) ev)) (sym a)
 
         pub halve-left : {count r made : ℕ} {e' : List Float} → before rising y v ≡ true → HalveIs b ks y rising k left half (count + 2) r made e' → HalveIs b ks y rising k left wide count r made e'
         halve-left d u zero room = absurd (omega arith)
@@ -197,7 +198,7 @@ module _ (b : Basis) (ks : List Float) (y : Float) where
               comes-to = λ ev l.
                   let c = s .comes-to (both (left + half) ev) (omega arith) in
                   let q : (F : Trial) → on F n wide half (left + half) v (both (left + half) ev) ≡ halve F y rising k n left half (both (left + half) ev) = λ F. simp d in
-                  (c .0, c .1, λ W ε limit. went-past W ε limit n ev ∙ q (E W ε limit) ∙ c .2 W ε limit);
+                  (c .0, c .1, λ R ε limit. went-past R ε limit n ev ∙ q (E R ε limit) ∙ c .2 R ε limit);
               keeps = s .keeps;
             }
 
@@ -209,7 +210,7 @@ module _ (b : Basis) (ks : List Float) (y : Float) where
               comes-to = λ ev l.
                   let c = s .comes-to (both (left + half) ev) (omega arith) in
                   let q : (F : Trial) → on F n wide half (left + half) v (both (left + half) ev) ≡ halve F y rising k n (left + half + 1) (wide - 1 - half) (both (left + half) ev) = λ F. simp d in
-                  (c .0, c .1, λ W ε limit. went-past W ε limit n ev ∙ q (E W ε limit) ∙ c .2 W ε limit);
+                  (c .0, c .1, λ R ε limit. went-past R ε limit n ev ∙ q (E R ε limit) ∙ c .2 R ε limit);
               keeps = s .keeps;
             }
 
@@ -218,7 +219,7 @@ module _ (b : Basis) (ks : List Float) (y : Float) where
   unfolding find
   sought-few rising k h i =
       record {
-        comes-to = λ ev l. let c = i .comes-to ev l in (c .0, c .1, λ W ε limit. few (E W ε limit) ev ∙ c .2 W ε limit);
+        comes-to = λ ev l. let c = i .comes-to ev l in (c .0, c .1, λ R ε limit. few (E R ε limit) ev ∙ c .2 R ε limit);
         keeps = i .keeps;
       }
     where
@@ -230,7 +231,7 @@ module _ (b : Basis) (ks : List Float) (y : Float) where
   sought-many rising k h w i =
       let s = i (bitsOf k) (bits-enough k w) in
       record {
-        comes-to = λ ev l. let c = s .comes-to ev l in (c .0, c .1, λ W ε limit. many (E W ε limit) ev ∙ c .2 W ε limit);
+        comes-to = λ ev l. let c = s .comes-to ev l in (c .0, c .1, λ R ε limit. many (E R ε limit) ev ∙ c .2 R ε limit);
         keeps = s .keeps;
       }
     where
@@ -238,15 +239,15 @@ module _ (b : Basis) (ks : List Float) (y : Float) where
       many F ev = simp (lt-leb k 12 h)
 
   -- ---- and the place in the segment that it comes to
-  module _ (m : Weighing) (ε : Float) (limit : ℕ) (rising : Bool) (k : ℕ) {count s made : ℕ} {e : List Float} (sought : SoughtIs b ks y rising k count s made e) where
-    pub found-in : {p : Place} → s < k → EnteredIs m (record { w0 = getD e 0 nan; w1 = getD e 1 nan; w2 = getD e 2 nan; w3 = getD e 3 nan }) s y ε limit (getD e 4 nan) (getD e 5 nan) made p → FindIs m b ks y ε limit rising k count (At p)
+  module _ (how : Method) (ε : Float) (limit : ℕ) (rising : Bool) (k : ℕ) {count s made : ℕ} {e : List Float} (sought : SoughtIs b ks y rising k count s made e) where
+    pub found-in : {p : Place} → s < k → EnteredBy how (record { w0 = getD e 0 nan; w1 = getD e 1 nan; w2 = getD e 2 nan; w3 = getD e 3 nan }) s y ε limit (getD e 4 nan) (getD e 5 nan) made p → FindIs how b ks y ε limit rising k count (At p)
     found-in {p} h i ev l =
         let c = sought .comes-to ev l in
         ap At (i (c .0) (c .1)
-            ∙ ap (λ (e : List Float). placeOf alone (entered (weightingOf m) (hornerOf (record { w0 = getD e 0 nan; w1 = getD e 1 nan; w2 = getD e 2 nan; w3 = getD e 3 nan })) s y ε limit (getD e 4 nan) (getD e 5 nan) (c .0))) (sought .keeps h))
-        ∙ ap (answered alone) (sym (c .2 (weightingOf m) ε limit ∙ went-in (segmentOf b ks) y k s (weightingOf m) ε limit (c .0) h))
+            ∙ ap (λ (e : List Float). placeOf alone (entered (ruleOf how) (hornerOf (record { w0 = getD e 0 nan; w1 = getD e 1 nan; w2 = getD e 2 nan; w3 = getD e 3 nan })) s y ε limit (getD e 4 nan) (getD e 5 nan) (c .0))) (sought .keeps h))
+        ∙ ap (answered alone) (sym (c .2 (ruleOf how) ε limit ∙ went-in (segmentOf b ks) y k s (ruleOf how) ε limit (c .0) h))
 
-    pub found-none : k ≤ s → FindIs m b ks y ε limit rising k count (OffCurve made)
+    pub found-none : k ≤ s → FindIs how b ks y ε limit rising k count (OffCurve made)
     found-none h ev l =
         let c = sought .comes-to ev l in
-        ap OffCurve (sym (c .1)) ∙ ap (answered alone) (sym (c .2 (weightingOf m) ε limit ∙ went-none (segmentOf b ks) y k s (weightingOf m) ε limit (c .0) h))
+        ap OffCurve (sym (c .1)) ∙ ap (answered alone) (sym (c .2 (ruleOf how) ε limit ∙ went-none (segmentOf b ks) y k s (ruleOf how) ε limit (c .0) h))

@@ -1,4 +1,4 @@
--- Beside the crate's way, in which an entered segment's ends are evaluated twice: the same place by the same ground, and two evaluations fewer; and the same list where none is entered. For any weighting. Assumes nothing.
+-- Beside the crate's way, in which an entered segment's ends are evaluated twice: the same place by the same ground, and two evaluations fewer; and the same list where none is entered. For any rule. Assumes nothing.
 use mathlib.Core.Bool.{Bool, true, false, cond}
 use Prim.Native.Nat.{ℕ, zero, suc, _+_, _-_, _/_, min}
 use native.Mathlib.Omega.{arith}
@@ -7,7 +7,7 @@ use lib.ListN.{length}
 use lib.Ieee.{Float}
 use Rattle.doubles.specs.Numbers.{nought, one}
 use Rattle.invert.specs.Evaluations.{Evaluations}
-use Rattle.invert.specs.Round.{Weighting}
+use Rattle.invert.specs.Round.{Rule}
 use Rattle.invert.specs.Rounds.{Placed}
 use Rattle.invert.specs.Segment.{encloses, entered, Entry, outside, inside, enter, Outcome, off, placed, orElse}
 use Rattle.invert.proofs.Ends.{both}
@@ -56,19 +56,19 @@ module _ (n : ℕ) (E D : Trial) (trials : (s : ℕ) (ev : Evaluations) → Fewe
     unfolding find
     find-less ev = either n (leb k 12) (tries-fewer k 0 ev) (halve-fewer (bitsOf k) 0 k ev)
 
-module _ (W : Weighting) (g : ℕ → Float → Float) (y ε : Float) (limit : ℕ) where
-  trial-fewer : (s : ℕ) (ev : Evaluations) → FewerIn 2 (trial W g y ε limit s ev) (trialTwice W g y ε limit s ev)
+module _ (R : Rule) (g : ℕ → Float → Float) (y ε : Float) (limit : ℕ) where
+  trial-fewer : (s : ℕ) (ev : Evaluations) → FewerIn 2 (trial R g y ε limit s ev) (trialTwice R g y ε limit s ev)
   unfolding enter trialTwice
   trial-fewer s ev = go (encloses (g s nought) (g s one) y)
     where
       p : Evaluations → Placed
-      p t = entered W (g s) s y ε limit (g s nought) (g s one) t
+      p t = entered R (g s) s y ε limit (g s nought) (g s one) t
 
       go : (t : Bool) → FewerIn 2 (cond t (inside (p (both s ev))) (outside (g s nought) (both s ev)))
           (cond t (cond t (inside (p (both s (both s ev)))) (outside (g s nought) (both s (both s ev)))) (outside (g s nought) (both s ev)))
-      go true = fewer-in (entered-more W (g s) s y ε 2 limit (g s nought) (g s one) (both s ev) (both s (both s ev)) (omega arith))
+      go true = fewer-in (entered-more R (g s) s y ε 2 limit (g s nought) (g s one) (both s ev) (both s (both s ev)) (omega arith))
       go false = same-out
 
   -- the search with `trial` beside the search with the crate's
-  pub find-fewer : (rising : Bool) (k : ℕ) (ev : Evaluations) → Fewer 2 (find (trial W g y ε limit) y rising k ev) (find (trialTwice W g y ε limit) y rising k ev)
-  find-fewer rising k ev = find-less 2 (trial W g y ε limit) (trialTwice W g y ε limit) trial-fewer y rising k ev
+  pub find-fewer : (rising : Bool) (k : ℕ) (ev : Evaluations) → Fewer 2 (find (trial R g y ε limit) y rising k ev) (find (trialTwice R g y ε limit) y rising k ev)
+  find-fewer rising k ev = find-less 2 (trial R g y ε limit) (trialTwice R g y ε limit) trial-fewer y rising k ev

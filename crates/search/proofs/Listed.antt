@@ -1,4 +1,4 @@
--- The list of evaluations misses none: two curves that agree at every listed place come to the same outcome, with the same list. For any weighting. Assumes nothing.
+-- The list of evaluations misses none: two curves that agree at every listed place come to the same outcome, with the same list. For any rule. Assumes nothing.
 use mathlib.Core.Path.{_≡_, refl, ap, _∙_}
 use mathlib.Core.Bool.{Bool, cond}
 use Prim.Native.Nat.{ℕ, zero, suc, _+_, _-_, _/_, min}
@@ -6,7 +6,7 @@ use lib.Dec.{leb}
 use lib.Ieee.{Float}
 use Rattle.doubles.proofs.Tests.{branch, alike}
 use Rattle.invert.specs.Evaluations.{Evaluations}
-use Rattle.invert.specs.Round.{Weighting}
+use Rattle.invert.specs.Round.{Rule}
 use Rattle.invert.specs.Segment.{Entry, outside, inside, Outcome, orElse, evaluationsOf}
 use Rattle.invert.specs.Agreed.{Agreed}
 use Rattle.invert.proofs.Complete.{seenIn, enter-grows, enter-same}
@@ -81,10 +81,10 @@ module _ (g h : ℕ → Float → Float) where
       unfolding find
       find-alike ev a = alike Same (leb k 12) (tries-same k 0 ev) (halve-same (bitsOf k) 0 k ev) a
 
-  pub find-same : (W : Weighting) (y ε : Float) (limit : ℕ) (rising : Bool) (k : ℕ) (ev : Evaluations) → Same (find (trial W g y ε limit) y rising k ev) → find (trial W g y ε limit) y rising k ev ≡ find (trial W h y ε limit) y rising k ev
-  find-same W y ε limit rising k ev a =
-      find-alike (trial W g y ε limit) (trial W h y ε limit) (λ s ev. enter-grows g h W s y ε limit ev) (λ s ev. enter-same g h W s y ε limit ev) y rising k ev a
+  pub find-same : (R : Rule) (y ε : Float) (limit : ℕ) (rising : Bool) (k : ℕ) (ev : Evaluations) → Same (find (trial R g y ε limit) y rising k ev) → find (trial R g y ε limit) y rising k ev ≡ find (trial R h y ε limit) y rising k ev
+  find-same R y ε limit rising k ev a =
+      find-alike (trial R g y ε limit) (trial R h y ε limit) (λ s ev. enter-grows g h R s y ε limit ev) (λ s ev. enter-same g h R s y ε limit ev) y rising k ev a
 
-  pub find-grows : (W : Weighting) (y ε : Float) (limit : ℕ) (rising : Bool) (k : ℕ) (ev : Evaluations) → Same (find (trial W g y ε limit) y rising k ev) → Agreed g h ev
-  find-grows W y ε limit rising k ev a =
-      find-grown (trial W g y ε limit) (trial W h y ε limit) (λ s ev. enter-grows g h W s y ε limit ev) (λ s ev. enter-same g h W s y ε limit ev) y rising k ev a
+  pub find-grows : (R : Rule) (y ε : Float) (limit : ℕ) (rising : Bool) (k : ℕ) (ev : Evaluations) → Same (find (trial R g y ε limit) y rising k ev) → Agreed g h ev
+  find-grows R y ε limit rising k ev a =
+      find-grown (trial R g y ε limit) (trial R h y ε limit) (λ s ev. enter-grows g h R s y ε limit ev) (λ s ev. enter-same g h R s y ε limit ev) y rising k ev a

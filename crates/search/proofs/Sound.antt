@@ -1,4 +1,4 @@
--- The trial of a segment, by any weighting that keeps the places: where its ends enclose the target it is entered, and its place is one of which all is known that the segment's laws say. Assumes nothing.
+-- The trial of a segment, by any weighting that lawful the places: where its ends enclose the target it is entered, and its place is one of which all is known that the segment's laws say. Assumes nothing.
 use mathlib.Core.Path.{_≡_}
 use mathlib.Core.Bool.{Bool, not}
 use Prim.Native.Nat.{ℕ, _+_, _^_, _<_}
@@ -8,10 +8,10 @@ use lib.Ieee.{Float, lt}
 use Rattle.doubles.specs.Numbers.{nought, one}
 use Rattle.doubles.proofs.Units.{nought-in, one-in}
 use Rattle.invert.specs.Evaluations.{Evaluations}
-use Rattle.invert.specs.Round.{Weighting}
+use Rattle.invert.specs.Round.{Rule}
 use Rattle.invert.specs.Rounds.{Placed}
 use Rattle.invert.specs.Segment.{Entry}
-use Rattle.invert.proofs.Weighting.{Keeps}
+use Rattle.invert.proofs.Rules.{Lawful}
 use Rattle.invert.proofs.Enclosing.{Numbers}
 use Rattle.invert.proofs.Places as places
 use Rattle.search.specs.Search.{find}
@@ -27,12 +27,12 @@ module _ (g : ℕ → Float → Float) (y ε : Float) (limit : ℕ) where
   as-tried k s ev _ (places.missed h) = shut h
   as-tried k s ev _ (places.hit h r q) = hit h (r, q)
 
-  module _ (W : Weighting) (keeps : Keeps W) where
-    pub trial-tried : (k : ℕ) → ((s : ℕ) → s < k → Numbers (g s) y) → (s : ℕ) (ev : Evaluations) → s < k → Tried g y k SoundIn s ev (trial W g y ε limit s ev)
-    trial-tried k numbers s ev l = as-tried k s ev (trial W g y ε limit s ev) (places.enter-tells W keeps (g s) s y ε limit ev (numbers s l))
+  module _ (R : Rule) (lawful : Lawful R) where
+    pub trial-tried : (k : ℕ) → ((s : ℕ) → s < k → Numbers (g s) y) → (s : ℕ) (ev : Evaluations) → s < k → Tried g y k SoundIn s ev (trial R g y ε limit s ev)
+    trial-tried k numbers s ev l = as-tried k s ev (trial R g y ε limit s ev) (places.enter-tells R lawful (g s) s y ε limit ev (numbers s l))
 
     -- the whole search, after the evaluations ev
     pub find-sound : (k : ℕ) → 0 < k → k < 2 ^ 64 → ((s : ℕ) → s < k → Numbers (g s) y) → (rising : Bool) (ev : Evaluations)
-        → Result g y k SoundIn (length ev + probes (leb k 12) k) ((T (not (leb k 12)) → Straight g y k rising) → Nothing g y k 0 k) (find (trial W g y ε limit) y rising k ev)
+        → Result g y k SoundIn (length ev + probes (leb k 12) k) ((T (not (leb k 12)) → Straight g y k rising) → Nothing g y k 0 k) (find (trial R g y ε limit) y rising k ev)
     find-sound k some fits numbers rising ev =
-        find-says g y k SoundIn (trial W g y ε limit) (trial-tried k numbers) (numbers 0 some .target) (λ s l. (numbers s l .values nought nought-in, numbers s l .values one one-in)) rising ev fits
+        find-says g y k SoundIn (trial R g y ε limit) (trial-tried k numbers) (numbers 0 some .target) (λ s l. (numbers s l .values nought nought-in, numbers s l .values one one-in)) rising ev fits

@@ -12,11 +12,12 @@ use Rattle.doubles.specs.Numbers.{nought, one}
 use Rattle.spline.specs.declared.Weights.{Weights}
 use Rattle.spline.specs.Segment.{weightsOf, hornerOf, segmentOf}
 use Rattle.invert.specs.declared.Inverted.{Inverted}
-use Rattle.invert.specs.declared.Weighing.{Weighing}
 use Rattle.invert.specs.Evaluations.{Evaluations}
-use Rattle.invert.specs.Round.{Weighting, weightingOf}
+use Rattle.invert.specs.Round.{Rule}
 use Rattle.invert.specs.Segment.{Outcome, off, placed, encloses, entered}
 use Rattle.invert.specs.Answer.{answered, alone}
+use Rattle.steady.specs.declared.Method.{Method}
+use Rattle.steady.specs.Method.{ruleOf}
 use Rattle.search.specs.Search.{Trial, tries, last, halve, find}
 use Rattle.search.specs.Trial.{trial}
 
@@ -40,13 +41,13 @@ abbrev pub TestedIs : Basis → List Float → ℕ → Float → List Float → 
 TestedIs b ks s = SettledIs (weightsAt b ks s)
 
 -- segment s of k is entered after both its ends were evaluated; where s is k, none is
-abbrev pub went : (ℕ → Float → Float) → Float → ℕ → ℕ → Weighting → Float → ℕ → Evaluations → Outcome
-went g y k s W ε limit ev = cond (ltb s k) (placed (entered W (g s) s y ε limit (g s nought) (g s one) ev)) (off ev)
+abbrev pub went : (ℕ → Float → Float) → Float → ℕ → ℕ → Rule → Float → ℕ → Evaluations → Outcome
+went g y k s R ε limit ev = cond (ltb s k) (placed (entered R (g s) s y ε limit (g s nought) (g s one) ev)) (off ev)
 
 module _ (b : Basis) (ks : List Float) (y : Float) where
   -- a search that comes to segment r of k, whatever the n evaluations before it were: m have been made by then, and e is what it keeps of segment r
   pub record Seeks (o : Trial → Evaluations → Outcome) (k n r m : ℕ) (e : List Float) : Type 0 where
-    pub comes-to : (ev : Evaluations) → length ev ≡ n → (t : Evaluations) × (length t ≡ m) × ((W : Weighting) (ε : Float) (limit : ℕ) → o (trial W (segmentOf b ks) y ε limit) ev ≡ went (segmentOf b ks) y k r W ε limit t)
+    pub comes-to : (ev : Evaluations) → length ev ≡ n → (t : Evaluations) × (length t ≡ m) × ((R : Rule) (ε : Float) (limit : ℕ) → o (trial R (segmentOf b ks) y ε limit) ev ≡ went (segmentOf b ks) y k r R ε limit t)
     pub keeps : r < k → e ≡ keptOf (weightsAt b ks r)
 
   abbrev pub TriesIs : ℕ → ℕ → ℕ → ℕ → ℕ → ℕ → List Float → Type 0
@@ -62,6 +63,6 @@ module _ (b : Basis) (ks : List Float) (y : Float) where
   abbrev pub SoughtIs : Bool → ℕ → ℕ → ℕ → ℕ → List Float → Type 0
   SoughtIs rising k = Seeks (λ E. find E y rising k) k
 
-module _ (m : Weighing) (b : Basis) (ks : List Float) (y ε : Float) (limit : ℕ) where
+module _ (how : Method) (b : Basis) (ks : List Float) (y ε : Float) (limit : ℕ) where
   abbrev pub FindIs : Bool → ℕ → ℕ → Inverted → Type 0
-  FindIs rising k = Is (find (trial (weightingOf m) (segmentOf b ks) y ε limit) y rising k)
+  FindIs rising k = Is (find (trial (ruleOf how) (segmentOf b ks) y ε limit) y rising k)

@@ -4,12 +4,12 @@ use Prim.Native.Nat.{ℕ}
 use lib.Ieee.{Float}
 use Rattle.doubles.specs.Numbers.{nought, one}
 use Rattle.invert.specs.Evaluations.{Evaluations, see}
-use Rattle.invert.specs.Round.{Weighting}
+use Rattle.invert.specs.Round.{Rule}
 use Rattle.invert.specs.Segment.{encloses, Entry, outside, enter}
 
-unfoldable pub trialTwice : Weighting → (ℕ → Float → Float) → Float → Float → ℕ → ℕ → Evaluations → Entry
-trialTwice W g y ε limit s ev =
+unfoldable pub trialTwice : Rule → (ℕ → Float → Float) → Float → Float → ℕ → ℕ → Evaluations → Entry
+trialTwice R g y ε limit s ev =
     let a = see (g s) s nought ev in
     let b = see (g s) s one (a .made) in
-    let again = enter W (g s) s y ε limit (b .made) in
+    let again = enter R (g s) s y ε limit (b .made) in
     cond (encloses (a .value) (b .value) y) again (outside (a .value) (b .made))

@@ -9,8 +9,8 @@ ghost use Rattle.search.specs.Search.{before};
 ghost use Rattle.search.specs.Shown.{SettledIs, TestedIs, TriesIs, LastIs, HalveIs, SoughtIs, FindIs};
 use basis::Basis;
 use invert::Inverted;
-use invert::Weighing;
 use spline::Weights;
+use steady::Method;
 
 // The binary digits of k up to the highest one.
 pub fn bits(k: usize) -> u32
@@ -208,7 +208,7 @@ fn sought(
 
 // The search, and the place in the segment that it comes to; `count` evaluations have been made before.
 pub fn find(
-    m: Weighing,
+    how: Method,
     b: Basis,
     knots: &[f64],
     y: f64,
@@ -219,7 +219,7 @@ pub fn find(
     count: u32,
 ) -> Inverted
     requires { ⌜ (k * stepOf b + 4 ≤ length (now knots) + stepOf b) × (length (now knots) ≤ 4096) × (0 < k) × (k ≤ 4096) × (count ≤ 1000) ⌝ }
-    ensures { λ r. ⌜ FindIs m b (now (knots .entry)) y precision limit rising k count r ⌝ }
+    ensures { λ r. ⌜ FindIs how b (now (knots .entry)) y precision limit rising k count r ⌝ }
 {
     let mut made = count;
     let mut ends = [0.0, 0.0, 0.0, 0.0, 0.0, 0.0];
@@ -231,7 +231,7 @@ pub fn find(
             w2: ends[2],
             w3: ends[3],
         };
-        return Inverted::At(invert::entered(m, w, s, y, precision, limit, ends[4], ends[5], made));
+        return Inverted::At(steady::entered_by(how, w, s, y, precision, limit, ends[4], ends[5], made));
     }
     Inverted::OffCurve(made as usize)
 }

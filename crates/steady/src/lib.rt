@@ -173,7 +173,7 @@ pub fn entered(
 }
 
 // By the method that is asked for.
-fn entered_by(
+pub fn entered_by(
     how: Method,
     w: Weights,
     s: usize,
