@@ -19,9 +19,9 @@ use Rattle.invert.specs.declared.Inverted.the-variants.{At}
 use Rattle.invert.specs.Segment.{Outcome, off, placed}
 use Rattle.invert.specs.Answer.{answered, alone}
 use Rattle.invert.proofs.Enclosing.{Numbers}
-use Rattle.invert.specs.declared.Weighing.{Weighing}
-use Rattle.invert.specs.Round.{weightingOf}
-use Rattle.invert.proofs.Weighting.{weighing-keeps}
+use Rattle.steady.specs.declared.Method.{Method}
+use Rattle.steady.specs.Method.{ruleOf}
+use Rattle.steady.proofs.Lawful.{lawful-of}
 use Rattle.search.specs.Trial.{trial}
 use Rattle.search.specs.Search.{find}
 use Rattle.search.proofs.Found.{Result, missed, got}
@@ -42,9 +42,9 @@ module _ (b : Basis) (y ε : Float) (ks : List Float) (limit k : ℕ) (e : k ≡
   below m N (off t) p (missed n c) h = never (cc)
   below m N (placed q) p (got r) h = let s : p .segment ≡ q .segment = cc in subst (λ (i : ℕ). i < k) (sym (s ∙ r .good .1)) (r .below)
 
-  pub found-below : (w : Weighing) (rising : Bool) (p : Place) → isNan y ≡ false → allInRange ks ≡ true → (n : ℕ) → ((ev : Evaluations) → length ev ≡ n → At p ≡ answered alone (find (trial (weightingOf w) (segmentOf b ks) y ε limit) y rising k ev)) → p .segment < k
-  found-below w rising p n t m h =
+  pub found-below : (how : Method) (rising : Bool) (p : Place) → isNan y ≡ false → allInRange ks ≡ true → (n : ℕ) → ((ev : Evaluations) → length ev ≡ n → At p ≡ answered alone (find (trial (ruleOf how) (segmentOf b ks) y ε limit) y rising k ev)) → p .segment < k
+  found-below how rising p n t m h =
       let ev : Evaluations = replicate m (0, nought) in
       let g = segmentOf b ks in
       let numbers : (s : ℕ) → s < k → Numbers (segmentOf b ks s) y = λ s l. curve-numbers b y ks long n t s (subst (λ (z : ℕ). s < z) e l) in
-      below _ _ (find (trial (weightingOf w) g y ε limit) y rising k ev) p (find-sound g y ε limit (weightingOf w) (weighing-keeps w) k k-some (lt-of-le-of-lt k-few (lit< tt)) numbers rising ev) (h ev (length-replicate m (0, nought)))
+      below _ _ (find (trial (ruleOf how) g y ε limit) y rising k ev) p (find-sound g y ε limit (ruleOf how) (lawful-of how) k k-some (lt-of-le-of-lt k-few (lit< tt)) numbers rising ev) (h ev (length-replicate m (0, nought)))

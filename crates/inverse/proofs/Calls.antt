@@ -18,15 +18,16 @@ use Rattle.basis.specs.Basis.{stepOf, matrixOf, segmentsOf}
 use Rattle.spline.specs.declared.Weights.{Weights}
 use Rattle.spline.specs.Segment.{weightsOf, hornerOf, segmentOf}
 use Rattle.invert.specs.Evaluations.{Evaluations}
-use Rattle.invert.specs.declared.Weighing.{Weighing}
-use Rattle.invert.specs.Round.{Weighting, weightingOf}
+use Rattle.steady.specs.declared.Method.{Method}
+use Rattle.invert.specs.Round.{Rule}
+use Rattle.steady.specs.Method.{ruleOf}
 use Rattle.search.specs.Trial.{trial}
 use Rattle.search.specs.Search.{find}
 use Rattle.inverse.specs.declared.Ends.{Ends}
 use Rattle.inverse.specs.declared.Mode.{Mode}
 use Rattle.inverse.specs.declared.Mode.the-variants.{Knots, Curve}
 use Rattle.inverse.specs.Shown.{LocatedIs}
-use Rattle.inverse.specs.EndRule.{atLow, atHigh, knotEnds, curveRule, ruleOf, own}
+use Rattle.inverse.specs.EndRule.{atLow, atHigh, knotEnds, curveRule, endRuleOf, own}
 use Rattle.inverse.specs.Curve.{parameterOf, ended, located}
 
 -- ---- the search's answer, with another parameter
@@ -43,38 +44,38 @@ module _ (P : ℕ → Float → Float) where
       rw (h, s)
 
 -- ---- the end rule's two tests, then the search
-module _ (W : Weighting) (e : Ends) (ev : Evaluations) (g : ℕ → Float → Float) (k : ℕ) (y ε : Float) (limit : ℕ) {r : Inverted} where
-  pub located-low : atLow e y ≡ true → r ≡ ended ev 0 nought → r ≡ located W e ev g k y ε limit
+module _ (R : Rule) (e : Ends) (ev : Evaluations) (g : ℕ → Float → Float) (k : ℕ) (y ε : Float) (limit : ℕ) {r : Inverted} where
+  pub located-low : atLow e y ≡ true → r ≡ ended ev 0 nought → r ≡ located R e ev g k y ε limit
   unfolding located
   located-low t h = h ∙ simp t
 
-  pub located-high : atLow e y ≡ false → atHigh e y ≡ true → r ≡ ended ev (k - 1) one → r ≡ located W e ev g k y ε limit
+  pub located-high : atLow e y ≡ false → atHigh e y ≡ true → r ≡ ended ev (k - 1) one → r ≡ located R e ev g k y ε limit
   unfolding located
   located-high t u h = h ∙ simp (t, u)
 
-  pub located-searched : atLow e y ≡ false → atHigh e y ≡ false → r ≡ answered (parameterOf k) (find (trial W g y ε limit) y (e .rising) k ev) → r ≡ located W e ev g k y ε limit
+  pub located-searched : atLow e y ≡ false → atHigh e y ≡ false → r ≡ answered (parameterOf k) (find (trial R g y ε limit) y (e .rising) k ev) → r ≡ located R e ev g k y ε limit
   unfolding located
   located-searched t u h = h ∙ simp (t, u)
 
 -- ---- the mode's end rule
-pub rule-made : (m : Mode) (b : Basis) (ks : List Float) (g : ℕ → Float → Float) → length (ruleOf m b ks g .made) ≡ own m
+pub rule-made : (m : Mode) (b : Basis) (ks : List Float) (g : ℕ → Float → Float) → length (endRuleOf m b ks g .made) ≡ own m
 rule-made Knots b ks g = refl
 rule-made Curve b ks g = refl
 
 module _ (m : Mode) (b : Basis) (ks : List Float) (k : ℕ) (q : k ≡ segmentsOf b (length ks)) where
   -- e is what it goes by, as the code has it
-  pub curve-ends-in : {e : Ends} → m ≡ Curve → e ≡ curveRule (segmentOf b ks) k .ends → e ≡ ruleOf m b ks (segmentOf b ks) .ends
+  pub curve-ends-in : {e : Ends} → m ≡ Curve → e ≡ curveRule (segmentOf b ks) k .ends → e ≡ endRuleOf m b ks (segmentOf b ks) .ends
   curve-ends-in t h = rw t (h ∙ ap (λ (z : ℕ). curveRule (segmentOf b ks) z .ends) q)
 
-  pub knot-ends-in : {e : Ends} → m ≡ Knots → e ≡ knotEnds b ks → e ≡ ruleOf m b ks (segmentOf b ks) .ends
+  pub knot-ends-in : {e : Ends} → m ≡ Knots → e ≡ knotEnds b ks → e ≡ endRuleOf m b ks (segmentOf b ks) .ends
   knot-ends-in t h = rw t h
 
-  pub by-rule : (w : Weighing) (y ε : Float) (limit n : ℕ) {r : Inverted} (e : Ends) → e ≡ ruleOf m b ks (segmentOf b ks) .ends → n ≡ own m → LocatedIs w e b y ks limit ε k n r
-      → r ≡ located (weightingOf w) (ruleOf m b ks (segmentOf b ks) .ends) (ruleOf m b ks (segmentOf b ks) .made) (segmentOf b ks) (segmentsOf b (length ks)) y ε limit
-  by-rule w y ε limit n e p o i =
+  pub by-rule : (how : Method) (y ε : Float) (limit n : ℕ) {r : Inverted} (e : Ends) → e ≡ endRuleOf m b ks (segmentOf b ks) .ends → n ≡ own m → LocatedIs how e b y ks limit ε k n r
+      → r ≡ located (ruleOf how) (endRuleOf m b ks (segmentOf b ks) .ends) (endRuleOf m b ks (segmentOf b ks) .made) (segmentOf b ks) (segmentsOf b (length ks)) y ε limit
+  by-rule how y ε limit n e p o i =
       let g = segmentOf b ks in
-      let ev = ruleOf m b ks g .made in
-      i ev (rule-made m b ks g ∙ sym o) ∙ ap (λ (z : Ends). located (weightingOf w) z ev g k y ε limit) p ∙ ap (λ (z : ℕ). located (weightingOf w) (ruleOf m b ks g .ends) ev g z y ε limit) q
+      let ev = endRuleOf m b ks g .made in
+      i ev (rule-made m b ks g ∙ sym o) ∙ ap (λ (z : Ends). located (ruleOf how) z ev g k y ε limit) p ∙ ap (λ (z : ℕ). located (ruleOf how) (endRuleOf m b ks g .ends) ev g z y ε limit) q
 
 -- ---- the curve's own ends, from the row sums of its first and last segment
 pub ends-are : (b : Basis) (ks : List Float) (k : ℕ) {w0 w1 : Weights} {v0 v1 : Float} → w0 ≡ weightsOf (matrixOf b) (drop (0 * stepOf b) ks) → v0 ≡ hornerOf w0 nought → w1 ≡ weightsOf (matrixOf b) (drop ((k - 1) * stepOf b) ks) → v1 ≡ hornerOf w1 one

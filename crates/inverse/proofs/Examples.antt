@@ -16,7 +16,7 @@ use Rattle.doubles.proofs.Tests.{each, each-at}
 use Rattle.spline.specs.Segment.{segmentOf}
 use Rattle.spline.specs.Rows.{inRange, allInRange}
 use Rattle.invert.specs.declared.Inverted.the-variants.{OffCurve}
-use Rattle.invert.specs.Round.{narrow, halving, weighed, kept, fraction, moved, settled, probed, turn}
+use Rattle.invert.specs.Round.{narrow, halving, weighed, chord, kept, fraction, moved, settled, probed, turn}
 use Rattle.invert.specs.Rounds.{rounds}
 use Rattle.invert.specs.Segment.{entered, enter}
 use Rattle.invert.specs.Answer.{precise, defaultLimit, defaultPrecision}

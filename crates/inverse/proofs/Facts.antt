@@ -25,9 +25,9 @@ use Rattle.invert.specs.Segment.{Outcome, off, placed, encloses, near, evaluati
 use Rattle.invert.specs.Answer.{answered, countTold}
 use Rattle.invert.proofs.Enclosing.{Numbers, Says}
 use Rattle.invert.proofs.Places.{bracket-encloses}
-use Rattle.invert.specs.Round.{Weighting}
+use Rattle.invert.specs.Round.{Rule}
 use Rattle.search.specs.Trial.{trial}
-use Rattle.invert.proofs.Weighting.{Keeps}
+use Rattle.invert.proofs.Rules.{Lawful}
 use Rattle.search.specs.Search.{find}
 use Rattle.search.proofs.Found.{Holds}
 use Rattle.search.proofs.Listed.{find-grows, find-same}
@@ -89,42 +89,42 @@ module _ (e : Ends) (ev : Evaluations) (g : ℕ → Float → Float) (k : ℕ) (
   GroundSays Spent p = (base : ℕ) × (base + limit ≤ most e ev g k y ε limit) × (p .count ≡ base + limit)
 
 -- ---- the count
-module _ (W : Weighting) (e : Ends) (ev : Evaluations) (g : ℕ → Float → Float) (k : ℕ) (y ε : Float) (limit : ℕ) where
+module _ (R : Rule) (e : Ends) (ev : Evaluations) (g : ℕ → Float → Float) (k : ℕ) (y ε : Float) (limit : ℕ) where
   answered-count : (P : ℕ → Float → Float) (o : Outcome) → countTold (answered P o) ≡ length (evaluationsOf o)
   answered-count P (off t) = refl
   answered-count P (placed p) = refl
 
   -- the count is the length of the list of evaluations
-  pub count-is-length : countTold (located W e ev g k y ε limit) ≡ length (evaluations W e ev g k y ε limit)
+  pub count-is-length : countTold (located R e ev g k y ε limit) ≡ length (evaluations R e ev g k y ε limit)
   unfolding located evaluations
   count-is-length = go (atLow e y) (atHigh e y)
     where
-      go : (a b : Bool) → countTold (cond a (ended ev 0 nought) (cond b (ended ev (k - 1) one) (answered (parameterOf k) (find (trial W g y ε limit) y (e .rising) k ev))))
-          ≡ length (cond a ev (cond b ev (evaluationsOf (find (trial W g y ε limit) y (e .rising) k ev))))
+      go : (a b : Bool) → countTold (cond a (ended ev 0 nought) (cond b (ended ev (k - 1) one) (answered (parameterOf k) (find (trial R g y ε limit) y (e .rising) k ev))))
+          ≡ length (cond a ev (cond b ev (evaluationsOf (find (trial R g y ε limit) y (e .rising) k ev))))
       go true b = refl
       go false true = refl
-      go false false = answered-count (parameterOf k) (find (trial W g y ε limit) y (e .rising) k ev)
+      go false false = answered-count (parameterOf k) (find (trial R g y ε limit) y (e .rising) k ev)
 
   -- those made for the end rule are listed
-  pub rule-listed : (h : ℕ → Float → Float) → Agreed g h (evaluations W e ev g k y ε limit) → Agreed g h ev
+  pub rule-listed : (h : ℕ → Float → Float) → Agreed g h (evaluations R e ev g k y ε limit) → Agreed g h ev
   unfolding evaluations
   rule-listed h =
       let P : Evaluations → Type 0 = λ l. Agreed g h l → Agreed g h ev in
-      branch P (atLow e y) (λ _ a. a) (λ _. branch P (atHigh e y) (λ _ a. a) (λ _ a. find-grows g h W y ε limit (e .rising) k ev a))
+      branch P (atLow e y) (λ _ a. a) (λ _. branch P (atHigh e y) (λ _ a. a) (λ _ a. find-grows g h R y ε limit (e .rising) k ev a))
 
   -- the list misses none: a curve that agrees at every listed place gets the same answer
-  pub none-unlisted : (h : ℕ → Float → Float) → Agreed g h (evaluations W e ev g k y ε limit) → located W e ev g k y ε limit ≡ located W e ev h k y ε limit
+  pub none-unlisted : (h : ℕ → Float → Float) → Agreed g h (evaluations R e ev g k y ε limit) → located R e ev g k y ε limit ≡ located R e ev h k y ε limit
   unfolding located evaluations
   none-unlisted h = go (atLow e y) (atHigh e y)
     where
-      go : (a b : Bool) → Agreed g h (cond a ev (cond b ev (evaluationsOf (find (trial W g y ε limit) y (e .rising) k ev))))
-          → cond a (ended ev 0 nought) (cond b (ended ev (k - 1) one) (answered (parameterOf k) (find (trial W g y ε limit) y (e .rising) k ev)))
-          ≡ cond a (ended ev 0 nought) (cond b (ended ev (k - 1) one) (answered (parameterOf k) (find (trial W h y ε limit) y (e .rising) k ev)))
+      go : (a b : Bool) → Agreed g h (cond a ev (cond b ev (evaluationsOf (find (trial R g y ε limit) y (e .rising) k ev))))
+          → cond a (ended ev 0 nought) (cond b (ended ev (k - 1) one) (answered (parameterOf k) (find (trial R g y ε limit) y (e .rising) k ev)))
+          ≡ cond a (ended ev 0 nought) (cond b (ended ev (k - 1) one) (answered (parameterOf k) (find (trial R h y ε limit) y (e .rising) k ev)))
       go true b a = refl
       go false true a = refl
-      go false false a = ap (answered (parameterOf k)) (find-same g h W y ε limit (e .rising) k ev a)
+      go false false a = ap (answered (parameterOf k)) (find-same g h R y ε limit (e .rising) k ev a)
 
-module _ (W : Weighting) (keeps : Keeps W) (e : Ends) (ev : Evaluations) (g : ℕ → Float → Float) (k : ℕ) (y ε : Float) (limit : ℕ) (some : 0 < k) (fits : k ≤ 4093) (numbers : (s : ℕ) → s < k → Numbers (g s) y) where
+module _ (R : Rule) (lawful : Lawful R) (e : Ends) (ev : Evaluations) (g : ℕ → Float → Float) (k : ℕ) (y ε : Float) (limit : ℕ) (some : 0 < k) (fits : k ≤ 4093) (numbers : (s : ℕ) → s < k → Numbers (g s) y) where
   from-unit : (x : Float) → InUnit x → InOne x
   from-unit x u = record { low = nought-le x (u .sign); high = u .top }
 
@@ -144,8 +144,8 @@ module _ (W : Weighting) (keeps : Keeps W) (e : Ends) (ev : Evaluations) (g : �
   told-bounded _ (nowhere q n S) = n
 
   -- a place, or refusal 11: at most limit + 24 evaluations up to 12 segments, limit + 2b + 4 above
-  pub count-bounded : countTold (located W e ev g k y ε limit) ≤ most e ev g k y ε limit
-  count-bounded = told-bounded (located W e ev g k y ε limit) (located-told W keeps e ev g k y ε limit some fits numbers)
+  pub count-bounded : countTold (located R e ev g k y ε limit) ≤ most e ev g k y ε limit
+  count-bounded = told-bounded (located R e ev g k y ε limit) (located-told R lawful e ev g k y ε limit some fits numbers)
 
   in-proper : (p : Place) → In e ev g k y ε limit p → Proper p
   unfolding parameterOf
@@ -169,8 +169,8 @@ module _ (W : Weighting) (keeps : Keeps W) (e : Ends) (ev : Evaluations) (g : �
   told-proper _ (nowhere q n S) = tt
 
   -- parameter, local place and both bracket ends lie in 0 to 1, lower not above upper
-  pub place-proper : AtPlace Proper (located W e ev g k y ε limit)
-  place-proper = told-proper (located W e ev g k y ε limit) (located-told W keeps e ev g k y ε limit some fits numbers)
+  pub place-proper : AtPlace Proper (located R e ev g k y ε limit)
+  place-proper = told-proper (located R e ev g k y ε limit) (located-told R lawful e ev g k y ε limit some fits numbers)
 
   in-enclosing : (p : Place) → In e ev g k y ε limit p → Enclosing e ev g k y ε limit p
   in-enclosing p r =
@@ -190,8 +190,8 @@ module _ (W : Weighting) (keeps : Keeps W) (e : Ends) (ev : Evaluations) (g : �
   told-enclosed _ (nowhere q n S) = tt
 
   -- where a segment was entered, its values at the two bracket ends enclose the target
-  pub place-enclosed : AtPlace (λ p. Enclosed e ev g k y ε limit (p .ground) p) (located W e ev g k y ε limit)
-  place-enclosed = told-enclosed (located W e ev g k y ε limit) (located-told W keeps e ev g k y ε limit some fits numbers)
+  pub place-enclosed : AtPlace (λ p. Enclosed e ev g k y ε limit (p .ground) p) (located R e ev g k y ε limit)
+  place-enclosed = told-enclosed (located R e ev g k y ε limit) (located-told R lawful e ev g k y ε limit some fits numbers)
 
   says-so : (p : Place) (base : ℕ) (i : Ground) → base + limit ≤ most e ev g k y ε limit → Says (g (p .segment)) y ε (lt (g (p .segment) nought) (g (p .segment) one)) limit base i (p .local) (p .lower) (p .upper) (p .count)
       → GroundSays e ev g k y ε limit i p
@@ -208,8 +208,8 @@ module _ (W : Weighting) (keeps : Keeps W) (e : Ends) (ev : Evaluations) (g : �
   told-says _ (nowhere q n S) = tt
 
   -- what the place's ground says of it
-  pub ground-says : AtPlace (λ p. GroundSays e ev g k y ε limit (p .ground) p) (located W e ev g k y ε limit)
-  ground-says = told-says (located W e ev g k y ε limit) (located-told W keeps e ev g k y ε limit some fits numbers)
+  pub ground-says : AtPlace (λ p. GroundSays e ev g k y ε limit (p .ground) p) (located R e ev g k y ε limit)
+  ground-says = told-says (located R e ev g k y ε limit) (located-told R lawful e ev g k y ε limit some fits numbers)
 
   told-off : (r : Inverted) → Told e ev g k y ε limit r → IfOff (Silent e ev g k y ε limit × (Supposed e ev g k y ε limit → NoneHolds e ev g k y ε limit)) r
   told-off _ (at-low h) = tt
@@ -218,8 +218,8 @@ module _ (W : Weighting) (keeps : Keeps W) (e : Ends) (ev : Evaluations) (g : �
   told-off _ (nowhere q n S) = (q, S)
 
   -- refusal 11 only where the end rule is silent and no segment's ends enclose the target
-  pub off-only : IfOff (Silent e ev g k y ε limit × (Supposed e ev g k y ε limit → NoneHolds e ev g k y ε limit)) (located W e ev g k y ε limit)
-  off-only = told-off (located W e ev g k y ε limit) (located-told W keeps e ev g k y ε limit some fits numbers)
+  pub off-only : IfOff (Silent e ev g k y ε limit × (Supposed e ev g k y ε limit → NoneHolds e ev g k y ε limit)) (located R e ev g k y ε limit)
+  off-only = told-off (located R e ev g k y ε limit) (located-told R lawful e ev g k y ε limit some fits numbers)
 
   told-nowhere : (r : Inverted) → Told e ev g k y ε limit r → Silent e ev g k y ε limit → NoneHolds e ev g k y ε limit → (n : ℕ) × (r ≡ OffCurve n)
   told-nowhere _ (at-low h) q N = absurd (T-not (atLow e y) (q .0) h)
@@ -228,8 +228,8 @@ module _ (W : Weighting) (keeps : Keeps W) (e : Ends) (ev : Evaluations) (g : �
   told-nowhere _ (nowhere {n} _ _ _) q N = (n, refl)
 
   -- and everywhere there: so a segment that is entered is never refused
-  pub off-where : Silent e ev g k y ε limit → NoneHolds e ev g k y ε limit → (n : ℕ) × (located W e ev g k y ε limit ≡ OffCurve n)
-  off-where = told-nowhere (located W e ev g k y ε limit) (located-told W keeps e ev g k y ε limit some fits numbers)
+  pub off-where : Silent e ev g k y ε limit → NoneHolds e ev g k y ε limit → (n : ℕ) × (located R e ev g k y ε limit ≡ OffCurve n)
+  off-where = told-nowhere (located R e ev g k y ε limit) (located-told R lawful e ev g k y ε limit some fits numbers)
 
   told-place : (r : Inverted) → Told e ev g k y ε limit r → Silent e ev g k y ε limit → Supposed e ev g k y ε limit → (s : ℕ) → s < k → T (Holds g y k s) → (p : Place) × (r ≡ At p)
   told-place _ (at-low h) q S s l H = absurd (T-not (atLow e y) (q .0) h)
@@ -238,5 +238,5 @@ module _ (W : Weighting) (keeps : Keeps W) (e : Ends) (ev : Evaluations) (g : �
   told-place _ (nowhere _ _ N) q S s l H = absurd (T-not (Holds g y k s) (N S s l) H)
 
   -- where some segment's ends enclose the target, the answer is a place
-  pub place-where : Silent e ev g k y ε limit → Supposed e ev g k y ε limit → (s : ℕ) → s < k → T (Holds g y k s) → (p : Place) × (located W e ev g k y ε limit ≡ At p)
-  place-where = told-place (located W e ev g k y ε limit) (located-told W keeps e ev g k y ε limit some fits numbers)
+  pub place-where : Silent e ev g k y ε limit → Supposed e ev g k y ε limit → (s : ℕ) → s < k → T (Holds g y k s) → (p : Place) × (located R e ev g k y ε limit ≡ At p)
+  place-where = told-place (located R e ev g k y ε limit) (located-told R lawful e ev g k y ε limit some fits numbers)

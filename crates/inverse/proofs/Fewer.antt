@@ -8,7 +8,7 @@ use Rattle.invert.specs.declared.Place.{Place}
 use Rattle.invert.specs.declared.Inverted.{Inverted}
 use Rattle.invert.specs.declared.Inverted.the-variants.{At}
 use Rattle.invert.specs.Evaluations.{Evaluations}
-use Rattle.invert.specs.Round.{Weighting}
+use Rattle.invert.specs.Round.{Rule}
 use Rattle.invert.specs.Rounds.{Placed}
 use Rattle.invert.specs.Segment.{Outcome}
 use Rattle.invert.specs.Answer.{placeOf, answered}
@@ -56,13 +56,13 @@ told : (P : ℕ → Float → Float) (n : ℕ) {o q : Outcome} → search.Fewer 
 told P n search.same = same
 told P n (search.fewer {p} {q} m) = fewer (counted P n p q m)
 
-module _ (W : Weighting) (e : Ends) (ev : Evaluations) (g : ℕ → Float → Float) (k : ℕ) (y ε : Float) (limit : ℕ) where
+module _ (R : Rule) (e : Ends) (ev : Evaluations) (g : ℕ → Float → Float) (k : ℕ) (y ε : Float) (limit : ℕ) where
   -- the answer past the refusals, by the crate's trial
   abbrev pub locatedTwice : Inverted
   locatedTwice =
-      let searched = answered (parameterOf k) (find (trialTwice W g y ε limit) y (e .rising) k ev) in
+      let searched = answered (parameterOf k) (find (trialTwice R g y ε limit) y (e .rising) k ev) in
       cond (atLow e y) (ended ev 0 nought) (cond (atHigh e y) (ended ev (k - 1) one) searched)
 
-  pub located-fewer : Fewer 2 (located W e ev g k y ε limit) locatedTwice
+  pub located-fewer : Fewer 2 (located R e ev g k y ε limit) locatedTwice
   unfolding located
-  located-fewer = either 2 (atLow e y) same (either 2 (atHigh e y) same (told (parameterOf k) 2 (search.find-fewer W g y ε limit (e .rising) k ev)))
+  located-fewer = either 2 (atLow e y) same (either 2 (atHigh e y) same (told (parameterOf k) 2 (search.find-fewer R g y ε limit (e .rising) k ev)))

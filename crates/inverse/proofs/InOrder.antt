@@ -19,19 +19,19 @@ use Rattle.invert.specs.Answer.{answered}
 use Rattle.search.proofs.Found.{Holds, Nothing}
 use Rattle.search.proofs.First.{first-entered}
 use Rattle.search.specs.Trial.{trial}
-use Rattle.invert.specs.declared.Weighing.{Weighing}
-use Rattle.invert.specs.Round.{weightingOf}
-use Rattle.invert.proofs.Weighting.{weighing-keeps}
+use Rattle.steady.specs.declared.Method.{Method}
+use Rattle.steady.specs.Method.{ruleOf}
+use Rattle.steady.proofs.Lawful.{lawful-of}
 use Rattle.search.proofs.Sound.{SoundIn, trial-tried}
 use Rattle.inverse.specs.declared.Mode.{Mode}
-use Rattle.inverse.specs.EndRule.{atLow, atHigh, ruleOf}
+use Rattle.inverse.specs.EndRule.{atLow, atHigh, endRuleOf}
 use Rattle.inverse.specs.Curve.{parameterOf, located}
 use Rattle.inverse.specs.Inverse.{inverseBy}
 use Rattle.inverse.proofs.Curve.{curve-numbers}
 use Rattle.inverse.proofs.Verdicts.{admitted}
 use Rattle.inverse.proofs.Promises.{Pass, Quiet}
 
-module _ (m : Mode) (w : Weighing) (b : Basis) (y : Float) (ks : List Float) (check : Bool) (limit : ℕ) (ε : Float) where
+module _ (m : Mode) (how : Method) (b : Basis) (y : Float) (ks : List Float) (check : Bool) (limit : ℕ) (ε : Float) where
   abbrev k : ℕ
   k = segmentsOf b (length ks)
 
@@ -42,16 +42,16 @@ module _ (m : Mode) (w : Weighing) (b : Basis) (y : Float) (ks : List Float) (ch
   placed-in : (s : ℕ) (o : Outcome) (p : Placed) → o ≡ placed p → p .segment ≡ s → In s (answered (parameterOf k) o)
   placed-in s o p e q = (_, ap (answered (parameterOf k)) e, q)
 
-  located-first : Pass m w b y ks check limit ε → Quiet m w b y ks check limit ε → k ≤ 12 → (s : ℕ) → s < k → T (Holds (segmentOf b ks) y k s) → Nothing (segmentOf b ks) y k 0 s
-      → In s (located (weightingOf w) (ruleOf m b ks (segmentOf b ks) .ends) (ruleOf m b ks (segmentOf b ks) .made) (segmentOf b ks) k y ε limit)
+  located-first : Pass m how b y ks check limit ε → Quiet m how b y ks check limit ε → k ≤ 12 → (s : ℕ) → s < k → T (Holds (segmentOf b ks) y k s) → Nothing (segmentOf b ks) y k 0 s
+      → In s (located (ruleOf how) (endRuleOf m b ks (segmentOf b ks) .ends) (endRuleOf m b ks (segmentOf b ks) .made) (segmentOf b ks) k y ε limit)
   unfolding located
   located-first v q f s l H N =
       let a = admitted b y ks check limit ε v in
       let g = segmentOf b ks in
-      let u = first-entered g y k (SoundIn g y ε limit) (trial (weightingOf w) g y ε limit) (trial-tried g y ε limit (weightingOf w) (weighing-keeps w) k (curve-numbers b y ks (a .long) (a .number) (a .in-range))) (ruleOf m b ks (segmentOf b ks) .ends .rising) s (ruleOf m b ks (segmentOf b ks) .made) f l H N in
-      simp (is-false (atLow (ruleOf m b ks (segmentOf b ks) .ends) y) (q .0), is-false (atHigh (ruleOf m b ks (segmentOf b ks) .ends) y) (q .1)) (placed-in s _ (u .0) (u .1) (u .2 .1))
+      let u = first-entered g y k (SoundIn g y ε limit) (trial (ruleOf how) g y ε limit) (trial-tried g y ε limit (ruleOf how) (lawful-of how) k (curve-numbers b y ks (a .long) (a .number) (a .in-range))) (endRuleOf m b ks (segmentOf b ks) .ends .rising) s (endRuleOf m b ks (segmentOf b ks) .made) f l H N in
+      simp (is-false (atLow (endRuleOf m b ks (segmentOf b ks) .ends) y) (q .0), is-false (atHigh (endRuleOf m b ks (segmentOf b ks) .ends) y) (q .1)) (placed-in s _ (u .0) (u .1) (u .2 .1))
 
   -- so of the call
-  pub inverse-first-entered : Pass m w b y ks check limit ε → Quiet m w b y ks check limit ε → k ≤ 12 → (s : ℕ) → s < k → T (Holds (segmentOf b ks) y k s) → Nothing (segmentOf b ks) y k 0 s → In s (inverseBy m w b y ks check limit ε)
+  pub inverse-first-entered : Pass m how b y ks check limit ε → Quiet m how b y ks check limit ε → k ≤ 12 → (s : ℕ) → s < k → T (Holds (segmentOf b ks) y k s) → Nothing (segmentOf b ks) y k 0 s → In s (inverseBy m how b y ks check limit ε)
   unfolding inverseBy
   inverse-first-entered v q f s l H N = rw v (located-first v q f s l H N)

@@ -8,6 +8,8 @@ pub mod Verdicts
 pub mod TurnsBack
 pub mod Promises
 pub mod Refusals
+pub mod Pace
+pub mod Timely
 pub mod InOrder
 pub mod Examples
 pub mod Fewer

@@ -21,15 +21,15 @@ use Rattle.invert.specs.declared.Inverted.{Inverted}
 use Rattle.invert.specs.declared.Inverted.the-variants.{Refused, OffCurve, At}
 use Rattle.invert.specs.Agreed.{Agreed}
 use Rattle.invert.specs.Answer.{inverted, countTold}
-use Rattle.invert.specs.declared.Weighing.{Weighing}
-use Rattle.invert.specs.Round.{weightingOf}
-use Rattle.invert.proofs.Weighting.{weighing-keeps}
+use Rattle.steady.specs.declared.Method.{Method}
+use Rattle.steady.specs.Method.{ruleOf}
+use Rattle.steady.proofs.Lawful.{lawful-of}
 use Rattle.invert.proofs.Enclosing.{Numbers}
 use Rattle.search.specs.Bound.{bitsOf, boundOf}
 use Rattle.search.proofs.Found.{Holds}
 use Rattle.inverse.specs.declared.Mode.{Mode}
 use Rattle.inverse.specs.declared.Mode.the-variants.{Knots, Curve}
-use Rattle.inverse.specs.EndRule.{Rule, ruleOf, own}
+use Rattle.inverse.specs.EndRule.{EndRule, endRuleOf, own}
 use Rattle.inverse.specs.Curve.{located, evaluations}
 use Rattle.inverse.specs.Inverse.{inverseUses, inverseBy, unlessRefused, evaluationsBy}
 use Rattle.inverse.proofs.Told.{Silent, NoneHolds, Supposed}
@@ -39,7 +39,7 @@ use Rattle.inverse.proofs.Curve.{segments-some, segments-few, curve-num
 use Rattle.inverse.proofs.Verdicts.{Admitted, admitted}
 
 -- curves that agree at these have the same rule
-rule-same : (m : Mode) (b : Basis) (ks : List Float) (g h : ℕ → Float → Float) → Agreed g h (ruleOf m b ks g .made) → ruleOf m b ks g ≡ ruleOf m b ks h
+rule-same : (m : Mode) (b : Basis) (ks : List Float) (g h : ℕ → Float → Float) → Agreed g h (endRuleOf m b ks g .made) → endRuleOf m b ks g ≡ endRuleOf m b ks h
 rule-same Knots b ks g h a = refl
 rule-same Curve b ks g h a = rw (a .0, a .1 .0)
 
@@ -48,17 +48,17 @@ with-pass P Q R (At p) e h = tt
 with-pass P Q R (OffCurve n) e h = (e, h .0, h .1)
 with-pass P Q R (Refused r) e h = tt
 
-module _ (m : Mode) (w : Weighing) (b : Basis) (y : Float) (ks : List Float) (check : Bool) (limit : ℕ) (ε : Float) where
+module _ (m : Mode) (how : Method) (b : Basis) (y : Float) (ks : List Float) (check : Bool) (limit : ℕ) (ε : Float) where
   abbrev pub k : ℕ
   k = segmentsOf b (length ks)
 
   -- what the end rule goes by
-  abbrev pub rule : Rule
-  rule = ruleOf m b ks (segmentOf b ks)
+  abbrev pub rule : EndRule
+  rule = endRuleOf m b ks (segmentOf b ks)
 
   -- the answer past the refusals
   abbrev pub here : Inverted
-  here = located (weightingOf w) (rule .ends) (rule .made) (segmentOf b ks) (segmentsOf b (length ks)) y ε limit
+  here = located (ruleOf how) (rule .ends) (rule .made) (segmentOf b ks) (segmentsOf b (length ks)) y ε limit
 
   -- no row of the refusal table applies
   abbrev pub Pass : Type 0
@@ -76,7 +76,7 @@ module _ (m : Mode) (w : Weighing) (b : Basis) (y : Float) (ks : List Float) (ch
   abbrev pub Premise : Type 0
   Premise = Supposed (rule .ends) (rule .made) (segmentOf b ks) k y ε limit
 
-  by-verdict : (P : Inverted → Type 0) → ((r : Refusal) → P (Refused r)) → (Admitted b y ks check → P here) → P (inverseBy m w b y ks check limit ε)
+  pub by-verdict : (P : Inverted → Type 0) → ((r : Refusal) → P (Refused r)) → (Admitted b y ks check → P here) → P (inverseBy m how b y ks check limit ε)
   unfolding inverseBy
   by-verdict P f h = go (first (inverseUses b y ks check limit ε)) refl
     where
@@ -84,41 +84,41 @@ module _ (m : Mode) (w : Weighing) (b : Basis) (y : Float) (ks : List Float) (ch
       go Passed e = h (admitted b y ks check limit ε e)
       go (Failed r) e = f r
 
-  numbers : Admitted b y ks check → (s : ℕ) → s < k → Numbers (segmentOf b ks s) y
+  pub numbers : Admitted b y ks check → (s : ℕ) → s < k → Numbers (segmentOf b ks s) y
   numbers a = curve-numbers b y ks (a .long) (a .number) (a .in-range)
 
-  fits : Admitted b y ks check → k ≤ 4093
+  pub fits : Admitted b y ks check → k ≤ 4093
   fits a = segments-few b (length ks) (a .short)
 
-  some : 0 < k
+  pub some : 0 < k
   some = segments-some b (length ks)
 
   -- ---- the list of evaluations
   -- the count is its length
-  pub inverse-count : countTold (inverseBy m w b y ks check limit ε) ≡ length (evaluationsBy m w b y ks check limit ε)
+  pub inverse-count : countTold (inverseBy m how b y ks check limit ε) ≡ length (evaluationsBy m how b y ks check limit ε)
   unfolding inverseBy evaluationsBy
   inverse-count = go (first (inverseUses b y ks check limit ε))
     where
-      go : (v : Verdict) → countTold (inverted v here) ≡ length (unlessRefused v (evaluations (weightingOf w) (rule .ends) (rule .made) (segmentOf b ks) k y ε limit))
-      go Passed = count-is-length (weightingOf w) (rule .ends) (rule .made) (segmentOf b ks) k y ε limit
+      go : (v : Verdict) → countTold (inverted v here) ≡ length (unlessRefused v (evaluations (ruleOf how) (rule .ends) (rule .made) (segmentOf b ks) k y ε limit))
+      go Passed = count-is-length (ruleOf how) (rule .ends) (rule .made) (segmentOf b ks) k y ε limit
       go (Failed r) = refl
 
   -- it misses none: a curve h that agrees with this one at every listed place gets the same answer
-  pub inverse-unlisted : (h : ℕ → Float → Float) → Agreed (segmentOf b ks) h (evaluationsBy m w b y ks check limit ε)
-      → inverseBy m w b y ks check limit ε ≡ inverted (first (inverseUses b y ks check limit ε)) (located (weightingOf w) (ruleOf m b ks h .ends) (ruleOf m b ks h .made) h k y ε limit)
+  pub inverse-unlisted : (h : ℕ → Float → Float) → Agreed (segmentOf b ks) h (evaluationsBy m how b y ks check limit ε)
+      → inverseBy m how b y ks check limit ε ≡ inverted (first (inverseUses b y ks check limit ε)) (located (ruleOf how) (endRuleOf m b ks h .ends) (endRuleOf m b ks h .made) h k y ε limit)
   unfolding inverseBy evaluationsBy
   inverse-unlisted h = go (first (inverseUses b y ks check limit ε))
     where
-      go : (v : Verdict) → Agreed (segmentOf b ks) h (unlessRefused v (evaluations (weightingOf w) (rule .ends) (rule .made) (segmentOf b ks) k y ε limit))
-          → inverted v here ≡ inverted v (located (weightingOf w) (ruleOf m b ks h .ends) (ruleOf m b ks h .made) h k y ε limit)
+      go : (v : Verdict) → Agreed (segmentOf b ks) h (unlessRefused v (evaluations (ruleOf how) (rule .ends) (rule .made) (segmentOf b ks) k y ε limit))
+          → inverted v here ≡ inverted v (located (ruleOf how) (endRuleOf m b ks h .ends) (endRuleOf m b ks h .made) h k y ε limit)
       go Passed a =
-          none-unlisted (weightingOf w) (rule .ends) (rule .made) (segmentOf b ks) k y ε limit h a
-          ∙ ap (λ (r : Rule). located (weightingOf w) (r .ends) (r .made) h k y ε limit) (rule-same m b ks (segmentOf b ks) h (rule-listed (weightingOf w) (rule .ends) (rule .made) (segmentOf b ks) k y ε limit h a))
+          none-unlisted (ruleOf how) (rule .ends) (rule .made) (segmentOf b ks) k y ε limit h a
+          ∙ ap (λ (r : EndRule). located (ruleOf how) (r .ends) (r .made) h k y ε limit) (rule-same m b ks (segmentOf b ks) h (rule-listed (ruleOf how) (rule .ends) (rule .made) (segmentOf b ks) k y ε limit h a))
       go (Failed r) a = refl
 
   -- a place and refusal 11 carry at most so many
-  pub inverse-bounded : countTold (inverseBy m w b y ks check limit ε) ≤ own m + boundOf k limit
-  inverse-bounded = by-verdict (λ r. countTold r ≤ own m + boundOf k limit) (λ r. omega arith) (λ a. le-trans (count-bounded (weightingOf w) (weighing-keeps w) (rule .ends) (rule .made) (segmentOf b ks) k y ε limit some (fits a) (numbers a)) (omega (arith, rule-made m b ks (segmentOf b ks))))
+  pub inverse-bounded : countTold (inverseBy m how b y ks check limit ε) ≤ own m + boundOf k limit
+  inverse-bounded = by-verdict (λ r. countTold r ≤ own m + boundOf k limit) (λ r. omega arith) (λ a. le-trans (count-bounded (ruleOf how) (lawful-of how) (rule .ends) (rule .made) (segmentOf b ks) k y ε limit some (fits a) (numbers a)) (omega (arith, rule-made m b ks (segmentOf b ks))))
 
   pub few-bound : k ≤ 12 → boundOf k limit ≡ limit + 24
   few-bound h = rw (le-leb k 12 h)
@@ -127,47 +127,47 @@ module _ (m : Mode) (w : Weighing) (b : Basis) (y : Float) (ks : List Float) (ch
   many-bound h = rw (lt-leb k 12 h)
 
   -- ---- parameter, local place and both bracket ends lie in 0 to 1, lower not above upper
-  pub inverse-proper : AtPlace Proper (inverseBy m w b y ks check limit ε)
-  inverse-proper = by-verdict (AtPlace Proper) (λ r. tt) (λ a. place-proper (weightingOf w) (weighing-keeps w) (rule .ends) (rule .made) (segmentOf b ks) k y ε limit some (fits a) (numbers a))
+  pub inverse-proper : AtPlace Proper (inverseBy m how b y ks check limit ε)
+  inverse-proper = by-verdict (AtPlace Proper) (λ r. tt) (λ a. place-proper (ruleOf how) (lawful-of how) (rule .ends) (rule .made) (segmentOf b ks) k y ε limit some (fits a) (numbers a))
 
   -- ---- where a segment was entered, its values at the two bracket ends enclose the target, and so do those at its own ends
-  pub inverse-enclosed : AtPlace (λ p. Enclosed (rule .ends) (rule .made) (segmentOf b ks) k y ε limit (p .ground) p) (inverseBy m w b y ks check limit ε)
+  pub inverse-enclosed : AtPlace (λ p. Enclosed (rule .ends) (rule .made) (segmentOf b ks) k y ε limit (p .ground) p) (inverseBy m how b y ks check limit ε)
   inverse-enclosed =
-      by-verdict (AtPlace (λ p. Enclosed (rule .ends) (rule .made) (segmentOf b ks) k y ε limit (p .ground) p)) (λ r. tt) (λ a. place-enclosed (weightingOf w) (weighing-keeps w) (rule .ends) (rule .made) (segmentOf b ks) k y ε limit some (fits a) (numbers a))
+      by-verdict (AtPlace (λ p. Enclosed (rule .ends) (rule .made) (segmentOf b ks) k y ε limit (p .ground) p)) (λ r. tt) (λ a. place-enclosed (ruleOf how) (lawful-of how) (rule .ends) (rule .made) (segmentOf b ks) k y ε limit some (fits a) (numbers a))
 
   -- ---- what the ground says
-  pub inverse-ground : AtPlace (λ p. GroundSays (rule .ends) (rule .made) (segmentOf b ks) k y ε limit (p .ground) p) (inverseBy m w b y ks check limit ε)
+  pub inverse-ground : AtPlace (λ p. GroundSays (rule .ends) (rule .made) (segmentOf b ks) k y ε limit (p .ground) p) (inverseBy m how b y ks check limit ε)
   inverse-ground =
-      by-verdict (AtPlace (λ p. GroundSays (rule .ends) (rule .made) (segmentOf b ks) k y ε limit (p .ground) p)) (λ r. tt) (λ a. ground-says (weightingOf w) (weighing-keeps w) (rule .ends) (rule .made) (segmentOf b ks) k y ε limit some (fits a) (numbers a))
+      by-verdict (AtPlace (λ p. GroundSays (rule .ends) (rule .made) (segmentOf b ks) k y ε limit (p .ground) p)) (λ r. tt) (λ a. ground-says (ruleOf how) (lawful-of how) (rule .ends) (rule .made) (segmentOf b ks) k y ε limit some (fits a) (numbers a))
 
   -- ---- where some segment's ends enclose the target, and the end rule is silent, a segment is entered and not refused
   pub inverse-entered : Pass → Quiet → Premise
-      → (s : ℕ) → s < k → T (Holds (segmentOf b ks) y k s) → (p : Place) × (inverseBy m w b y ks check limit ε ≡ At p)
+      → (s : ℕ) → s < k → T (Holds (segmentOf b ks) y k s) → (p : Place) × (inverseBy m how b y ks check limit ε ≡ At p)
   unfolding inverseBy
   inverse-entered v q S s l H =
       let a = admitted b y ks check limit ε v in
-      rw v (place-where (weightingOf w) (weighing-keeps w) (rule .ends) (rule .made) (segmentOf b ks) k y ε limit some (fits a) (numbers a) q S s l H)
+      rw v (place-where (ruleOf how) (lawful-of how) (rule .ends) (rule .made) (segmentOf b ks) k y ε limit some (fits a) (numbers a) q S s l H)
 
   -- ---- refusal 11 only where no row applies, the end rule is silent and no segment's ends enclose the target
-  pub inverse-off-only : IfOff (Pass × Quiet × (Premise → Nowhere)) (inverseBy m w b y ks check limit ε)
+  pub inverse-off-only : IfOff (Pass × Quiet × (Premise → Nowhere)) (inverseBy m how b y ks check limit ε)
   unfolding inverseBy
   inverse-off-only = go (first (inverseUses b y ks check limit ε)) refl
     where
       go : (v : Verdict) → first (inverseUses b y ks check limit ε) ≡ v → IfOff (Pass × Quiet × (Premise → Nowhere)) (inverted v here)
-      go Passed e = let a = admitted b y ks check limit ε e in with-pass Pass Quiet (Premise → Nowhere) here e (off-only (weightingOf w) (weighing-keeps w) (rule .ends) (rule .made) (segmentOf b ks) k y ε limit some (fits a) (numbers a))
+      go Passed e = let a = admitted b y ks check limit ε e in with-pass Pass Quiet (Premise → Nowhere) here e (off-only (ruleOf how) (lawful-of how) (rule .ends) (rule .made) (segmentOf b ks) k y ε limit some (fits a) (numbers a))
       go (Failed r) e = tt
 
   -- and everywhere there
   pub inverse-off-where : Pass → Quiet → Nowhere
-      → (n : ℕ) × (inverseBy m w b y ks check limit ε ≡ OffCurve n)
+      → (n : ℕ) × (inverseBy m how b y ks check limit ε ≡ OffCurve n)
   unfolding inverseBy
   inverse-off-where v q N =
       let a = admitted b y ks check limit ε v in
-      rw v (off-where (weightingOf w) (weighing-keeps w) (rule .ends) (rule .made) (segmentOf b ks) k y ε limit some (fits a) (numbers a) q N)
+      rw v (off-where (ruleOf how) (lawful-of how) (rule .ends) (rule .made) (segmentOf b ks) k y ε limit some (fits a) (numbers a) q N)
 
   -- ---- all of these of a reply r, as the call's contract gives it
   pub record Promised (r : Inverted) : Type 0 where
-    pub count : countTold r ≡ length (evaluationsBy m w b y ks check limit ε)
+    pub count : countTold r ≡ length (evaluationsBy m how b y ks check limit ε)
     pub few : k ≤ 12 → countTold r ≤ own m + (limit + 24)
     pub many : 12 < k → countTold r ≤ own m + (limit + 2 * bitsOf k + 4)
     pub proper : AtPlace Proper r
@@ -176,7 +176,7 @@ module _ (m : Mode) (w : Weighing) (b : Basis) (y : Float) (ks : List Float) (ch
     pub off-only : IfOff (Pass × Quiet × (Premise → Nowhere)) r
     pub off-where : Pass → Quiet → Nowhere → (n : ℕ) × (r ≡ OffCurve n)
 
-  pub reply-promised : (r : Inverted) → r ≡ inverseBy m w b y ks check limit ε → Promised r
+  pub reply-promised : (r : Inverted) → r ≡ inverseBy m how b y ks check limit ε → Promised r
   reply-promised r e =
       subst Promised (sym e)
       (record {

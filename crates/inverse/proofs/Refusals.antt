@@ -19,13 +19,13 @@ use Rattle.doubles.proofs.Tests.{branch}
 use Rattle.spline.specs.Segment.{segmentOf}
 use Rattle.invert.specs.declared.Inverted.the-variants.{Refused}
 use Rattle.invert.proofs.Verdicts.{Past, answered-past, refused-by}
-use Rattle.invert.specs.declared.Weighing.{Weighing}
-use Rattle.invert.specs.Round.{weightingOf}
+use Rattle.steady.specs.declared.Method.{Method}
+use Rattle.steady.specs.Method.{ruleOf}
 use Rattle.search.specs.Trial.{trial}
 use Rattle.search.specs.Search.{find}
 use Rattle.inverse.specs.Order.{turnsBack, turningKnot}
 use Rattle.inverse.specs.declared.Mode.{Mode}
-use Rattle.inverse.specs.EndRule.{atLow, atHigh, ruleOf}
+use Rattle.inverse.specs.EndRule.{atLow, atHigh, endRuleOf}
 use Rattle.inverse.specs.Curve.{parameterOf, located}
 use Rattle.inverse.specs.Inverse.{inverseUses, inverseBy}
 use Rattle.inverse.proofs.TurnsBack.{AgainstAt, turning-first, turns-back-where}
@@ -34,30 +34,30 @@ use Rattle.inverse.proofs.TurnsBack.{AgainstAt, turning-first, turns-ba
 abbrev pub earlier : List ℕ
 earlier = 1 ∷ 2 ∷ 3 ∷ 5 ∷ 6 ∷ 7 ∷ 8 ∷ 9 ∷ 4 ∷ []
 
-module _ (m : Mode) (w : Weighing) (b : Basis) (y : Float) (ks : List Float) (check : Bool) (limit : ℕ) (ε : Float) where
+module _ (m : Mode) (how : Method) (b : Basis) (y : Float) (ks : List Float) (check : Bool) (limit : ℕ) (ε : Float) where
   abbrev uses : Uses
   uses = inverseUses b y ks check limit ε
 
-  located-past : Past (located (weightingOf w) (ruleOf m b ks (segmentOf b ks) .ends) (ruleOf m b ks (segmentOf b ks) .made) (segmentOf b ks) (segmentsOf b (length ks)) y ε limit)
+  located-past : Past (located (ruleOf how) (endRuleOf m b ks (segmentOf b ks) .ends) (endRuleOf m b ks (segmentOf b ks) .made) (segmentOf b ks) (segmentsOf b (length ks)) y ε limit)
   unfolding located
   located-past =
-      branch Past (atLow (ruleOf m b ks (segmentOf b ks) .ends) y) (λ _. tt)
-      (λ _. branch Past (atHigh (ruleOf m b ks (segmentOf b ks) .ends) y) (λ _. tt) (λ _. answered-past (parameterOf (segmentsOf b (length ks))) (find (trial (weightingOf w) (segmentOf b ks) y ε limit) y (ruleOf m b ks (segmentOf b ks) .ends .rising) (segmentsOf b (length ks)) (ruleOf m b ks (segmentOf b ks) .made))))
+      branch Past (atLow (endRuleOf m b ks (segmentOf b ks) .ends) y) (λ _. tt)
+      (λ _. branch Past (atHigh (endRuleOf m b ks (segmentOf b ks) .ends) y) (λ _. tt) (λ _. answered-past (parameterOf (segmentsOf b (length ks))) (find (trial (ruleOf how) (segmentOf b ks) y ε limit) y (endRuleOf m b ks (segmentOf b ks) .ends .rising) (segmentsOf b (length ks)) (endRuleOf m b ks (segmentOf b ks) .made))))
 
   -- ---- by a row
   -- only where that row applies and none before it
-  pub inverse-refused-only : (r : Refusal) → inverseBy m w b y ks check limit ε ≡ Refused r → First (inverseUses b y ks check limit ε) rows r
+  pub inverse-refused-only : (r : Refusal) → inverseBy m how b y ks check limit ε ≡ Refused r → First (inverseUses b y ks check limit ε) rows r
   unfolding inverseBy
-  inverse-refused-only r e = first-sound rows uses r (refused-by (first uses) (located (weightingOf w) (ruleOf m b ks (segmentOf b ks) .ends) (ruleOf m b ks (segmentOf b ks) .made) (segmentOf b ks) (segmentsOf b (length ks)) y ε limit) r located-past e)
+  inverse-refused-only r e = first-sound rows uses r (refused-by (first uses) (located (ruleOf how) (endRuleOf m b ks (segmentOf b ks) .ends) (endRuleOf m b ks (segmentOf b ks) .made) (segmentOf b ks) (segmentsOf b (length ks)) y ε limit) r located-past e)
 
   -- and everywhere there
-  pub inverse-refused-where : (r : Refusal) → First (inverseUses b y ks check limit ε) rows r → inverseBy m w b y ks check limit ε ≡ Refused r
+  pub inverse-refused-where : (r : Refusal) → First (inverseUses b y ks check limit ε) rows r → inverseBy m how b y ks check limit ε ≡ Refused r
   unfolding inverseBy
   inverse-refused-where r f = rw (first-complete rows uses r f)
 
   -- ---- refusal 10
   -- only where the order check is wanted, and with the first knot whose step to the next goes against the direction
-  pub inverse-turns-back : (i : ℕ) → inverseBy m w b y ks check limit ε ≡ Refused (TurnsBack i) → T check × AgainstAt ks i × ((j : ℕ) → AgainstAt ks j → i ≤ j)
+  pub inverse-turns-back : (i : ℕ) → inverseBy m how b y ks check limit ε ≡ Refused (TurnsBack i) → T check × AgainstAt ks i × ((j : ℕ) → AgainstAt ks j → i ≤ j)
   inverse-turns-back i e =
       let p = first-applies uses rows (TurnsBack i) (inverse-refused-only (TurnsBack i) e) in
       let a : (check && turnsBack ks) ≡ true = p .0 in
@@ -68,7 +68,7 @@ module _ (m : Mode) (w : Weighing) (b : Basis) (y : Float) (ks : List Float) (ch
       (and-l check (turnsBack ks) t, subst (AgainstAt ks) q (f .0), subst (λ (i : ℕ). (j : ℕ) → AgainstAt ks j → i ≤ j) q (f .1))
 
   -- and everywhere there where no earlier row applies
-  pub inverse-turns-back-where : None earlier (inverseUses b y ks check limit ε) → T check → (i : ℕ) → AgainstAt ks i → inverseBy m w b y ks check limit ε ≡ Refused (TurnsBack (turningKnot ks))
+  pub inverse-turns-back-where : None earlier (inverseUses b y ks check limit ε) → T check → (i : ℕ) → AgainstAt ks i → inverseBy m how b y ks check limit ε ≡ Refused (TurnsBack (turningKnot ks))
   unfolding inverseBy
   inverse-turns-back-where n c i a =
       let later : List ℕ = 11 ∷ 12 ∷ [] in

@@ -17,9 +17,9 @@ use Rattle.invert.specs.Segment.{Outcome, off, placed}
 use Rattle.invert.specs.Answer.{answered}
 use Rattle.invert.proofs.Enclosing.{Numbers, Sound}
 use Rattle.search.specs.Bound.{bitsOf, boundOf}
-use Rattle.invert.specs.Round.{Weighting}
+use Rattle.invert.specs.Round.{Rule}
 use Rattle.search.specs.Trial.{trial}
-use Rattle.invert.proofs.Weighting.{Keeps}
+use Rattle.invert.proofs.Rules.{Lawful}
 use Rattle.search.specs.Search.{find}
 use Rattle.search.proofs.Found.{Holds, Nothing, Straight, Result, missed, got, probes}
 use Rattle.search.proofs.Sound.{SoundIn, find-sound}
@@ -60,12 +60,12 @@ module _ (e : Ends) (ev : Evaluations) (g : ℕ → Float → Float) (k : ℕ) (
     entered : {p : Place} → Silent → In p → Told (At p)
     nowhere : {n : ℕ} → Silent → n ≤ most → (Supposed → NoneHolds) → Told (OffCurve n)
 
-module _ (W : Weighting) (keeps : Keeps W) (e : Ends) (ev : Evaluations) (g : ℕ → Float → Float) (k : ℕ) (y ε : Float) (limit : ℕ) (some : 0 < k) (fits : k ≤ 4093) (numbers : (s : ℕ) → s < k → Numbers (g s) y) where
+module _ (R : Rule) (lawful : Lawful R) (e : Ends) (ev : Evaluations) (g : ℕ → Float → Float) (k : ℕ) (y ε : Float) (limit : ℕ) (some : 0 < k) (fits : k ≤ 4093) (numbers : (s : ℕ) → s < k → Numbers (g s) y) where
   abbrev Found : Outcome → Type 0
   Found = Result g y k (SoundIn g y ε limit) (length ev + probes (leb k 12) k) (Supposed e ev g k y ε limit → Nothing g y k 0 k)
 
-  searched : Found (find (trial W g y ε limit) y (e .rising) k ev)
-  searched = find-sound g y ε limit W keeps k some (lt-of-le-of-lt fits (lit< tt)) numbers (e .rising) ev
+  searched : Found (find (trial R g y ε limit) y (e .rising) k ev)
+  searched = find-sound g y ε limit R lawful k some (lt-of-le-of-lt fits (lit< tt)) numbers (e .rising) ev
 
   -- the search's evaluations, and the rounds of the segment that was entered
   room : (n : ℕ) → n ≤ length ev + probes (leb k 12) k → n + limit ≤ most e ev g k y ε limit
@@ -88,9 +88,9 @@ module _ (W : Weighting) (keeps : Keeps W) (e : Ends) (ev : Evaluations) (g : �
         scaled = refl;
       })
 
-  pub located-told : Told e ev g k y ε limit (located W e ev g k y ε limit)
+  pub located-told : Told e ev g k y ε limit (located R e ev g k y ε limit)
   unfolding located
   located-told =
       branch (Told e ev g k y ε limit) (atLow e y) (λ h. at-low h)
       (λ p. branch (Told e ev g k y ε limit) (atHigh e y) (λ h. at-high p h)
-      (λ q. found-told (p, q) (find (trial W g y ε limit) y (e .rising) k ev) searched))
+      (λ q. found-told (p, q) (find (trial R g y ε limit) y (e .rising) k ev) searched))

@@ -21,12 +21,12 @@ use Rattle.spline.specs.Rows.{inRange, allInRange, firstBad, curveLength}
 use Rattle.invert.specs.declared.Inverted.{Inverted}
 use Rattle.invert.specs.declared.Inverted.the-variants.{Refused}
 use Rattle.invert.specs.Answer.{asked}
-use Rattle.invert.specs.declared.Weighing.{Weighing}
-use Rattle.invert.specs.Round.{weightingOf}
+use Rattle.steady.specs.declared.Method.{Method}
+use Rattle.steady.specs.Method.{ruleOf}
 use Rattle.invert.proofs.Verdicts.{askedRows, lastRows}
 use Rattle.inverse.specs.declared.Mode.{Mode}
 use Rattle.inverse.specs.Order.{rises, turnsBack, turningKnot}
-use Rattle.inverse.specs.EndRule.{ruleOf}
+use Rattle.inverse.specs.EndRule.{endRuleOf}
 use Rattle.inverse.specs.Curve.{located}
 use Rattle.inverse.specs.Inverse.{inverseUses, inverseBy}
 use Rattle.inverse.specs.Scan.{kept}
@@ -113,11 +113,11 @@ admitted b y ks check limit ε e =
     }
 
 -- ---- the answer
-module _ (m : Mode) (w : Weighing) (b : Basis) (y : Float) (ks : List Float) (check : Bool) (limit : ℕ) (ε : Float) {v : Verdict} (e : v ≡ first (inverseUses b y ks check limit ε)) where
-  pub refused-is : {r : Refusal} → v ≡ Failed r → Refused r ≡ inverseBy m w b y ks check limit ε
+module _ (m : Mode) (how : Method) (b : Basis) (y : Float) (ks : List Float) (check : Bool) (limit : ℕ) (ε : Float) {v : Verdict} (e : v ≡ first (inverseUses b y ks check limit ε)) where
+  pub refused-is : {r : Refusal} → v ≡ Failed r → Refused r ≡ inverseBy m how b y ks check limit ε
   unfolding inverseBy
   refused-is k = rw (sym e ∙ k)
 
-  pub answer-is : {a : Inverted} → v ≡ Passed → a ≡ located (weightingOf w) (ruleOf m b ks (segmentOf b ks) .ends) (ruleOf m b ks (segmentOf b ks) .made) (segmentOf b ks) (segmentsOf b (length ks)) y ε limit → a ≡ inverseBy m w b y ks check limit ε
+  pub answer-is : {a : Inverted} → v ≡ Passed → a ≡ located (ruleOf how) (endRuleOf m b ks (segmentOf b ks) .ends) (endRuleOf m b ks (segmentOf b ks) .made) (segmentOf b ks) (segmentsOf b (length ks)) y ε limit → a ≡ inverseBy m how b y ks check limit ε
   unfolding inverseBy
   answer-is k h = h ∙ rw (sym e ∙ k)

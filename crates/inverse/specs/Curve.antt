@@ -9,7 +9,7 @@ use Rattle.invert.specs.declared.Inverted.{Inverted}
 use Rattle.invert.specs.Evaluations.{Evaluations}
 use Rattle.invert.specs.Segment.{placed, evaluationsOf}
 use Rattle.invert.specs.Answer.{answered, alone}
-use Rattle.invert.specs.Round.{Weighting}
+use Rattle.invert.specs.Round.{Rule}
 use Rattle.search.specs.Search.{find}
 use Rattle.search.specs.Trial.{trial}
 use Rattle.inverse.specs.declared.Ends.{Ends}
@@ -24,13 +24,13 @@ abbrev pub ended : Evaluations → ℕ → Float → Inverted
 ended ev s x = answered alone (placed (record { ground = End; segment = s; local = x; lower = x; upper = x; made = ev }))
 
 -- low first, then high, then the search
-unfoldable pub located : Weighting → Ends → Evaluations → (ℕ → Float → Float) → ℕ → Float → Float → ℕ → Inverted
-located W e ev g k y ε limit =
-    let searched = answered (parameterOf k) (find (trial W g y ε limit) y (e .rising) k ev) in
+unfoldable pub located : Rule → Ends → Evaluations → (ℕ → Float → Float) → ℕ → Float → Float → ℕ → Inverted
+located R e ev g k y ε limit =
+    let searched = answered (parameterOf k) (find (trial R g y ε limit) y (e .rising) k ev) in
     cond (atLow e y) (ended ev 0 nought) (cond (atHigh e y) (ended ev (k - 1) one) searched)
 
 -- every evaluation that it makes, the latest first
-unfoldable pub evaluations : Weighting → Ends → Evaluations → (ℕ → Float → Float) → ℕ → Float → Float → ℕ → Evaluations
-evaluations W e ev g k y ε limit =
-    let searched = evaluationsOf (find (trial W g y ε limit) y (e .rising) k ev) in
+unfoldable pub evaluations : Rule → Ends → Evaluations → (ℕ → Float → Float) → ℕ → Float → Float → ℕ → Evaluations
+evaluations R e ev g k y ε limit =
+    let searched = evaluationsOf (find (trial R g y ε limit) y (e .rising) k ev) in
     cond (atLow e y) ev (cond (atHigh e y) ev searched)

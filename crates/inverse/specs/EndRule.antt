@@ -29,21 +29,21 @@ knotEnds b ks =
     (record { rising = rises ks; low = knot ks 0; high = knot ks (length ks - 1) })
 
 -- what it goes by, and the evaluations made for that
-pub record Rule : Type 0 where
+pub record EndRule : Type 0 where
   pub ends : Ends
   pub made : Evaluations
 
 -- the evaluated start of the first of k segments and the evaluated end of the last; rising means start < end
-abbrev pub curveRule : (ℕ → Float → Float) → ℕ → Rule
+abbrev pub curveRule : (ℕ → Float → Float) → ℕ → EndRule
 curveRule g k =
     let a = see (g 0) 0 nought [] in
     let b = see (g (k - 1)) (k - 1) one (a .made) in
     record { ends = record { rising = lt (a .value) (b .value); low = a .value; high = b .value }; made = b .made }
 
 -- in each mode; g s is segment s of the curve of the knots ks
-abbrev pub ruleOf : Mode → Basis → List Float → (ℕ → Float → Float) → Rule
-ruleOf Knots b ks g = record { ends = knotEnds b ks; made = [] }
-ruleOf Curve b ks g = curveRule g (segmentsOf b (length ks))
+abbrev pub endRuleOf : Mode → Basis → List Float → (ℕ → Float → Float) → EndRule
+endRuleOf Knots b ks g = record { ends = knotEnds b ks; made = [] }
+endRuleOf Curve b ks g = curveRule g (segmentsOf b (length ks))
 
 -- how many evaluations that makes
 abbrev pub own : Mode → ℕ

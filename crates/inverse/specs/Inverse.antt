@@ -14,36 +14,36 @@ use Rattle.spline.specs.Rows.{curveLength, badKnot}
 use Rattle.invert.specs.declared.Inverted.{Inverted}
 use Rattle.invert.specs.Evaluations.{Evaluations}
 use Rattle.invert.specs.Answer.{inverted, asked}
-use Rattle.invert.specs.declared.Weighing.{Weighing}
-use Rattle.invert.specs.declared.Weighing.the-variants.{Value}
-use Rattle.invert.specs.Round.{weightingOf}
+use Rattle.steady.specs.declared.Method.{Method}
+use Rattle.steady.specs.declared.Method.the-variants.{AsCrate}
+use Rattle.steady.specs.Method.{ruleOf}
 use Rattle.inverse.specs.declared.Mode.{Mode}
 use Rattle.inverse.specs.declared.Mode.the-variants.{Knots}
 use Rattle.inverse.specs.Order.{turnBack}
-use Rattle.inverse.specs.EndRule.{ruleOf}
+use Rattle.inverse.specs.EndRule.{endRuleOf}
 use Rattle.inverse.specs.Curve.{located, evaluations}
 
 abbrev pub inverseUses : Basis → Float → List Float → Bool → ℕ → Float → Uses
 inverseUses b y ks check limit ε = curveLength b (length ks) ++ asked y limit ε ++ (badKnot ks ∷ turnBack check ks ∷ [])
 
-unfoldable pub inverseBy : Mode → Weighing → Basis → Float → List Float → Bool → ℕ → Float → Inverted
-inverseBy m w b y ks check limit ε =
-    let r = ruleOf m b ks (segmentOf b ks) in
-    inverted (first (inverseUses b y ks check limit ε)) (located (weightingOf w) (r .ends) (r .made) (segmentOf b ks) (segmentsOf b (length ks)) y ε limit)
+unfoldable pub inverseBy : Mode → Method → Basis → Float → List Float → Bool → ℕ → Float → Inverted
+inverseBy m how b y ks check limit ε =
+    let r = endRuleOf m b ks (segmentOf b ks) in
+    inverted (first (inverseUses b y ks check limit ε)) (located (ruleOf how) (r .ends) (r .made) (segmentOf b ks) (segmentsOf b (length ks)) y ε limit)
 
 -- the evaluations that the call makes: none where it refuses by a row
 abbrev pub unlessRefused : Verdict → Evaluations → Evaluations
 unlessRefused Passed ev = ev
 unlessRefused (Failed r) ev = []
 
-unfoldable pub evaluationsBy : Mode → Weighing → Basis → Float → List Float → Bool → ℕ → Float → Evaluations
-evaluationsBy m w b y ks check limit ε =
-    let r = ruleOf m b ks (segmentOf b ks) in
-    unlessRefused (first (inverseUses b y ks check limit ε)) (evaluations (weightingOf w) (r .ends) (r .made) (segmentOf b ks) (segmentsOf b (length ks)) y ε limit)
+unfoldable pub evaluationsBy : Mode → Method → Basis → Float → List Float → Bool → ℕ → Float → Evaluations
+evaluationsBy m how b y ks check limit ε =
+    let r = endRuleOf m b ks (segmentOf b ks) in
+    unlessRefused (first (inverseUses b y ks check limit ε)) (evaluations (ruleOf how) (r .ends) (r .made) (segmentOf b ks) (segmentsOf b (length ks)) y ε limit)
 
--- as the crate inverts: by the knots, and with the value halved
+-- as the crate inverts: by the knots, and by its own rule
 abbrev pub inverseOf : Basis → Float → List Float → Bool → ℕ → Float → Inverted
-inverseOf = inverseBy Knots Value
+inverseOf = inverseBy Knots AsCrate
 
 abbrev pub inverseEvaluations : Basis → Float → List Float → Bool → ℕ → Float → Evaluations
-inverseEvaluations = evaluationsBy Knots Value
+inverseEvaluations = evaluationsBy Knots AsCrate

@@ -9,8 +9,8 @@ use Rattle.basis.specs.declared.Basis.{Basis}
 use Rattle.spline.specs.Segment.{segmentOf}
 use Rattle.invert.specs.declared.Inverted.{Inverted}
 use Rattle.invert.specs.Evaluations.{Evaluations}
-use Rattle.invert.specs.declared.Weighing.{Weighing}
-use Rattle.invert.specs.Round.{weightingOf}
+use Rattle.steady.specs.declared.Method.{Method}
+use Rattle.steady.specs.Method.{ruleOf}
 use Rattle.invert.specs.Answer.{answered}
 use Rattle.search.specs.Search.{find}
 use Rattle.search.specs.Trial.{trial}
@@ -20,8 +20,8 @@ use Rattle.inverse.specs.Curve.{parameterOf, ended, located}
 abbrev pub EndedIs : ℕ → ℕ → Float → Inverted → Type 0
 EndedIs n s x r = (ev : Evaluations) → length ev ≡ n → r ≡ ended ev s x
 
-abbrev pub SearchedIs : Weighing → Basis → Float → List Float → ℕ → Float → Bool → ℕ → ℕ → Inverted → Type 0
-SearchedIs w b y ks limit ε rising k n r = (ev : Evaluations) → length ev ≡ n → r ≡ answered (parameterOf k) (find (trial (weightingOf w) (segmentOf b ks) y ε limit) y rising k ev)
+abbrev pub SearchedIs : Method → Basis → Float → List Float → ℕ → Float → Bool → ℕ → ℕ → Inverted → Type 0
+SearchedIs how b y ks limit ε rising k n r = (ev : Evaluations) → length ev ≡ n → r ≡ answered (parameterOf k) (find (trial (ruleOf how) (segmentOf b ks) y ε limit) y rising k ev)
 
-abbrev pub LocatedIs : Weighing → Ends → Basis → Float → List Float → ℕ → Float → ℕ → ℕ → Inverted → Type 0
-LocatedIs w e b y ks limit ε k n r = (ev : Evaluations) → length ev ≡ n → r ≡ located (weightingOf w) e ev (segmentOf b ks) k y ε limit
+abbrev pub LocatedIs : Method → Ends → Basis → Float → List Float → ℕ → Float → ℕ → ℕ → Inverted → Type 0
+LocatedIs how e b y ks limit ε k n r = (ev : Evaluations) → length ev ≡ n → r ≡ located (ruleOf how) e ev (segmentOf b ks) k y ε limit

@@ -8,8 +8,8 @@ ghost use Rattle.basis.specs.Basis.{segmentsOf};
 ghost use Rattle.spline.specs.Segment.{segmentOf};
 ghost use Rattle.spline.specs.Rows.{allInRange};
 ghost use Rattle.invert.specs.Answer.{defaultLimit, defaultPrecision};
-ghost use Rattle.invert.specs.Round.{weightingOf};
-ghost use Rattle.inverse.specs.EndRule.{atLow, atHigh, knotEnds, curveRule, ruleOf, own};
+ghost use Rattle.steady.specs.Method.{ruleOf};
+ghost use Rattle.inverse.specs.EndRule.{atLow, atHigh, knotEnds, curveRule, endRuleOf, own};
 ghost use Rattle.inverse.specs.Curve.{parameterOf, located};
 ghost use Rattle.inverse.specs.Inverse.{inverseBy, inverseOf};
 ghost use Rattle.inverse.specs.Shown.{EndedIs, SearchedIs, LocatedIs};
@@ -18,7 +18,7 @@ use error::Verdict;
 use invert::Ground;
 use invert::Inverted;
 use invert::Place;
-use invert::Weighing;
+use steady::Method;
 
 pub mod order;
 
@@ -105,7 +105,7 @@ fn parameter(k: usize, s: usize, x: f64) -> f64
 
 // The search's answer, with the parameter of its place on the whole curve; n evaluations have been made before.
 fn searched(
-    w: Weighing,
+    how: Method,
     b: Basis,
     y: f64,
     knots: &[f64],
@@ -116,9 +116,9 @@ fn searched(
     n: u32,
 ) -> Inverted
     requires { ⌜ (k ≡ segmentsOf b (length (now knots))) × (4 ≤ length (now knots)) × (length (now knots) ≤ 4096) × (isNan y ≡ false) × (allInRange (now knots) ≡ true) × (n ≤ 1000) ⌝ }
-    ensures { λ r. ⌜ SearchedIs w b y (now (knots .entry)) limit precision rising k n r ⌝ }
+    ensures { λ r. ⌜ SearchedIs how b y (now (knots .entry)) limit precision rising k n r ⌝ }
 {
-    let a = search::find(w, b, knots, y, precision, limit, rising, k, n);
+    let a = search::find(how, b, knots, y, precision, limit, rising, k, n);
     let Inverted::At(p) = a else {
         return a;
     };
@@ -137,7 +137,7 @@ fn searched(
 
 // The end rule, then the search; n evaluations have been made for the rule.
 fn located(
-    w: Weighing,
+    how: Method,
     e: Ends,
     n: u32,
     b: Basis,
@@ -148,7 +148,7 @@ fn located(
     k: usize,
 ) -> Inverted
     requires { ⌜ (k ≡ segmentsOf b (length (now knots))) × (4 ≤ length (now knots)) × (length (now knots) ≤ 4096) × (isNan y ≡ false) × (allInRange (now knots) ≡ true) × (n ≤ 1000) ⌝ }
-    ensures { λ r. ⌜ LocatedIs w e b y (now (knots .entry)) limit precision k n r ⌝ }
+    ensures { λ r. ⌜ LocatedIs how e b y (now (knots .entry)) limit precision k n r ⌝ }
 {
     if is_at_low(e, y) {
         return end_place(0, 0.0, n);
@@ -156,13 +156,13 @@ fn located(
     if is_at_high(e, y) {
         return end_place(k - 1, 1.0, n);
     }
-    searched(w, b, y, knots, limit, precision, e.rising, k, n)
+    searched(how, b, y, knots, limit, precision, e.rising, k, n)
 }
 
 // One call of `located` follows, so that it is inlined.
 fn mode_ends(m: Mode, b: Basis, knots: &[f64], k: usize) -> Ends
     requires { ⌜ (k ≡ segmentsOf b (length (now knots))) × (4 ≤ length (now knots)) × (length (now knots) ≤ 4096) ⌝ }
-    ensures { λ r. ⌜ r ≡ ruleOf m b (now (knots .entry)) (segmentOf b (now (knots .entry))) .ends ⌝ }
+    ensures { λ r. ⌜ r ≡ endRuleOf m b (now (knots .entry)) (segmentOf b (now (knots .entry))) .ends ⌝ }
 {
     match m {
         Mode::Knots => knot_ends(b, knots),
@@ -182,7 +182,7 @@ fn evaluations(m: Mode) -> u32
 // Past the refusals, by the mode's end rule.
 fn locate(
     m: Mode,
-    w: Weighing,
+    how: Method,
     b: Basis,
     y: f64,
     knots: &[f64],
@@ -190,16 +190,26 @@ fn locate(
     precision: f64,
 ) -> Inverted
     requires { ⌜ (4 ≤ length (now knots)) × (length (now knots) ≤ 4096) × (isNan y ≡ false) × (allInRange (now knots) ≡ true) ⌝ }
-    ensures { λ r. ⌜ r ≡ located (weightingOf w) (ruleOf m b (now (knots .entry)) (segmentOf b (now (knots .entry))) .ends) (ruleOf m b (now (knots .entry)) (segmentOf b (now (knots .entry))) .made) (segmentOf b (now (knots .entry))) (segmentsOf b (length (now (knots .entry)))) y precision limit ⌝ }
+    ensures { λ r. ⌜ r ≡ located (ruleOf how) (endRuleOf m b (now (knots .entry)) (segmentOf b (now (knots .entry))) .ends) (endRuleOf m b (now (knots .entry)) (segmentOf b (now (knots .entry))) .made) (segmentOf b (now (knots .entry))) (segmentsOf b (length (now (knots .entry)))) y precision limit ⌝ }
 {
     let k = basis::segments(b, knots.len());
-    located(w, mode_ends(m, b, knots, k), evaluations(m), b, y, knots, limit, precision, k)
+    located(
+        how,
+        mode_ends(m, b, knots, k),
+        evaluations(m),
+        b,
+        y,
+        knots,
+        limit,
+        precision,
+        k,
+    )
 }
 
 // The place of y on the curve, with the end rule of the mode; with `check`, knots that turn back are refused.
 pub fn spline_inverse_by(
     m: Mode,
-    w: Weighing,
+    how: Method,
     b: Basis,
     y: f64,
     knots: &[f64],
@@ -207,12 +217,12 @@ pub fn spline_inverse_by(
     limit: u16,
     precision: f64,
 ) -> Inverted
-    ensures { λ r. ⌜ r ≡ inverseBy m w b y (now (knots .entry)) check limit precision ⌝ }
+    ensures { λ r. ⌜ r ≡ inverseBy m how b y (now (knots .entry)) check limit precision ⌝ }
 {
     let v = order::verdict(b, y, knots, check, limit, precision);
     match v {
         Verdict::Failed(r) => Inverted::Refused(r),
-        Verdict::Passed => locate(m, w, b, y, knots, limit, precision),
+        Verdict::Passed => locate(m, how, b, y, knots, limit, precision),
     }
 }
 
@@ -227,7 +237,16 @@ pub fn spline_inverse_with(
 ) -> Inverted
     ensures { λ r. ⌜ r ≡ inverseOf b y (now (knots .entry)) check limit precision ⌝ }
 {
-    spline_inverse_by(Mode::Knots, Weighing::Value, b, y, knots, check, limit, precision)
+    spline_inverse_by(
+        Mode::Knots,
+        Method::AsCrate,
+        b,
+        y,
+        knots,
+        check,
+        limit,
+        precision,
+    )
 }
 
 // The same with limit 32 and precision 1e-10.

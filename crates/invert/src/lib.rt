@@ -217,7 +217,15 @@ pub fn spline_inverse_segment_with(
     match v {
         Verdict::Failed(r) => Inverted::Refused(r),
         Verdict::Passed => {
-            let t = enter(Weighing::Value, spline::segment::weights(b, cv), 0, y, precision, limit, 0);
+            let t = enter(
+                Weighing::Value,
+                spline::segment::weights(b, cv),
+                0,
+                y,
+                precision,
+                limit,
+                0,
+            );
             let Tried::Inside(p) = t else {
                 return Inverted::OffCurve(2);
             };

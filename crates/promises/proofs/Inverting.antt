@@ -13,19 +13,24 @@ use Rattle.invert.specs.Answer.{countTold, inverseSegmentUses, inverseSegmentOf
 use Rattle.invert.proofs.Call.{Owed, inverse-segment-owed, inverse-segment-count}
 use Rattle.invert.proofs.spline_inverse_segment_with.Reads as spline_inverse_segment_with
 use Rattle.invert.proofs.spline_inverse_segment.Reads as spline_inverse_segment
-use Rattle.invert.specs.declared.Weighing.the-variants.{Value}
+use Rattle.steady.specs.declared.Method.the-variants.{AsCrate}
 use Rattle.inverse.specs.declared.Mode.the-variants.{Knots}
 use Rattle.inverse.proofs.Promises.{Promised, reply-promised}
+use Rattle.inverse.proofs.spline_inverse_by.Reads as spline_inverse_by
 use Rattle.inverse.proofs.spline_inverse_with.Reads as spline_inverse_with
 use Rattle.inverse.proofs.spline_inverse.Reads as spline_inverse
 use Rattle.promises.specs.Calls.{Keeps}
 
 -- ---- a curve
-pub spline-inverse-with-promised : Keeps spline_inverse_with.Learnt (λ κs a z e. Promised Knots Value (a .0) (a .1 .0) (now (a .1 .1 .0)) (a .1 .1 .1 .0) (a .1 .1 .1 .1 .0) (a .1 .1 .1 .1 .1 .0) z)
-spline-inverse-with-promised κs a z e p = reply-promised Knots Value (a .0) (a .1 .0) (now (a .1 .1 .0)) (a .1 .1 .1 .0) (a .1 .1 .1 .1 .0) (a .1 .1 .1 .1 .1 .0) z p
+-- by either rule of the ends and any method
+pub spline-inverse-by-promised : Keeps spline_inverse_by.Learnt (λ κs a z e. Promised (a .0) (a .1 .0) (a .1 .1 .0) (a .1 .1 .1 .0) (now (a .1 .1 .1 .1 .0)) (a .1 .1 .1 .1 .1 .0) (a .1 .1 .1 .1 .1 .1 .0) (a .1 .1 .1 .1 .1 .1 .1 .0) z)
+spline-inverse-by-promised κs a z e p = reply-promised (a .0) (a .1 .0) (a .1 .1 .0) (a .1 .1 .1 .0) (now (a .1 .1 .1 .1 .0)) (a .1 .1 .1 .1 .1 .0) (a .1 .1 .1 .1 .1 .1 .0) (a .1 .1 .1 .1 .1 .1 .1 .0) z p
 
-pub spline-inverse-promised : Keeps spline_inverse.Learnt (λ κs a z e. Promised Knots Value (a .0) (a .1 .0) (now (a .1 .1 .0)) (a .1 .1 .1 .0) defaultLimit defaultPrecision z)
-spline-inverse-promised κs a z e p = reply-promised Knots Value (a .0) (a .1 .0) (now (a .1 .1 .0)) (a .1 .1 .1 .0) defaultLimit defaultPrecision z p
+pub spline-inverse-with-promised : Keeps spline_inverse_with.Learnt (λ κs a z e. Promised Knots AsCrate (a .0) (a .1 .0) (now (a .1 .1 .0)) (a .1 .1 .1 .0) (a .1 .1 .1 .1 .0) (a .1 .1 .1 .1 .1 .0) z)
+spline-inverse-with-promised κs a z e p = reply-promised Knots AsCrate (a .0) (a .1 .0) (now (a .1 .1 .0)) (a .1 .1 .1 .0) (a .1 .1 .1 .1 .0) (a .1 .1 .1 .1 .1 .0) z p
+
+pub spline-inverse-promised : Keeps spline_inverse.Learnt (λ κs a z e. Promised Knots AsCrate (a .0) (a .1 .0) (now (a .1 .1 .0)) (a .1 .1 .1 .0) defaultLimit defaultPrecision z)
+spline-inverse-promised κs a z e p = reply-promised Knots AsCrate (a .0) (a .1 .0) (now (a .1 .1 .0)) (a .1 .1 .1 .0) defaultLimit defaultPrecision z p
 
 -- ---- one segment
 module _ (b : Basis) (y : Float) (cv : List Float) (limit : ℕ) (ε : Float) where

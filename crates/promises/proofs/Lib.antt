@@ -4,3 +4,4 @@ pub mod Inverting
 pub mod Exports
 pub mod Searching
 pub mod Spending
+pub mod Ending

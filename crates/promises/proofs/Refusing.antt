@@ -22,8 +22,8 @@ use Rattle.spline.specs.Evaluation.{evaluated, splineUses, splineOf, splineSegm
 use Rattle.spline.proofs.spline.Reads as spline
 use Rattle.spline.proofs.spline_segment.Reads as spline_segment
 use Rattle.invert.specs.declared.Inverted.the-variants as I
-use Rattle.invert.specs.declared.Weighing.the-variants.{Value as ByValue}
-use Rattle.invert.specs.Round.{halving}
+use Rattle.steady.specs.declared.Method.the-variants.{AsCrate}
+use Rattle.invert.specs.Round.{asCrate}
 use Rattle.invert.specs.Segment.{Outcome, enter, outcomeOf}
 use Rattle.inverse.specs.declared.Mode.the-variants.{Knots}
 use Rattle.invert.specs.Answer.{answered, inverted, alone, inverseSegmentUses, inverseSegmentOf, defaultLimit, defaultPrecision}
@@ -32,6 +32,7 @@ use Rattle.invert.proofs.spline_inverse_segment_with.Reads as spline_inverse_se
 use Rattle.invert.proofs.spline_inverse_segment.Reads as spline_inverse_segment
 use Rattle.inverse.specs.Inverse.{inverseUses, inverseOf}
 use Rattle.inverse.proofs.Refusals.{inverse-refused-only, inverse-refused-where}
+use Rattle.inverse.proofs.spline_inverse_by.Reads as spline_inverse_by
 use Rattle.inverse.proofs.spline_inverse_with.Reads as spline_inverse_with
 use Rattle.inverse.proofs.spline_inverse.Reads as spline_inverse
 use Rattle.convert.specs.declared.Converted.the-variants as C
@@ -60,6 +61,9 @@ spline-inverse-segment-with-asks-nothing κs a = tt
 
 pub spline-inverse-segment-asks-nothing : AsksNothing spline_inverse_segment.Asked
 spline-inverse-segment-asks-nothing κs a = tt
+
+pub spline-inverse-by-asks-nothing : AsksNothing spline_inverse_by.Asked
+spline-inverse-by-asks-nothing κs a = tt
 
 pub spline-inverse-with-asks-nothing : AsksNothing spline_inverse_with.Asked
 spline-inverse-with-asks-nothing κs a = tt
@@ -102,10 +106,10 @@ segment-value-refused b x cv r = two-ways (by-evaluated (first (splineSegmentUse
 pub segment-place-refused : (b : Basis) (y : Float) (cv : List Float) (limit : ℕ) (ε : Float) (r : Refusal) → Exactly (inverseSegmentOf b y cv limit ε ≡ I.Refused r) (First (inverseSegmentUses y cv limit ε) rows r)
 unfolding inverseSegmentOf
 segment-place-refused b y cv limit ε r =
-    two-ways (by-inverted (first (inverseSegmentUses y cv limit ε)) alone (outcomeOf (enter halving (segmentOf b cv 0) 0 y ε limit [])) r) (by-first (inverseSegmentUses y cv limit ε) r)
+    two-ways (by-inverted (first (inverseSegmentUses y cv limit ε)) alone (outcomeOf (enter asCrate (segmentOf b cv 0) 0 y ε limit [])) r) (by-first (inverseSegmentUses y cv limit ε) r)
 
 pub place-refused : (b : Basis) (y : Float) (ks : List Float) (check : Bool) (limit : ℕ) (ε : Float) (r : Refusal) → Exactly (inverseOf b y ks check limit ε ≡ I.Refused r) (First (inverseUses b y ks check limit ε) rows r)
-place-refused b y ks check limit ε r = (inverse-refused-only Knots ByValue b y ks check limit ε r, inverse-refused-where Knots ByValue b y ks check limit ε r)
+place-refused b y ks check limit ε r = (inverse-refused-only Knots AsCrate b y ks check limit ε r, inverse-refused-where Knots AsCrate b y ks check limit ε r)
 
 pub segment-conversion-refused : (from to : Basis) (cv : List Float) (room : ℕ) (r : Refusal) → Exactly (answerOf (convertedSegmentOf from to cv room) ≡ C.Refused r) (First (convertSegmentUses to cv room) rows r)
 unfolding convertedSegmentOf
@@ -132,6 +136,10 @@ spline-inverse-segment-with-refuses κs a z e p r = carried p (segment-place-ref
 pub spline-inverse-segment-refuses : Keeps spline_inverse_segment.Learnt
     (λ κs a z e. (r : Refusal) → Exactly (z ≡ I.Refused r) (First (inverseSegmentUses (a .1 .0) (now (a .1 .1 .0)) defaultLimit defaultPrecision) rows r))
 spline-inverse-segment-refuses κs a z e p r = carried p (segment-place-refused (a .0) (a .1 .0) (now (a .1 .1 .0)) defaultLimit defaultPrecision r)
+
+pub spline-inverse-by-refuses : Keeps spline_inverse_by.Learnt
+    (λ κs a z e. (r : Refusal) → Exactly (z ≡ I.Refused r) (First (inverseUses (a .1 .1 .0) (a .1 .1 .1 .0) (now (a .1 .1 .1 .1 .0)) (a .1 .1 .1 .1 .1 .0) (a .1 .1 .1 .1 .1 .1 .0) (a .1 .1 .1 .1 .1 .1 .1 .0)) rows r))
+spline-inverse-by-refuses κs a z e p r = carried p (inverse-refused-only (a .0) (a .1 .0) (a .1 .1 .0) (a .1 .1 .1 .0) (now (a .1 .1 .1 .1 .0)) (a .1 .1 .1 .1 .1 .0) (a .1 .1 .1 .1 .1 .1 .0) (a .1 .1 .1 .1 .1 .1 .1 .0) r, inverse-refused-where (a .0) (a .1 .0) (a .1 .1 .0) (a .1 .1 .1 .0) (now (a .1 .1 .1 .1 .0)) (a .1 .1 .1 .1 .1 .0) (a .1 .1 .1 .1 .1 .1 .0) (a .1 .1 .1 .1 .1 .1 .1 .0) r)
 
 pub spline-inverse-with-refuses : Keeps spline_inverse_with.Learnt
     (λ κs a z e. (r : Refusal) → Exactly (z ≡ I.Refused r) (First (inverseUses (a .0) (a .1 .0) (now (a .1 .1 .0)) (a .1 .1 .1 .0) (a .1 .1 .1 .1 .0) (a .1 .1 .1 .1 .1 .0)) rows r))

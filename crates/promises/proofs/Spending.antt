@@ -14,7 +14,6 @@ use Rattle.error.specs.Refusals.{first}
 use Rattle.basis.specs.declared.Basis.{Basis}
 use Rattle.basis.specs.Basis.{segmentsOf}
 use Rattle.doubles.specs.Numbers.{nought, one, magnitudeOf}
-use Rattle.doubles.specs.Lerp.{lerpOf}
 use Rattle.doubles.proofs.Tests.{branch}
 use Rattle.spline.specs.Segment.{segmentOf}
 use Rattle.invert.specs.declared.Ground.{Ground}
@@ -22,7 +21,7 @@ use Rattle.invert.specs.declared.Ground.the-variants.{End, Edge, Value, Width, 
 use Rattle.invert.specs.declared.Inverted.{Inverted}
 use Rattle.invert.specs.declared.State.{State}
 use Rattle.invert.specs.Evaluations.{Evaluations}
-use Rattle.invert.specs.Round.{Weighting, weightingOf, narrow, weighed, fraction, falsi, Turn, found, on, turn, probed, settled}
+use Rattle.invert.specs.Round.{Rule, narrow, Turn, found, on, turn, probed, settled}
 use Rattle.invert.specs.Rounds.{Placed, rounds}
 use Rattle.invert.specs.Segment.{encloses, near, start, opening, entered, Entry, outside, inside, enter, Outcome, off, placed, orElse, evaluationsOf}
 use Rattle.invert.specs.Answer.{answered, inverted, defaultLimit, defaultPrecision}
@@ -30,14 +29,16 @@ use Rattle.invert.proofs.Ends.{both}
 use Rattle.search.specs.Bound.{bitsOf}
 use Rattle.search.specs.Search.{before, Trial, tries, last, halve, find}
 use Rattle.search.specs.Trial.{trial}
-use Rattle.invert.specs.declared.Weighing.{Weighing}
-use Rattle.invert.specs.declared.Weighing.the-variants.{Value as ByValue}
+use Rattle.steady.specs.declared.Method.{Method}
+use Rattle.steady.specs.declared.Method.the-variants.{AsCrate}
+use Rattle.steady.specs.Method.{ruleOf}
 use Rattle.inverse.specs.declared.Mode.{Mode}
 use Rattle.inverse.specs.declared.Mode.the-variants.{Knots}
-use Rattle.inverse.specs.EndRule.{atLow, atHigh, Rule, ruleOf}
+use Rattle.inverse.specs.EndRule.{atLow, atHigh, EndRule, endRuleOf}
 use Rattle.inverse.specs.Curve.{parameterOf, ended, located, evaluations}
 use Rattle.inverse.specs.Inverse.{inverseUses, inverseBy, unlessRefused, evaluationsBy}
 use Rattle.inverse.proofs.Facts.{AtPlace}
+use Rattle.inverse.proofs.spline_inverse_by.Reads as spline_inverse_by
 use Rattle.inverse.proofs.spline_inverse_with.Reads as spline_inverse_with
 use Rattle.inverse.proofs.spline_inverse.Reads as spline_inverse
 use Rattle.promises.specs.Calls.{Keeps}
@@ -55,25 +56,24 @@ pub data Then (s : ℕ) (ev : Evaluations) : ℕ → Evaluations → Type 0 wher
   more : {n : ℕ} {l : Evaluations} (x : Float) → Then s ev n l → Then s ev (suc n) ((s, x) ∷ l)
 
 -- ---- a segment
-module _ (W : Weighting) (f : Float → Float) (s : ℕ) (y ε : Float) (rising : Bool) (limit : ℕ) (ev : Evaluations) where
+module _ (R : Rule) (f : Float → Float) (s : ℕ) (y ε : Float) (rising : Bool) (limit : ℕ) (ev : Evaluations) where
   -- what a round leaves, m having been made
   abbrev Left : ℕ → Turn → Type 0
   Left m (found g x b l) = IsSpent g → ⊥
   Left m (on st l) = Then s ev m l
 
-  turn-left : (m : ℕ) (regula : Bool) (st : State) (l : Evaluations) → Then s ev m l → Left (suc m) (turn W f s y ε rising regula st l)
+  turn-left : (m i : ℕ) (st : State) (l : Evaluations) → Then s ev m l → Left (suc m) (turn R f s y ε rising limit i st l)
   unfolding turn probed settled
-  turn-left m regula st l t =
-      let b = weighed W y regula st in
-      let x = lerpOf (b .lower) (b .upper) (fraction y regula b) in
+  turn-left m i st l t =
+      let x = R limit i y st .place in
       branch (Left (suc m)) (narrow ε (st .bracket)) (λ _ q. q) (λ _. branch (Left (suc m)) (lt (magnitudeOf (sub binary64 (f x) y)) ε) (λ _ q. q) (λ _. more x t))
 
-  rounds-spent : (n i m j : ℕ) (t : Turn) → m + n ≡ j → Left m t → let p = rounds W f s y ε rising limit n i t in IsSpent (p .ground) → Then (p .segment) ev j (p .made)
+  rounds-spent : (n i m j : ℕ) (t : Turn) → m + n ≡ j → Left m t → let p = rounds R f s y ε rising limit n i t in IsSpent (p .ground) → Then (p .segment) ev j (p .made)
   unfolding rounds
   rounds-spent zero i m j (found g x b l) e h q = absurd (h q)
   rounds-spent zero i m j (on st l) e h q = let e : m ≡ j = omega arith in subst (λ (j : ℕ). Then s ev j l) e h
   rounds-spent (suc n) i m j (found g x b l) e h q = absurd (h q)
-  rounds-spent (suc n) i m j (on st l) e h q = rounds-spent n (suc i) (suc m) j (turn W f s y ε rising (falsi limit i st) st l) (omega arith) (turn-left m (falsi limit i st) st l h) q
+  rounds-spent (suc n) i m j (on st l) e h q = rounds-spent n (suc i) (suc m) j (turn R f s y ε rising limit i st l) (omega arith) (turn-left m i st l h) q
 
 -- so of an outcome
 abbrev pub Rounded : ℕ → Outcome → Type 0
@@ -85,9 +85,9 @@ abbrev RoundedIn : ℕ → Entry → Type 0
 RoundedIn limit (outside v l) = Unit
 RoundedIn limit (inside p) = IsSpent (p .ground) → (ev : Evaluations) × Then (p .segment) ev limit (p .made)
 
-enter-rounded : (W : Weighting) (f : Float → Float) (s : ℕ) (y ε : Float) (limit : ℕ) (ev : Evaluations) → RoundedIn limit (enter W f s y ε limit ev)
+enter-rounded : (R : Rule) (f : Float → Float) (s : ℕ) (y ε : Float) (limit : ℕ) (ev : Evaluations) → RoundedIn limit (enter R f s y ε limit ev)
 unfolding enter entered
-enter-rounded W f s y ε limit ev =
+enter-rounded R f s y ε limit ev =
     let l = both s ev in
     let rising = lt (f nought) (f one) in
     let t = on (start (opening (f nought) (f one))) l in
@@ -95,7 +95,7 @@ enter-rounded W f s y ε limit ev =
     branch (RoundedIn limit) (encloses (f nought) (f one) y)
     (λ _. branch P (near y (f nought) ε) (λ _ q. absurd q)
     (λ _. branch P (near y (f one) ε) (λ _ q. absurd q)
-    (λ _ q. (l, rounds-spent W f s y ε rising limit l limit 0 0 limit t (omega arith) none q))))
+    (λ _ q. (l, rounds-spent R f s y ε rising limit l limit 0 0 limit t (omega arith) none q))))
     (λ _. tt)
 
 -- ---- a search
@@ -127,22 +127,22 @@ module _ (limit : ℕ) (E : Trial) (trials : (s : ℕ) (ev : Evaluations) → Ro
     unfolding find
     find-all ev = branch (Rounded limit) (leb k 12) (λ _. tries-rounded k 0 ev) (λ _. halve-rounded (bitsOf k) 0 k ev)
 
-find-rounded : (W : Weighting) (g : ℕ → Float → Float) (y ε : Float) (limit : ℕ) (rising : Bool) (k : ℕ) (ev : Evaluations) → Rounded limit (find (trial W g y ε limit) y rising k ev)
-find-rounded W g y ε limit rising k ev = find-all limit (trial W g y ε limit) (λ s ev. enter-rounded W (g s) s y ε limit ev) y rising k ev
+find-rounded : (R : Rule) (g : ℕ → Float → Float) (y ε : Float) (limit : ℕ) (rising : Bool) (k : ℕ) (ev : Evaluations) → Rounded limit (find (trial R g y ε limit) y rising k ev)
+find-rounded R g y ε limit rising k ev = find-all limit (trial R g y ε limit) (λ s ev. enter-rounded R (g s) s y ε limit ev) y rising k ev
 
 -- ---- the call
-module _ (m : Mode) (w : Weighing) (b : Basis) (y : Float) (ks : List Float) (check : Bool) (limit : ℕ) (ε : Float) where
-  abbrev rule : Rule
-  rule = ruleOf m b ks (segmentOf b ks)
+module _ (m : Mode) (how : Method) (b : Basis) (y : Float) (ks : List Float) (check : Bool) (limit : ℕ) (ε : Float) where
+  abbrev rule : EndRule
+  rule = endRuleOf m b ks (segmentOf b ks)
 
   abbrev pub AllRounds : Inverted → Type 0
-  AllRounds r = AtPlace (λ p. IsSpent (p .ground) → (ev : Evaluations) × Then (p .segment) ev limit (evaluationsBy m w b y ks check limit ε)) r
+  AllRounds r = AtPlace (λ p. IsSpent (p .ground) → (ev : Evaluations) × Then (p .segment) ev limit (evaluationsBy m how b y ks check limit ε)) r
 
-  pub inverse-spent : AllRounds (inverseBy m w b y ks check limit ε)
+  pub inverse-spent : AllRounds (inverseBy m how b y ks check limit ε)
   unfolding inverseBy evaluationsBy located evaluations
   inverse-spent =
-      go (first (inverseUses b y ks check limit ε)) (atLow (rule .ends) y) (atHigh (rule .ends) y) (find (trial (weightingOf w) (segmentOf b ks) y ε limit) y (rule .ends .rising) k (rule .made))
-      (find-rounded (weightingOf w) (segmentOf b ks) y ε limit (rule .ends .rising) k (rule .made))
+      go (first (inverseUses b y ks check limit ε)) (atLow (rule .ends) y) (atHigh (rule .ends) y) (find (trial (ruleOf how) (segmentOf b ks) y ε limit) y (rule .ends .rising) k (rule .made))
+      (find-rounded (ruleOf how) (segmentOf b ks) y ε limit (rule .ends .rising) k (rule .made))
     where
       k : ℕ
       k = segmentsOf b (length ks)
@@ -156,11 +156,14 @@ module _ (m : Mode) (w : Weighing) (b : Basis) (y : Float) (ks : List Float) (ch
       go Passed false false (placed p) h = h
       go (Failed r) a c o h = tt
 
-  reply-spent : (r : Inverted) → r ≡ inverseBy m w b y ks check limit ε → AllRounds r
+  reply-spent : (r : Inverted) → r ≡ inverseBy m how b y ks check limit ε → AllRounds r
   reply-spent r e = subst AllRounds (sym e) inverse-spent
 
-pub spline-inverse-with-spent : Keeps spline_inverse_with.Learnt (λ κs a z e. AllRounds Knots ByValue (a .0) (a .1 .0) (now (a .1 .1 .0)) (a .1 .1 .1 .0) (a .1 .1 .1 .1 .0) (a .1 .1 .1 .1 .1 .0) z)
-spline-inverse-with-spent κs a z e p = reply-spent Knots ByValue (a .0) (a .1 .0) (now (a .1 .1 .0)) (a .1 .1 .1 .0) (a .1 .1 .1 .1 .0) (a .1 .1 .1 .1 .1 .0) z p
+pub spline-inverse-by-spent : Keeps spline_inverse_by.Learnt (λ κs a z e. AllRounds (a .0) (a .1 .0) (a .1 .1 .0) (a .1 .1 .1 .0) (now (a .1 .1 .1 .1 .0)) (a .1 .1 .1 .1 .1 .0) (a .1 .1 .1 .1 .1 .1 .0) (a .1 .1 .1 .1 .1 .1 .1 .0) z)
+spline-inverse-by-spent κs a z e p = reply-spent (a .0) (a .1 .0) (a .1 .1 .0) (a .1 .1 .1 .0) (now (a .1 .1 .1 .1 .0)) (a .1 .1 .1 .1 .1 .0) (a .1 .1 .1 .1 .1 .1 .0) (a .1 .1 .1 .1 .1 .1 .1 .0) z p
 
-pub spline-inverse-spent : Keeps spline_inverse.Learnt (λ κs a z e. AllRounds Knots ByValue (a .0) (a .1 .0) (now (a .1 .1 .0)) (a .1 .1 .1 .0) defaultLimit defaultPrecision z)
-spline-inverse-spent κs a z e p = reply-spent Knots ByValue (a .0) (a .1 .0) (now (a .1 .1 .0)) (a .1 .1 .1 .0) defaultLimit defaultPrecision z p
+pub spline-inverse-with-spent : Keeps spline_inverse_with.Learnt (λ κs a z e. AllRounds Knots AsCrate (a .0) (a .1 .0) (now (a .1 .1 .0)) (a .1 .1 .1 .0) (a .1 .1 .1 .1 .0) (a .1 .1 .1 .1 .1 .0) z)
+spline-inverse-with-spent κs a z e p = reply-spent Knots AsCrate (a .0) (a .1 .0) (now (a .1 .1 .0)) (a .1 .1 .1 .0) (a .1 .1 .1 .1 .0) (a .1 .1 .1 .1 .1 .0) z p
+
+pub spline-inverse-spent : Keeps spline_inverse.Learnt (λ κs a z e. AllRounds Knots AsCrate (a .0) (a .1 .0) (now (a .1 .1 .0)) (a .1 .1 .1 .0) defaultLimit defaultPrecision z)
+spline-inverse-spent κs a z e p = reply-spent Knots AsCrate (a .0) (a .1 .0) (now (a .1 .1 .0)) (a .1 .1 .1 .0) defaultLimit defaultPrecision z p

@@ -12,7 +12,7 @@ use Rattle.spline.specs.Rows.{inRange, allInRange, firstBad}
 use Rattle.spline.specs.Curve.{curveValue}
 use Rattle.spline.specs.Evaluation.{splineOf}
 use Rattle.invert.specs.Answer.{precise}
-use Rattle.invert.specs.Round.{narrow, halving, weighed, kept, fraction, moved, settled, probed, turn}
+use Rattle.invert.specs.Round.{narrow, halving, weighed, chord, kept, fraction, moved, settled, probed, turn}
 use Rattle.invert.specs.Rounds.{rounds}
 use Rattle.invert.specs.Segment.{entered, enter}
 use Rattle.search.specs.Bound.{bitsOf}
@@ -42,11 +42,11 @@ unfolding longest splineOf inRange allInRange firstBad curveValue wholeUpTo clam
 longest-hold = (refl, (refl, tt))
 
 places-hold : Hold places
-unfolding places inverseBy located find tries last halve bitsOf enter entered rounds turn probed settled moved fraction kept weighed halving narrow ordered turnsAt precise parameterOf inRange allInRange firstBad magnitudeOf lerpOf matrixOf ofBits ofInt round add sub mul div lt le eq neg isNan leadingZeros
+unfolding places inverseBy located find tries last halve bitsOf enter entered rounds turn probed settled moved fraction kept weighed halving chord narrow ordered turnsAt precise parameterOf inRange allInRange firstBad magnitudeOf lerpOf matrixOf ofBits ofInt round add sub mul div lt le eq neg isNan leadingZeros
 places-hold = (refl, (refl, (refl, (refl, (refl, (refl, tt))))))
 
 halvings-hold : Hold halvings
-unfolding halvings inverseBy evaluationsBy located evaluations find tries last halve bitsOf enter entered rounds turn probed settled moved fraction kept weighed halving narrow ordered turnsAt precise parameterOf inRange allInRange firstBad magnitudeOf lerpOf matrixOf ofBits ofInt round add sub mul div lt le eq neg isNan leadingZeros
+unfolding halvings inverseBy evaluationsBy located evaluations find tries last halve bitsOf enter entered rounds turn probed settled moved fraction kept weighed halving chord narrow ordered turnsAt precise parameterOf inRange allInRange firstBad magnitudeOf lerpOf matrixOf ofBits ofInt round add sub mul div lt le eq neg isNan leadingZeros
 halvings-hold = (refl, (refl, (refl, (refl, tt))))
 
 conversions-hold : Hold conversions

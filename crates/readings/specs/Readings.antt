@@ -20,10 +20,10 @@ use Rattle.invert.specs.declared.Ground.{Ground}
 use Rattle.invert.specs.declared.Ground.the-variants.{End, Edge, Value}
 use Rattle.invert.specs.declared.Inverted.{Inverted}
 use Rattle.invert.specs.declared.Inverted.the-variants as I
-use Rattle.invert.specs.declared.Weighing.the-variants as W
 use Rattle.invert.specs.Answer.{defaultLimit, defaultPrecision}
 use Rattle.inverse.specs.Inverse.{inverseBy, inverseOf, inverseEvaluations}
 use Rattle.inverse.specs.declared.Mode.the-variants.{Curve}
+use Rattle.steady.specs.declared.Method.the-variants.{AsCrate}
 use Rattle.convert.specs.Conversion.{Conversion, gives, refuses, convertedOf}
 
 -- ---- what a reading tells: a value or the knots, a place by its parameter, ground and count, or a refusal's number, 11 with its count; that a length is accepted; segments
@@ -84,7 +84,7 @@ abbrev pub answer : Asked → Told
 answer (knots-of b n) = ofVerdict (first (curveLength b n))
 answer (at b ks x) = ofEvaluated (splineOf b x ks)
 answer (place-of b ks y check ε) = ofInverted (inverseOf b y ks check defaultLimit ε)
-answer (own-place-of b ks y check ε) = ofInverted (inverseBy Curve W.Value b y ks check defaultLimit ε)
+answer (own-place-of b ks y check ε) = ofInverted (inverseBy Curve AsCrate b y ks check defaultLimit ε)
 answer (visited b ks y) = segments (reverse (map (λ e. e .0) (inverseEvaluations b y ks true defaultLimit defaultPrecision)))
 answer (turned from to ks) = ofConversion (convertedOf from to ks 4096)
 

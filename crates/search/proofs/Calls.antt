@@ -176,11 +176,11 @@ module _ (b : Basis) (ks : List Float) (y : Float) where
       halve-hit w i (suc n) room =
           record {
             comes-to = λ ev l. (
-                both (left + half) ev,
-                omega arith,
-                λ R ε limit. opened (E R ε limit) n ev ∙ into R (segmentOf b ks) y ε limit (left + half) ev (on (E R ε limit) n wide half (left + half)) (sym (is .holds-is) ∙ i)
-                    ∙ sym (went-in (segmentOf b ks) y k (left + half) R ε limit (both (left + half) ev) w),
-              );
+              both (left + half) ev,
+              omega arith,
+              λ R ε limit. opened (E R ε limit) n ev ∙ into R (segmentOf b ks) y ε limit (left + half) ev (on (E R ε limit) n wide half (left + half)) (sym (is .holds-is) ∙ i)
+                  ∙ sym (went-in (segmentOf b ks) y k (left + half) R ε limit (both (left + half) ev) w),
+            );
             keeps = λ _. is .kept-is;
           }
 
@@ -244,7 +244,7 @@ module _ (b : Basis) (ks : List Float) (y : Float) where
     found-in {p} h i ev l =
         let c = sought .comes-to ev l in
         ap At (i (c .0) (c .1)
-            ∙ ap (λ (e : List Float). placeOf alone (entered (ruleOf how) (hornerOf (record { w0 = getD e 0 nan; w1 = getD e 1 nan; w2 = getD e 2 nan; w3 = getD e 3 nan })) s y ε limit (getD e 4 nan) (getD e 5 nan) (c .0))) (sought .keeps h))
+        ∙ ap (λ (e : List Float). placeOf alone (entered (ruleOf how) (hornerOf (record { w0 = getD e 0 nan; w1 = getD e 1 nan; w2 = getD e 2 nan; w3 = getD e 3 nan })) s y ε limit (getD e 4 nan) (getD e 5 nan) (c .0))) (sought .keeps h))
         ∙ ap (answered alone) (sym (c .2 (ruleOf how) ε limit ∙ went-in (segmentOf b ks) y k s (ruleOf how) ε limit (c .0) h))
 
     pub found-none : k ≤ s → FindIs how b ks y ε limit rising k count (OffCurve made)

@@ -231,7 +231,17 @@ pub fn find(
             w2: ends[2],
             w3: ends[3],
         };
-        return Inverted::At(steady::entered_by(how, w, s, y, precision, limit, ends[4], ends[5], made));
+        return Inverted::At(steady::entered_by(
+            how,
+            w,
+            s,
+            y,
+            precision,
+            limit,
+            ends[4],
+            ends[5],
+            made,
+        ));
     }
     Inverted::OffCurve(made as usize)
 }

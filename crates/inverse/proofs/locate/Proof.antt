@@ -16,7 +16,7 @@ located-requires : tie.Need-located-requires
 located-requires c κs = search needs
 
 returns : tie.Need-returns
-returns c = by-rule (c .before .before .before .before .before .args .m) (c .before .before .before .before .before .args .b) (c .before .before .before .before .before .args .knots .now) (c .before .before .before .segments .result) (c .before .before .before .segments .ensures) (c .before .before .before .before .before .args .w) (c .before .before .before .before .before .args .y) (c .before .before .before .before .before .args .precision) (c .before .before .before .before .before .args .limit) (c .before .evaluations .result) (c .before .before .mode-ends .result) (c .before .before .mode-ends .ensures) (c .before .evaluations .ensures .0) (c .located .ensures)
+returns c = by-rule (c .before .before .before .before .before .args .m) (c .before .before .before .before .before .args .b) (c .before .before .before .before .before .args .knots .now) (c .before .before .before .segments .result) (c .before .before .before .segments .ensures) (c .before .before .before .before .before .args .how) (c .before .before .before .before .before .args .y) (c .before .before .before .before .before .args .precision) (c .before .before .before .before .before .args .limit) (c .before .evaluations .result) (c .before .before .mode-ends .result) (c .before .before .mode-ends .ensures) (c .before .evaluations .ensures .0) (c .located .ensures)
 
 pub locate-spec : {M : Type 1} → statement M
 locate-spec =

@@ -5,7 +5,7 @@ use denote.Enum.Declared
 use native.Mathlib.Omega.{arith}
 use Rattle.spline.specs.Segment.{segmentOf}
 use Rattle.invert.proofs.Inverted
-use Rattle.invert.specs.Round.{weightingOf}
+use Rattle.steady.specs.Method.{ruleOf}
 use Rattle.search.specs.Trial.{trial}
 use Rattle.search.specs.Search.{find}
 use Rattle.inverse.specs.Curve.{parameterOf}
@@ -22,13 +22,13 @@ enum-known-a : tie.Need-enum-known-a
 enum-known-a c = search needs
 
 returns : tie.Need-returns
-returns c = λ ev l. refusal-kept (parameterOf (c .before .before .before .args .k)) (find (trial (weightingOf (c .before .before .before .args .w)) (segmentOf (c .before .before .before .args .b) (c .before .before .before .args .knots .now)) (c .before .before .before .args .y) (c .before .before .before .args .precision) (c .before .before .before .args .limit)) (c .before .before .before .args .y) (c .before .before .before .args .rising) (c .before .before .before .args .k) ev) _ (Declared.tagOf Inverted.the-type) (λ p. refl) (c .match .keys2) (c .before .find .ensures ev l)
+returns c = λ ev l. refusal-kept (parameterOf (c .before .before .before .args .k)) (find (trial (ruleOf (c .before .before .before .args .how)) (segmentOf (c .before .before .before .args .b) (c .before .before .before .args .knots .now)) (c .before .before .before .args .y) (c .before .before .before .args .precision) (c .before .before .before .args .limit)) (c .before .before .before .args .y) (c .before .before .before .args .rising) (c .before .before .before .args .k) ev) _ (Declared.tagOf Inverted.the-type) (λ p. refl) (c .match .keys2) (c .before .find .ensures ev l)
 
 parameter-requires : tie.Need-parameter-requires
-parameter-requires c κs = let l = found-below (c .before .before .before .before .before .args .b) (c .before .before .before .before .before .args .y) (c .before .before .before .before .before .args .precision) (c .before .before .before .before .before .args .knots .now) (c .before .before .before .before .before .args .limit) (c .before .before .before .before .before .args .k) (c .before .before .before .before .before .pre .0) (c .before .before .before .before .before .pre .1) (c .before .before .before .before .before .pre .2) (c .before .before .before .before .before .args .w) (c .before .before .before .before .before .args .rising) (c .before .a .given .0 .0) (c .before .before .before .before .before .pre .3) (c .before .before .before .before .before .pre .4) (c .before .before .before .before .before .args .n) (λ ev q. sym (c .before .a .given .1) ∙ c .before .before .before .find .ensures ev q) in (le-trans (k-few (c .before .before .before .before .before .args .b) (c .before .before .before .before .before .args .y) (c .before .before .before .before .before .args .precision) (c .before .before .before .before .before .args .knots .now) (c .before .before .before .before .before .args .limit) (c .before .before .before .before .before .args .k) (c .before .before .before .before .before .pre .0) (c .before .before .before .before .before .pre .1) (c .before .before .before .before .before .pre .2)) (lit≤ tt), omega (arith, l, k-few (c .before .before .before .before .before .args .b) (c .before .before .before .before .before .args .y) (c .before .before .before .before .before .args .precision) (c .before .before .before .before .before .args .knots .now) (c .before .before .before .before .before .args .limit) (c .before .before .before .before .before .args .k) (c .before .before .before .before .before .pre .0) (c .before .before .before .before .before .pre .1) (c .before .before .before .before .before .pre .2)))
+parameter-requires c κs = let l = found-below (c .before .before .before .before .before .args .b) (c .before .before .before .before .before .args .y) (c .before .before .before .before .before .args .precision) (c .before .before .before .before .before .args .knots .now) (c .before .before .before .before .before .args .limit) (c .before .before .before .before .before .args .k) (c .before .before .before .before .before .pre .0) (c .before .before .before .before .before .pre .1) (c .before .before .before .before .before .pre .2) (c .before .before .before .before .before .args .how) (c .before .before .before .before .before .args .rising) (c .before .a .given .0 .0) (c .before .before .before .before .before .pre .3) (c .before .before .before .before .before .pre .4) (c .before .before .before .before .before .args .n) (λ ev q. sym (c .before .a .given .1) ∙ c .before .before .before .find .ensures ev q) in (le-trans (k-few (c .before .before .before .before .before .args .b) (c .before .before .before .before .before .args .y) (c .before .before .before .before .before .args .precision) (c .before .before .before .before .before .args .knots .now) (c .before .before .before .before .before .args .limit) (c .before .before .before .before .before .args .k) (c .before .before .before .before .before .pre .0) (c .before .before .before .before .before .pre .1) (c .before .before .before .before .before .pre .2)) (lit≤ tt), omega (arith, l, k-few (c .before .before .before .before .before .args .b) (c .before .before .before .before .before .args .y) (c .before .before .before .before .before .args .precision) (c .before .before .before .before .before .args .knots .now) (c .before .before .before .before .before .args .limit) (c .before .before .before .before .before .args .k) (c .before .before .before .before .before .pre .0) (c .before .before .before .before .before .pre .1) (c .before .before .before .before .before .pre .2)))
 
 returns-2 : tie.Need-returns-2
-returns-2 c = λ ev l. with-parameter (parameterOf (c .before .before .before .before .before .before .args .k)) (find (trial (weightingOf (c .before .before .before .before .before .before .args .w)) (segmentOf (c .before .before .before .before .before .before .args .b) (c .before .before .before .before .before .before .args .knots .now)) (c .before .before .before .before .before .before .args .y) (c .before .before .before .before .before .before .args .precision) (c .before .before .before .before .before .before .args .limit)) (c .before .before .before .before .before .before .args .y) (c .before .before .before .before .before .before .args .rising) (c .before .before .before .before .before .before .args .k) ev) (c .before .before .a .given .0 .0) (sym (c .before .before .a .given .1) ∙ c .before .before .before .before .find .ensures ev l) (c .parameter .ensures)
+returns-2 c = λ ev l. with-parameter (parameterOf (c .before .before .before .before .before .before .args .k)) (find (trial (ruleOf (c .before .before .before .before .before .before .args .how)) (segmentOf (c .before .before .before .before .before .before .args .b) (c .before .before .before .before .before .before .args .knots .now)) (c .before .before .before .before .before .before .args .y) (c .before .before .before .before .before .before .args .precision) (c .before .before .before .before .before .before .args .limit)) (c .before .before .before .before .before .before .args .y) (c .before .before .before .before .before .before .args .rising) (c .before .before .before .before .before .before .args .k) ev) (c .before .before .a .given .0 .0) (sym (c .before .before .a .given .1) ∙ c .before .before .before .before .find .ensures ev l) (c .parameter .ensures)
 
 pub searched-spec : {M : Type 1} → statement M
 searched-spec =

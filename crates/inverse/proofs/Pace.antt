@@ -1,0 +1,84 @@
+-- A lawful rule kept to the pace, on a segment and on a curve: the limit is never told as spent where it is above N, and the count is bounded by N as by a limit. Assumes nothing.
+use mathlib.Core.Path.{_≡_, refl, sym, ap, _∙_, subst}
+use mathlib.Core.Bool.{Bool, true, false, not, cond}
+use Prim.Native.Nat.{ℕ, _+_, _-_, _*_, _^_, _≤_, _<_}
+use native.Mathlib.Nat.{le-trans, lt-of-le-of-lt}
+use native.Mathlib.Omega.{arith}
+use lib.Dec.{T, T-not, leb, lit<}
+use lib.ListN.{length}
+use lib.Ieee.{Float, binary64, low, lt}
+use lib.Ieee.Exact.{HasValue}
+use Rattle.doubles.specs.Numbers.{nought, one}
+use Rattle.doubles.proofs.Tests.{branch}
+use Rattle.doubles.proofs.Units.{nought-in, one-in}
+use Rattle.invert.specs.declared.Place.{Place}
+use Rattle.invert.specs.declared.Inverted.{Inverted}
+use Rattle.invert.specs.declared.Inverted.the-variants.{OffCurve, At}
+use Rattle.invert.specs.Evaluations.{Evaluations}
+use Rattle.invert.specs.Rounds.{Placed}
+use Rattle.invert.specs.Segment.{encloses, near, entered, enter, Outcome, off, placed}
+use Rattle.invert.specs.Answer.{answered, countTold}
+use Rattle.invert.proofs.Ends.{both}
+use Rattle.invert.proofs.Enclosing.{Numbers}
+use Rattle.search.specs.Bound.{bitsOf, boundOf}
+use Rattle.search.specs.Search.{find}
+use Rattle.search.specs.Trial.{trial}
+use Rattle.search.proofs.Found.{Nothing, Straight, Tried, shut, hit, Result, missed, got, probes, find-says}
+use Rattle.inverse.specs.declared.Ends.{Ends}
+use Rattle.inverse.specs.EndRule.{atLow, atHigh}
+use Rattle.inverse.specs.Curve.{parameterOf, ended, located}
+use Rattle.inverse.proofs.Facts.{AtPlace}
+use Rattle.invert.specs.Round.{Rule}
+use Rattle.invert.proofs.Rules.{Lawful}
+use Rattle.steady.specs.Steady.{paced}
+use Rattle.steady.proofs.Ending.{isSpent, paced-ends}
+
+-- with a precision of h units above 2^(5 - N) + 7·2^-53
+module _ (R : Rule) (lawful : Lawful R) (y ε : Float) (limit N K h : ℕ) (e-N : N + K ≡ low binary64 + 5) (v : HasValue ε false h (2 ^ low binary64)) (small : 2 ^ K + 7 * 2 ^ 1021 < h) where
+  -- at most N evaluations after `base`; and not spent, where the limit is above N
+  abbrev pub InTime : ℕ → ℕ → Placed → Type 0
+  InTime s base p = (length (p .made) ≤ base + N) × (N < limit → T (not (isSpent (p .ground))))
+
+  module _ (f : Float → Float) (s : ℕ) (ev : Evaluations) where
+    entered-in-time : (v0 v1 : Float) → InTime s (length ev) (entered (paced R) f s y ε limit v0 v1 ev)
+    unfolding entered
+    entered-in-time v0 v1 =
+        branch (InTime s (length ev)) (near y v0 ε) (λ _. (omega arith, λ _. tt))
+        (λ _. branch (InTime s (length ev)) (near y v1 ε) (λ _. (omega arith, λ _. tt)) (λ _. paced-ends R lawful f s y ε (lt v0 v1) limit v0 v1 ev N K h e-N v small))
+
+  module _ (g : ℕ → Float → Float) (k : ℕ) where
+    trial-in-time : (s : ℕ) (ev : Evaluations) → s < k → Tried g y k InTime s ev (trial (paced R) g y ε limit s ev)
+    unfolding enter
+    trial-in-time s ev l =
+        let q = entered-in-time (g s) s (both s ev) (g s nought) (g s one) in
+        branch (Tried g y k InTime s ev) (encloses (g s nought) (g s one) y) (λ h. hit h (omega (arith, q .0), q .1)) (λ h. shut h)
+
+    module _ (some : 0 < k) (fits : k ≤ 4093) (numbers : (s : ℕ) → s < k → Numbers (g s) y) (e : Ends) (ev : Evaluations) where
+      Searched : Outcome → Type 0
+      Searched = Result g y k InTime (length ev + probes (leb k 12) k) ((T (not (leb k 12)) → Straight g y k (e .rising)) → Nothing g y k 0 k)
+
+      searched : Searched (find (trial (paced R) g y ε limit) y (e .rising) k ev)
+      unfolding Searched
+      searched = find-says g y k InTime (trial (paced R) g y ε limit) trial-in-time (numbers 0 some .target) (λ s l. (numbers s l .values nought nought-in, numbers s l .values one one-in)) (e .rising) ev (lt-of-le-of-lt fits (lit< tt))
+
+      -- what an answer owes: never spent, and a count bounded as if the limit were N
+      abbrev pub Timely : Inverted → Type 0
+      Timely r = AtPlace (λ p. N < limit → T (not (isSpent (p .ground)))) r × (countTold r ≤ length ev + boundOf k N)
+
+      room : (n : ℕ) → n ≤ length ev + probes (leb k 12) k → n + N ≤ length ev + boundOf k N
+      room n = go (leb k 12)
+        where
+          go : (b : Bool) → n ≤ length ev + probes b k → n + N ≤ length ev + cond b (N + 24) (N + 2 * bitsOf k + 4)
+          go true h = omega arith
+          go false h = omega arith
+
+      found-timely : (o : Outcome) → Searched o → Timely (answered (parameterOf k) o)
+      unfolding Searched
+      found-timely (off t) (missed n c) = (tt, omega (arith, room (length t) (omega (arith, c))))
+      found-timely (placed p) (got r) = (r .good .1, le-trans (r .good .0) (room (r .base) (r .few)))
+
+      pub located-timely : Timely (located (paced R) e ev g k y ε limit)
+      unfolding located
+      located-timely =
+          branch Timely (atLow e y) (λ _. (λ _. tt, omega (arith, room 0 (omega arith))))
+          (λ _. branch Timely (atHigh e y) (λ _. (λ _. tt, omega (arith, room 0 (omega arith)))) (λ _. found-timely (find (trial (paced R) g y ε limit) y (e .rising) k ev) searched))
