@@ -5,20 +5,22 @@ use std::fmt::Debug;
 use std::process;
 
 use crate::crates;
-use crate::model::{self, Fate, Inversion, Options};
+use crate::model::{self, Fate, Inversion, Options, Refused};
 use crate::port::{self, Converted, Inverted, Valued, UNTOUCHED, UNTOUCHED_WHOLE};
-use crate::tally::{of_ground, Call, Tally, PLAIN};
+use crate::promised;
+use crate::tally::{of_ground, of_reply, Call, Tally, PLAIN};
 
 /// The input of a difference, so that it can be typed in again.
-struct Input<'a> {
-    call: Call,
-    bases: &'a [usize],
-    at: f64,
-    knots: &'a [f64],
-    more: &'a dyn Debug,
+pub struct Input<'a> {
+    pub call: Call,
+    pub bases: &'a [usize],
+    pub at: f64,
+    pub knots: &'a [f64],
+    pub more: &'a dyn Debug,
 }
 
-fn hold<T: PartialEq + Debug>(whose: &str, input: &Input, theirs: T, ours: T) {
+/// Ends the run where the two are not equal.
+pub fn hold<T: PartialEq + Debug>(whose: &str, input: &Input, theirs: T, ours: T) {
     if theirs == ours {
         return;
     }
@@ -38,10 +40,10 @@ pub fn is_len_ok(t: &mut Tally, b: usize, n: usize) {
     t.add(Call::IsLenOk, PLAIN, true);
 }
 
-fn valued(answer: Result<f64, u8>) -> Valued {
+pub fn valued(answer: Result<f64, Refused>) -> Valued {
     match answer {
         Ok(v) => Valued { reply: 0, value: v.to_bits() },
-        Err(no) => Valued { reply: no, value: UNTOUCHED },
+        Err(why) => Valued { reply: why.reply(), value: UNTOUCHED },
     }
 }
 
@@ -51,9 +53,9 @@ pub fn spline(t: &mut Tally, b: usize, x: f64, knots: &[f64]) {
     hold("the model", &input, valued(model::spline(b, x, knots)), ours);
     let sent = ours.reply <= 2;
     if sent {
-        hold("the crate", &input, valued(crates::spline(b, x, knots)), ours);
+        hold("the crate", &input, valued(crates::spline(b, x, knots).map_err(Refused::from)), ours);
     }
-    t.add(Call::Spline, ours.reply as usize, sent);
+    t.add(Call::Spline, of_reply(ours.reply), sent);
 }
 
 pub fn spline_segment(t: &mut Tally, b: usize, x: f64, cv: &[f64]) {
@@ -64,20 +66,20 @@ pub fn spline_segment(t: &mut Tally, b: usize, x: f64, cv: &[f64]) {
     if sent {
         hold("the crate", &input, valued(Ok(crates::spline_segment(b, x, cv))), ours);
     }
-    t.add(Call::SplineSegment, ours.reply as usize, sent);
+    t.add(Call::SplineSegment, of_reply(ours.reply), sent);
 }
 
-fn inverted(i: &Inversion) -> Inverted {
+pub fn inverted(i: &Inversion) -> Inverted {
     match i.answer {
         Ok(p) => Inverted {
             reply: 0,
             place: [p.parameter, p.local, p.lower, p.upper].map(f64::to_bits),
             whole: [p.ground as usize, p.segment, i.count],
         },
-        Err(no) => Inverted {
-            reply: no,
+        Err(why) => Inverted {
+            reply: why.reply(),
             place: [UNTOUCHED; 4],
-            whole: [UNTOUCHED_WHOLE, UNTOUCHED_WHOLE, if no == 11 { i.count } else { UNTOUCHED_WHOLE }],
+            whole: [UNTOUCHED_WHOLE, UNTOUCHED_WHOLE, if why.no == 11 { i.count } else { UNTOUCHED_WHOLE }],
         },
     }
 }
@@ -90,54 +92,58 @@ fn parameter(i: &Inverted) -> Option<u64> {
 /// Counts the call, and says whether the crate can be asked.
 fn counted(t: &mut Tally, call: Call, expected: &Inversion, comparable: bool) -> bool {
     let sent = comparable && expected.fate == Fate::Answers;
-    t.not_sent(expected.fate);
-    t.add(call, expected.answer.map_or_else(|no| no as usize, |p| of_ground(p.ground)), sent);
+    if comparable {
+        t.not_sent(expected.fate);
+    }
+    t.add(call, expected.answer.map_or_else(|why| why.no as usize, |p| of_ground(p.ground)), sent);
     sent
 }
 
-fn is_default(limit: u16, precision: f64) -> bool {
-    limit == 32 && precision == 1e-10
+fn is_default(o: &Options) -> bool {
+    o.is_the_crates() && o.limit == 32 && o.precision == 1e-10
 }
 
 pub fn spline_inverse(t: &mut Tally, b: usize, y: f64, knots: &[f64], o: &Options) {
-    let input = Input { call: Call::SplineInverse, bases: &[b], at: y, knots, more: o };
+    let input = Input { call: Call::curve_inversion(o), bases: &[b], at: y, knots, more: o };
     let expected = model::spline_inverse(b, y, knots, o);
-    let ours = port::spline_inverse(b as u8, y, knots, o);
+    let ours = port::spline_inverse_with(b as u8, y, knots, o);
     hold("the model", &input, inverted(&expected), ours);
-    let comparable = matches!(ours.reply, 0 | 1 | 2 | 10 | 11);
-    if counted(t, Call::SplineInverse, &expected, comparable) {
+    hold("a broken promise", &input, promised::broken_by_curve(b, y, knots, o, &ours, expected.rounds), None);
+    let comparable = o.is_the_crates() && matches!(ours.reply & 255, 0 | 1 | 2 | 10 | 11);
+    if counted(t, input.call, &expected, comparable) {
         hold("the crate", &input, crates::spline_inverse(b, y, knots, o).map(f64::to_bits), parameter(&ours));
-        if is_default(o.limit, o.precision) {
+        if is_default(o) {
             let theirs = crates::spline_inverse_default(b, y, knots, o.check).map(f64::to_bits);
             hold("the crate by default", &input, theirs, parameter(&ours));
         }
     }
-    if is_default(o.limit, o.precision) {
+    if is_default(o) {
         hold("the call with options", &input, ours, port::spline_inverse_default(b as u8, y, knots, o.check));
     }
 }
 
 pub fn spline_inverse_segment(t: &mut Tally, b: usize, y: f64, cv: &[f64], o: &Options) {
-    let input = Input { call: Call::SplineInverseSegment, bases: &[b], at: y, knots: cv, more: o };
+    let input = Input { call: Call::segment_inversion(o), bases: &[b], at: y, knots: cv, more: o };
     let expected = model::spline_inverse_segment(b, y, cv, o);
-    let ours = port::spline_inverse_segment(b as u8, y, cv, o.limit, o.precision);
+    let ours = port::spline_inverse_segment_with(b as u8, y, cv, o);
     hold("the model", &input, inverted(&expected), ours);
-    let comparable = matches!(ours.reply, 0 | 11);
-    if counted(t, Call::SplineInverseSegment, &expected, comparable) {
+    hold("a broken promise", &input, promised::broken_by_segment(b, y, cv, o, &ours, expected.rounds), None);
+    let comparable = o.is_the_crates() && matches!(ours.reply, 0 | 11);
+    if counted(t, input.call, &expected, comparable) {
         let theirs = crates::spline_inverse_segment(b, y, cv, o.limit, o.precision).map(f64::to_bits);
         hold("the crate", &input, theirs, parameter(&ours));
-        if is_default(o.limit, o.precision) {
+        if is_default(o) {
             let theirs = crates::spline_inverse_segment_default(b, y, cv).map(f64::to_bits);
             hold("the crate by default", &input, theirs, parameter(&ours));
         }
     }
-    if is_default(o.limit, o.precision) {
+    if is_default(o) {
         hold("the call with options", &input, ours, port::spline_inverse_segment_default(b as u8, y, cv));
     }
 }
 
 /// The buffer at exit: what was written, then what stood there.
-fn converted(answer: Result<&[f64], u8>, room: usize, tells_length: bool) -> Converted {
+pub fn converted(answer: Result<&[f64], Refused>, room: usize, tells_length: bool) -> Converted {
     let mut buffer: Vec<u64> = (0..room as u64 + 4).map(|i| UNTOUCHED + i).collect();
     let mut written = UNTOUCHED_WHOLE;
     if let Ok(out) = answer {
@@ -146,31 +152,31 @@ fn converted(answer: Result<&[f64], u8>, room: usize, tells_length: bool) -> Con
             written = out.len();
         }
     }
-    Converted { reply: answer.err().unwrap_or(0), written, buffer }
+    Converted { reply: answer.err().map_or(0, Refused::reply), written, buffer }
 }
 
 pub fn convert_spline(t: &mut Tally, from: usize, to: usize, knots: &[f64], room: usize) {
     let input = Input { call: Call::ConvertSpline, bases: &[from, to], at: 0.0, knots, more: &room };
     let ours = port::convert_spline(from as u8, to as u8, knots, room);
     let expected = model::convert_spline(from, to, knots, room);
-    hold("the model", &input, converted(expected.as_deref().map_err(|no| *no), room, true), ours.clone());
+    hold("the model", &input, converted(expected.as_deref().map_err(|why| *why), room, true), ours.clone());
     let sent = ours.reply == 0;
     if sent {
         let theirs = crates::convert_spline(from, to, knots);
         hold("the crate", &input, converted(Ok(&theirs), room, true), ours.clone());
     }
-    t.add(Call::ConvertSpline, ours.reply as usize, sent);
+    t.add(Call::ConvertSpline, of_reply(ours.reply), sent);
 }
 
 pub fn convert_segment(t: &mut Tally, from: usize, to: usize, cv: &[f64], room: usize) {
     let input = Input { call: Call::ConvertSegment, bases: &[from, to], at: 0.0, knots: cv, more: &room };
     let ours = port::convert_segment(from as u8, to as u8, cv, room);
     let expected = model::convert_segment(from, to, cv, room);
-    hold("the model", &input, converted(expected.as_deref().map_err(|no| *no), room, false), ours.clone());
+    hold("the model", &input, converted(expected.as_deref().map_err(|why| *why), room, false), ours.clone());
     let sent = ours.reply == 0;
     if sent {
         let theirs = crates::convert_segment(from, to, cv.try_into().unwrap());
         hold("the crate", &input, converted(Ok(&theirs), room, false), ours.clone());
     }
-    t.add(Call::ConvertSegment, ours.reply as usize, sent);
+    t.add(Call::ConvertSegment, of_reply(ours.reply), sent);
 }

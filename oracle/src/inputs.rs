@@ -200,11 +200,12 @@ pub fn target(r: &mut Rng, b: usize, knots: &[f64]) -> f64 {
     }
 }
 
+/// The crate's rule of the ends and its method; limit and precision of every kind.
 pub fn options(r: &mut Rng) -> Options {
-    let check = r.below(2) == 0;
+    let o = Options { check: r.below(2) == 0, ..Options::DEFAULT };
     match r.below(4) {
-        0 | 1 => Options { check, limit: 32, precision: 1e-10 },
-        2 => Options { check, limit: r.one_of(&LIMITS[..12]), precision: r.one_of(&PRECISIONS[..14]) },
-        _ => Options { check, limit: r.one_of(&LIMITS), precision: r.one_of(&PRECISIONS) },
+        0 | 1 => o,
+        2 => Options { limit: r.one_of(&LIMITS[..12]), precision: r.one_of(&PRECISIONS[..14]), ..o },
+        _ => Options { limit: r.one_of(&LIMITS), precision: r.one_of(&PRECISIONS), ..o },
     }
 }

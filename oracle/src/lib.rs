@@ -3,6 +3,8 @@ pub mod compare;
 pub mod crates;
 pub mod inputs;
 pub mod model;
+pub mod parts;
 pub mod port;
+pub mod promised;
 pub mod tally;
 pub mod wrapped;

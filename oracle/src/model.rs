@@ -3,6 +3,26 @@
 //! It answers what the port owes on every input, and says where a build of the crate with overflow checks
 //! panics or loops, so that such a call is not sent to it.
 
+/// A refusal: its number, and where it tells one, the place of the first knot or segment at fault.
+#[derive(Clone, Copy, Debug, PartialEq, Eq)]
+pub struct Refused {
+    pub no: u8,
+    pub place: usize,
+}
+
+impl Refused {
+    /// As the exports give it: the number alone.
+    pub fn reply(self) -> u32 {
+        u32::from(self.no)
+    }
+}
+
+impl From<u8> for Refused {
+    fn from(no: u8) -> Refused {
+        Refused { no, place: 0 }
+    }
+}
+
 pub const STEP: [usize; 6] = [1, 3, 1, 2, 1, 4];
 
 const LARGEST: f64 = 1_099_511_627_776.0;
@@ -50,10 +70,28 @@ pub struct Place {
 
 #[derive(Clone, Copy, Debug)]
 pub struct Inversion {
-    /// a place, or the refusal's number
-    pub answer: Result<Place, u8>,
+    pub answer: Result<Place, Refused>,
     pub count: usize,
+    /// how many of the evaluations were made by rounds
+    pub rounds: usize,
     pub fate: Fate,
+}
+
+/// What the end rule of a curve looks at: two of its knots, as the crate does, or the curve's own ends, evaluated.
+#[derive(Clone, Copy, Debug, PartialEq, Eq)]
+pub enum Ends {
+    Knots,
+    Curve,
+}
+
+/// How a round finds the next place in a segment.
+#[derive(Clone, Copy, Debug, PartialEq, Eq)]
+pub enum Method {
+    AsCrate,
+    /// the crate's rounds, but the distance to the target is halved, at the end that stayed
+    Taught,
+    /// that chord, and the midpoint wherever the bracket is wider than 16, halved with each round
+    Steady,
 }
 
 /// How a place between two others is found.
@@ -74,19 +112,32 @@ impl Lerp {
     }
 }
 
-/// The options of an inversion.
+/// The options of an inversion; `check` and `ends` are a curve's alone.
 #[derive(Clone, Copy, Debug)]
 pub struct Options {
     pub check: bool,
     pub limit: u16,
     pub precision: f64,
+    pub ends: Ends,
+    pub method: Method,
+}
+
+impl Options {
+    /// The crate's: no order check, 32 rounds, 1e-10.
+    pub const DEFAULT: Options =
+        Options { check: false, limit: 32, precision: 1e-10, ends: Ends::Knots, method: Method::AsCrate };
+
+    /// Whether the crate has this inversion.
+    pub fn is_the_crates(&self) -> bool {
+        self.ends == Ends::Knots && self.method == Method::AsCrate
+    }
 }
 
 pub fn is_len_ok(b: usize, n: usize) -> bool {
     n >= 4 && (n - 4) % STEP[b] == 0
 }
 
-fn curve_length(b: usize, n: usize) -> Result<usize, u8> {
+pub fn curve_length(b: usize, n: usize) -> Result<usize, u8> {
     if n < 4 {
         return Err(1);
     }
@@ -99,7 +150,7 @@ fn curve_length(b: usize, n: usize) -> Result<usize, u8> {
     Ok((n - 4) / STEP[b] + 1)
 }
 
-fn segment_length(n: usize) -> Result<(), u8> {
+pub fn segment_length(n: usize) -> Result<(), u8> {
     match n {
         0..=3 => Err(1),
         4 => Ok(()),
@@ -107,12 +158,10 @@ fn segment_length(n: usize) -> Result<(), u8> {
     }
 }
 
-fn knots_in_range(knots: &[f64]) -> Result<(), u8> {
-    // a NaN is at most nothing
-    if knots.iter().all(|k| k.abs() <= LARGEST) {
-        Ok(())
-    } else {
-        Err(4)
+pub fn knots_in_range(knots: &[f64]) -> Result<(), Refused> {
+    match knots.iter().position(|k| k.is_nan() || k.abs() > LARGEST) {
+        None => Ok(()),
+        Some(place) => Err(Refused { no: 4, place }),
     }
 }
 
@@ -120,24 +169,24 @@ fn row(m: &[f64; 4], cv: &[f64]) -> f64 {
     ((cv[0] * m[0] + cv[1] * m[1]) + cv[2] * m[2]) + cv[3] * m[3]
 }
 
-fn value(b: usize, t: f64, cv: &[f64]) -> f64 {
+pub fn value(b: usize, t: f64, cv: &[f64]) -> f64 {
     let m = &MATRIX[b];
     ((row(&m[0], cv) * t + row(&m[1], cv)) * t + row(&m[2], cv)) * t + row(&m[3], cv)
 }
 
-pub fn spline_segment(b: usize, x: f64, cv: &[f64]) -> Result<f64, u8> {
+pub fn spline_segment(b: usize, x: f64, cv: &[f64]) -> Result<f64, Refused> {
     segment_length(cv.len())?;
     if !(0.0..=1.0).contains(&x) {
-        return Err(5);
+        return Err(5.into());
     }
     knots_in_range(cv)?;
     Ok(value(b, x, cv))
 }
 
-pub fn spline(b: usize, x: f64, knots: &[f64]) -> Result<f64, u8> {
+pub fn spline(b: usize, x: f64, knots: &[f64]) -> Result<f64, Refused> {
     let k = curve_length(b, knots.len())?;
     if x.is_nan() {
-        return Err(5);
+        return Err(5.into());
     }
     knots_in_range(knots)?;
     let clamped = if x < 0.0 {
@@ -152,65 +201,132 @@ pub fn spline(b: usize, x: f64, knots: &[f64]) -> Result<f64, u8> {
     Ok(value(b, scaled - s as f64, &knots[s * STEP[b]..]))
 }
 
-/// One segment, past the refusals of its arguments; the evaluations are added to `count`.
-fn invert(lerp: Lerp, b: usize, y: f64, cv: &[f64], o: &Options, count: &mut usize) -> (Option<Place>, Fate) {
-    let at = |t: f64, count: &mut usize| {
-        *count += 1;
-        value(b, t, cv)
-    };
-    let place = |ground, local, lower, upper| Some(Place { parameter: local, ground, segment: 0, local, lower, upper });
-    let (mut v0, mut v1) = (at(0.0, count), at(1.0, count));
-    let rising = v0 < v1;
-    let (least, most) = if rising { (v0, v1) } else { (v1, v0) };
-    if y < least || y > most {
-        return (None, Fate::Answers);
-    }
-    if (y - v0).abs() < 2.0 * o.precision {
-        return (place(Ground::Edge, 0.0, 0.0, 1.0), Fate::Answers);
-    }
-    if (y - v1).abs() < 2.0 * o.precision {
-        return (place(Ground::Edge, 1.0, 0.0, 1.0), Fate::Answers);
-    }
-    let limit = o.limit as u64;
-    let mut fate = if 3 * limit > 65_535 { Fate::LimitOverflows } else { Fate::Answers };
-    let (mut lower, mut upper) = (0.0_f64, 1.0_f64);
-    let (mut moved_lower, mut repeats): (Option<bool>, u64) = (None, 0);
-    for round in 0..limit {
-        let width = (upper - lower).abs();
-        if width < o.precision.max(width * 1e-12) {
-            return (place(Ground::Width, lerp.at(lower, upper, 0.5), lower, upper), fate);
+/// Evaluations made, and how many of them by rounds.
+#[derive(Clone, Copy, Default)]
+struct Made {
+    count: usize,
+    rounds: usize,
+}
+
+/// A bracket with its two weighed values, the end that moved last, and how often it did so again.
+struct Bracket {
+    lower: f64,
+    upper: f64,
+    v0: f64,
+    v1: f64,
+    moved_lower: Option<bool>,
+    repeats: u64,
+}
+
+impl Bracket {
+    /// What a method does to the weighed values before a chord, where a side was repeated.
+    fn weigh(&mut self, method: Method, y: f64) {
+        if self.repeats == 0 {
+            return;
         }
+        let lower_moved = self.moved_lower == Some(true);
+        match (method, lower_moved) {
+            (Method::AsCrate, true) => self.v0 *= 0.5,
+            (Method::AsCrate, false) => self.v1 *= 0.5,
+            (_, true) => self.v1 = y + (self.v1 - y) * 0.5,
+            (_, false) => self.v0 = y + (self.v0 - y) * 0.5,
+        }
+    }
+
+    fn chord(&self, y: f64) -> f64 {
+        (y - self.v0) / (self.v1 - self.v0)
+    }
+
+    /// The next place by the crate's rule, with either weighting.
+    fn by_fraction(&mut self, lerp: Lerp, method: Method, y: f64, early: bool) -> f64 {
         let mut fraction = 0.5;
-        if round < 3 * limit / 4 && repeats < 3 {
-            if repeats > 0 {
-                match moved_lower {
-                    Some(true) => v0 *= 0.5,
-                    _ => v1 *= 0.5,
-                }
-            }
-            let falsi = (y - v0) / (v1 - v0);
+        if early && self.repeats < 3 {
+            self.weigh(method, y);
+            let falsi = self.chord(y);
             if 0.01 < falsi && falsi < 0.99 {
                 fraction = falsi;
             }
         }
-        let x = lerp.at(lower, upper, fraction);
-        let v = at(x, count);
-        let lower_moves = (v < y) == rising;
-        if lower_moves {
-            (lower, v0) = (x, v);
-        } else {
-            (upper, v1) = (x, v);
+        lerp.at(self.lower, self.upper, fraction)
+    }
+
+    /// The next place by the steady rule.
+    fn by_pace(&mut self, lerp: Lerp, y: f64, allowed: f64) -> f64 {
+        let middle = lerp.at(self.lower, self.upper, 0.5);
+        if self.upper - self.lower > allowed {
+            return middle;
         }
-        repeats = if moved_lower == Some(lower_moves) { repeats + 1 } else { 0 };
-        moved_lower = Some(lower_moves);
-        if repeats > 255 && fate == Fate::Answers {
+        self.weigh(Method::Steady, y);
+        let x = lerp.at(self.lower, self.upper, self.chord(y));
+        if self.lower < x && x < self.upper {
+            x
+        } else {
+            middle
+        }
+    }
+
+    fn advance(&mut self, x: f64, v: f64, lower: bool) {
+        if lower {
+            (self.lower, self.v0) = (x, v);
+        } else {
+            (self.upper, self.v1) = (x, v);
+        }
+        self.repeats = if self.moved_lower == Some(lower) { self.repeats + 1 } else { 0 };
+        self.moved_lower = Some(lower);
+    }
+}
+
+/// What trying a segment comes to: its ends do not enclose the target, and the value of its start; or a place.
+enum Tried {
+    Outside(f64),
+    Inside(Place, Fate),
+}
+
+/// One segment, past the refusals of its arguments: its two ends are evaluated, once, and it is entered where they
+/// enclose the target.
+fn enter(lerp: Lerp, b: usize, y: f64, cv: &[f64], o: &Options, made: &mut Made) -> Tried {
+    let place = |ground, local, lower, upper| Place { parameter: local, ground, segment: 0, local, lower, upper };
+    made.count += 2;
+    let (v0, v1) = (value(b, 0.0, cv), value(b, 1.0, cv));
+    let rising = v0 < v1;
+    let (least, most) = if rising { (v0, v1) } else { (v1, v0) };
+    if y < least || y > most {
+        return Tried::Outside(v0);
+    }
+    if (y - v0).abs() < 2.0 * o.precision {
+        return Tried::Inside(place(Ground::Edge, 0.0, 0.0, 1.0), Fate::Answers);
+    }
+    if (y - v1).abs() < 2.0 * o.precision {
+        return Tried::Inside(place(Ground::Edge, 1.0, 0.0, 1.0), Fate::Answers);
+    }
+    let limit = o.limit as u64;
+    let mut fate = if 3 * limit > 65_535 { Fate::LimitOverflows } else { Fate::Answers };
+    let mut bracket = Bracket { lower: 0.0, upper: 1.0, v0, v1, moved_lower: None, repeats: 0 };
+    let mut allowed = 16.0;
+    for round in 0..limit {
+        let (lower, upper) = (bracket.lower, bracket.upper);
+        let width = (upper - lower).abs();
+        if width < o.precision.max(width * 1e-12) {
+            return Tried::Inside(place(Ground::Width, lerp.at(lower, upper, 0.5), lower, upper), fate);
+        }
+        let x = match o.method {
+            Method::Steady => bracket.by_pace(lerp, y, allowed),
+            method => bracket.by_fraction(lerp, method, y, round < 3 * limit / 4),
+        };
+        allowed *= 0.5;
+        let v = value(b, x, cv);
+        made.count += 1;
+        made.rounds += 1;
+        bracket.advance(x, v, (v < y) == rising);
+        if bracket.repeats > 255 && fate == Fate::Answers {
             fate = Fate::SideOverflows;
         }
         if (v - y).abs() < o.precision {
-            return (place(Ground::Value, x, lower, upper), fate);
+            return Tried::Inside(place(Ground::Value, x, bracket.lower, bracket.upper), fate);
         }
     }
-    (place(Ground::Spent, lerp.at(lower, upper, 0.5), lower, upper), fate)
+    let Bracket { lower, upper, .. } = bracket;
+    Tried::Inside(place(Ground::Spent, lerp.at(lower, upper, 0.5), lower, upper), fate)
 }
 
 fn asked(y: f64, o: &Options) -> Result<(), u8> {
@@ -226,21 +342,44 @@ fn asked(y: f64, o: &Options) -> Result<(), u8> {
     Ok(())
 }
 
-fn refused(no: u8) -> Inversion {
-    Inversion { answer: Err(no), count: 0, fate: Fate::Answers }
+fn refused(why: Refused) -> Inversion {
+    Inversion { answer: Err(why), count: 0, rounds: 0, fate: Fate::Answers }
+}
+
+fn segment_rows(y: f64, cv: &[f64], o: &Options) -> Result<(), Refused> {
+    segment_length(cv.len())?;
+    asked(y, o)?;
+    knots_in_range(cv)
 }
 
 pub fn spline_inverse_segment(b: usize, y: f64, cv: &[f64], o: &Options) -> Inversion {
-    if let Err(no) = segment_length(cv.len()).and_then(|_| asked(y, o)).and_then(|_| knots_in_range(cv)) {
-        return refused(no);
+    if let Err(why) = segment_rows(y, cv, o) {
+        return refused(why);
     }
-    let mut count = 0;
-    let (place, fate) = invert(Lerp::FromLower, b, y, cv, o, &mut count);
-    Inversion { answer: place.ok_or(11), count, fate }
+    let mut made = Made::default();
+    let (answer, fate) = match enter(Lerp::FromLower, b, y, cv, o, &mut made) {
+        Tried::Outside(_) => (Err(11.into()), Fate::Answers),
+        Tried::Inside(place, fate) => (Ok(place), fate),
+    };
+    Inversion { answer, count: made.count, rounds: made.rounds, fate }
 }
 
-fn turns_back(knots: &[f64], rising: bool) -> bool {
-    knots[1..].windows(2).any(|p| if rising { p[0] > p[1] } else { p[0] < p[1] })
+/// The first knot, from knot 1 on, whose step to the next goes against the direction of knots 1 and n - 2.
+fn turns_back(knots: &[f64]) -> Option<usize> {
+    let n = knots.len();
+    let rising = knots[1] < knots[n - 2];
+    (1..n - 1).find(|&i| if rising { knots[i] > knots[i + 1] } else { knots[i] < knots[i + 1] })
+}
+
+/// The rows of a curve's inversion; the number of segments where none applies.
+fn curve_rows(b: usize, y: f64, knots: &[f64], o: &Options) -> Result<usize, Refused> {
+    let k = curve_length(b, knots.len())?;
+    asked(y, o)?;
+    knots_in_range(knots)?;
+    match turns_back(knots) {
+        Some(place) if o.check => Err(Refused { no: 10, place }),
+        _ => Ok(k),
+    }
 }
 
 pub fn spline_inverse(b: usize, y: f64, knots: &[f64], o: &Options) -> Inversion {
@@ -248,22 +387,25 @@ pub fn spline_inverse(b: usize, y: f64, knots: &[f64], o: &Options) -> Inversion
 }
 
 pub fn spline_inverse_by(lerp: Lerp, b: usize, y: f64, knots: &[f64], o: &Options) -> Inversion {
-    let k = match curve_length(b, knots.len()) {
+    let k = match curve_rows(b, y, knots, o) {
         Ok(k) => k,
-        Err(no) => return refused(no),
+        Err(why) => return refused(why),
     };
-    if let Err(no) = asked(y, o).and_then(|_| knots_in_range(knots)) {
-        return refused(no);
-    }
     let n = knots.len();
-    let rising = knots[1] < knots[n - 2];
-    if o.check && turns_back(knots, rising) {
-        return refused(10);
-    }
-    let (low, high) = if STEP[b] == 1 { (knots[1], knots[n - 2]) } else { (knots[0], knots[n - 1]) };
+    let mut made = Made::default();
+    let (rising, low, high) = match o.ends {
+        Ends::Knots if STEP[b] == 1 => (knots[1] < knots[n - 2], knots[1], knots[n - 2]),
+        Ends::Knots => (knots[1] < knots[n - 2], knots[0], knots[n - 1]),
+        Ends::Curve => {
+            let (start, end) = (value(b, 0.0, knots), value(b, 1.0, &knots[(k - 1) * STEP[b]..]));
+            made.count += 2;
+            (start < end, start, end)
+        }
+    };
     let end = |segment, at| Inversion {
         answer: Ok(Place { parameter: at, ground: Ground::End, segment, local: at, lower: at, upper: at }),
-        count: 0,
+        count: made.count,
+        rounds: 0,
         fate: Fate::Answers,
     };
     if if rising { y <= low } else { y >= low } {
@@ -272,18 +414,14 @@ pub fn spline_inverse_by(lerp: Lerp, b: usize, y: f64, knots: &[f64], o: &Option
     if if rising { y >= high } else { y <= high } {
         return end(k - 1, 1.0);
     }
-    search(lerp, b, y, knots, k, rising, o)
+    search(lerp, b, y, knots, k, rising, o, made)
 }
 
 /// The segments of a curve, past the end rule.
-fn search(lerp: Lerp, b: usize, y: f64, knots: &[f64], k: usize, rising: bool, o: &Options) -> Inversion {
-    let mut count = 0;
-    let cv = |s: usize| &knots[s * STEP[b]..s * STEP[b] + 4];
-    let encloses = |s: usize, count: &mut usize| {
-        *count += 2;
-        let (v0, v1) = (value(b, 0.0, cv(s)), value(b, 1.0, cv(s)));
-        (if v0 < v1 { v0 <= y && y <= v1 } else { v1 <= y && y <= v0 }, v0)
-    };
+#[allow(clippy::too_many_arguments)]
+fn search(lerp: Lerp, b: usize, y: f64, knots: &[f64], k: usize, rising: bool, o: &Options, made: Made) -> Inversion {
+    let mut made = made;
+    let mut tried = |s: usize| enter(lerp, b, y, &knots[s * STEP[b]..s * STEP[b] + 4], o, &mut made);
     let mut loops = false;
     let mut entered = None;
     let mut tries = 0..k;
@@ -291,11 +429,13 @@ fn search(lerp: Lerp, b: usize, y: f64, knots: &[f64], k: usize, rising: bool, o
         let (mut left, mut right) = (0, k - 1);
         while left <= right {
             let middle = (left + right) / 2;
-            let (inside, start) = encloses(middle, &mut count);
-            if inside {
-                entered = Some(middle);
-                break;
-            }
+            let start = match tried(middle) {
+                Tried::Inside(place, fate) => {
+                    entered = Some((middle, place, fate));
+                    break;
+                }
+                Tried::Outside(start) => start,
+            };
             if if rising { y < start } else { y > start } {
                 if middle == 0 {
                     (left, right, loops) = (0, 0, true);
@@ -309,19 +449,19 @@ fn search(lerp: Lerp, b: usize, y: f64, knots: &[f64], k: usize, rising: bool, o
         tries = left.saturating_sub(1)..(right + 2).min(k);
     }
     if entered.is_none() {
-        entered = tries.into_iter().find(|&s| encloses(s, &mut count).0);
+        entered = tries.into_iter().find_map(|s| match tried(s) {
+            Tried::Inside(place, fate) => Some((s, place, fate)),
+            Tried::Outside(_) => None,
+        });
     }
-    let fate_of = |fate| if loops { Fate::Loops } else { fate };
-    let Some(s) = entered else {
-        return Inversion { answer: Err(11), count, fate: fate_of(Fate::Answers) };
+    let (answer, fate) = match entered {
+        None => (Err(11.into()), Fate::Answers),
+        Some((s, place, fate)) => {
+            let parameter = (s as f64 + place.local) * (1.0 / k as f64);
+            (Ok(Place { parameter, segment: s, ..place }), fate)
+        }
     };
-    let (place, fate) = invert(lerp, b, y, cv(s), o, &mut count);
-    let answer = place.ok_or(11).map(|p| Place {
-        parameter: (s as f64 + p.local) * (1.0 / k as f64),
-        segment: s,
-        ..p
-    });
-    Inversion { answer, count, fate: fate_of(fate) }
+    Inversion { answer, count: made.count, rounds: made.rounds, fate: if loops { Fate::Loops } else { fate } }
 }
 
 /// The conversion's matrix: the output's, inverted by elimination, times the input's.
@@ -364,23 +504,23 @@ fn converted(from: usize, to: usize, knots: &[f64], k: usize) -> Vec<f64> {
     out
 }
 
-fn output(to: usize, knots: &[f64], needed: usize, room: usize) -> Result<(), u8> {
+fn output(to: usize, knots: &[f64], needed: usize, room: usize) -> Result<(), Refused> {
     if to == 4 {
-        return Err(8);
+        return Err(8.into());
     }
     if room < needed {
-        return Err(9);
+        return Err(9.into());
     }
     knots_in_range(knots)
 }
 
-pub fn convert_segment(from: usize, to: usize, cv: &[f64], room: usize) -> Result<Vec<f64>, u8> {
+pub fn convert_segment(from: usize, to: usize, cv: &[f64], room: usize) -> Result<Vec<f64>, Refused> {
     segment_length(cv.len())?;
     output(to, cv, 4, room)?;
     Ok(converted(from, to, cv, 1))
 }
 
-pub fn convert_spline(from: usize, to: usize, knots: &[f64], room: usize) -> Result<Vec<f64>, u8> {
+pub fn convert_spline(from: usize, to: usize, knots: &[f64], room: usize) -> Result<Vec<f64>, Refused> {
     let k = curve_length(from, knots.len())?;
     output(to, knots, 4 + (k - 1) * STEP[to], room)?;
     Ok(converted(from, to, knots, k))

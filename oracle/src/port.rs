@@ -8,6 +8,11 @@ use crate::model::Options;
 pub const UNTOUCHED: u64 = 0x7FF8_DEAD_BEEF_0001;
 pub const UNTOUCHED_WHOLE: usize = 0xDEAD_BEEF;
 
+/// A reply in the width that the comparison has.
+fn told(reply: impl Into<u32>) -> u32 {
+    reply.into()
+}
+
 fn untouched() -> f64 {
     f64::from_bits(UNTOUCHED)
 }
@@ -15,14 +20,14 @@ fn untouched() -> f64 {
 /// A reply and a value's bits.
 #[derive(Clone, Copy, Debug, PartialEq, Eq)]
 pub struct Valued {
-    pub reply: u8,
+    pub reply: u32,
     pub value: u64,
 }
 
 /// A reply; the bits of parameter, local place, lower and upper end; ground, segment and count.
 #[derive(Clone, Copy, Debug, PartialEq, Eq)]
 pub struct Inverted {
-    pub reply: u8,
+    pub reply: u32,
     pub place: [u64; 4],
     pub whole: [usize; 3],
 }
@@ -30,7 +35,7 @@ pub struct Inverted {
 /// A reply, the length written, and the bits of the whole buffer.
 #[derive(Clone, Debug, PartialEq, Eq)]
 pub struct Converted {
-    pub reply: u8,
+    pub reply: u32,
     pub written: usize,
     pub buffer: Vec<u64>,
 }
@@ -41,50 +46,52 @@ pub fn is_len_ok(b: u8, n: usize) -> u8 {
 
 pub fn spline(b: u8, x: f64, knots: &[f64]) -> Valued {
     let mut value = untouched();
-    let reply = unsafe { raw::simmerstoat_spline(b, x, knots.as_ptr(), knots.len(), &mut value) };
+    let reply = unsafe { told(raw::simmerstoat_spline(b, x, knots.as_ptr(), knots.len(), &mut value)) };
     Valued { reply, value: value.to_bits() }
 }
 
 pub fn spline_segment(b: u8, x: f64, cv: &[f64]) -> Valued {
     let mut value = untouched();
-    let reply = unsafe { raw::simmerstoat_spline_segment(b, x, cv.as_ptr(), cv.len(), &mut value) };
+    let reply = unsafe { told(raw::simmerstoat_spline_segment(b, x, cv.as_ptr(), cv.len(), &mut value)) };
     Valued { reply, value: value.to_bits() }
 }
 
-fn inverted(call: impl FnOnce(&mut [f64; 4], &mut [usize; 3]) -> u8) -> Inverted {
+fn inverted(call: impl FnOnce(&mut [f64; 4], &mut [usize; 3]) -> u32) -> Inverted {
     let (mut place, mut whole) = ([untouched(); 4], [UNTOUCHED_WHOLE; 3]);
     let reply = call(&mut place, &mut whole);
     Inverted { reply, place: place.map(f64::to_bits), whole }
 }
 
-pub fn spline_inverse(b: u8, y: f64, knots: &[f64], o: &Options) -> Inverted {
+/// By the crate's rule of the ends and its method.
+pub fn spline_inverse_with(b: u8, y: f64, knots: &[f64], o: &Options) -> Inverted {
     inverted(|place, whole| unsafe {
         let (at, n) = (knots.as_ptr(), knots.len());
-        raw::simmerstoat_spline_inverse_with(b, y, at, n, o.check, o.limit, o.precision, place, whole)
+        told(raw::simmerstoat_spline_inverse_with(b, y, at, n, o.check, o.limit, o.precision, place, whole))
     })
 }
 
 pub fn spline_inverse_default(b: u8, y: f64, knots: &[f64], check: bool) -> Inverted {
     inverted(|place, whole| unsafe {
-        raw::simmerstoat_spline_inverse(b, y, knots.as_ptr(), knots.len(), check, place, whole)
+        told(raw::simmerstoat_spline_inverse(b, y, knots.as_ptr(), knots.len(), check, place, whole))
     })
 }
 
-pub fn spline_inverse_segment(b: u8, y: f64, cv: &[f64], limit: u16, precision: f64) -> Inverted {
+/// By the crate's method.
+pub fn spline_inverse_segment_with(b: u8, y: f64, cv: &[f64], o: &Options) -> Inverted {
     inverted(|place, whole| unsafe {
         let (at, n) = (cv.as_ptr(), cv.len());
-        raw::simmerstoat_spline_inverse_segment_with(b, y, at, n, limit, precision, place, whole)
+        told(raw::simmerstoat_spline_inverse_segment_with(b, y, at, n, o.limit, o.precision, place, whole))
     })
 }
 
 pub fn spline_inverse_segment_default(b: u8, y: f64, cv: &[f64]) -> Inverted {
     inverted(|place, whole| unsafe {
-        raw::simmerstoat_spline_inverse_segment(b, y, cv.as_ptr(), cv.len(), place, whole)
+        told(raw::simmerstoat_spline_inverse_segment(b, y, cv.as_ptr(), cv.len(), place, whole))
     })
 }
 
 /// A buffer of `room` places, and further ones behind it that no call may touch.
-fn converted(room: usize, call: impl FnOnce(&mut [f64], &mut usize) -> u8) -> Converted {
+fn converted(room: usize, call: impl FnOnce(&mut [f64], &mut usize) -> u32) -> Converted {
     let mut buffer: Vec<f64> = (0..room as u64 + 4).map(|i| f64::from_bits(UNTOUCHED + i)).collect();
     let mut written = UNTOUCHED_WHOLE;
     let reply = call(&mut buffer[..room], &mut written);
@@ -93,12 +100,12 @@ fn converted(room: usize, call: impl FnOnce(&mut [f64], &mut usize) -> u8) -> Co
 
 pub fn convert_segment(from: u8, to: u8, cv: &[f64], room: usize) -> Converted {
     converted(room, |out, _| unsafe {
-        raw::simmerstoat_convert_segment(from, to, cv.as_ptr(), cv.len(), out.as_mut_ptr(), out.len())
+        told(raw::simmerstoat_convert_segment(from, to, cv.as_ptr(), cv.len(), out.as_mut_ptr(), out.len()))
     })
 }
 
 pub fn convert_spline(from: u8, to: u8, knots: &[f64], room: usize) -> Converted {
     converted(room, |out, written| unsafe {
-        raw::simmerstoat_convert_spline(from, to, knots.as_ptr(), knots.len(), out.as_mut_ptr(), out.len(), written)
+        told(raw::simmerstoat_convert_spline(from, to, knots.as_ptr(), knots.len(), out.as_mut_ptr(), out.len(), written))
     })
 }

@@ -2,61 +2,106 @@
 
 use std::fmt;
 
-use crate::model::{Fate, Ground};
+use crate::model::{Ends, Fate, Ground, Method, Options};
 
-#[derive(Clone, Copy, Debug)]
-pub enum Call {
-    IsLenOk,
-    Spline,
-    SplineSegment,
-    SplineInverse,
-    SplineInverseSegment,
-    ConvertSpline,
-    ConvertSegment,
+/// The calls by name, in the order of the printed table.
+macro_rules! calls {
+    ($($call:ident $name:literal,)*) => {
+        #[derive(Clone, Copy, Debug)]
+        pub enum Call { $($call),* }
+
+        const CALLS: &[&str] = &[$($name),*];
+    };
 }
 
-const CALLS: [&str; 7] = [
-    "is_len_ok",
-    "spline",
-    "spline_segment",
-    "spline_inverse",
-    "spline_inverse_segment",
-    "convert_spline",
-    "convert_segment",
-];
+calls! {
+    IsLenOk "is_len_ok",
+    Spline "spline",
+    SplineSegment "spline_segment",
+    SplineInverse "spline_inverse",
+    SplineInverseTaught "spline_inverse, taught",
+    SplineInverseSteady "spline_inverse, steady",
+    CurveEnds "spline_inverse, curve's ends",
+    CurveEndsTaught "spline_inverse, curve's ends, taught",
+    CurveEndsSteady "spline_inverse, curve's ends, steady",
+    SplineInverseSegment "spline_inverse_segment",
+    SegmentTaught "spline_inverse_segment, taught",
+    SegmentSteady "spline_inverse_segment, steady",
+    ConvertSpline "convert_spline",
+    ConvertSegment "convert_segment",
+}
 
-/// An answer's column: 0 is plain, 1 to 11 the refusals, then the grounds, and a number that is no basis.
+impl Call {
+    pub fn curve_inversion(o: &Options) -> Call {
+        match (o.ends, o.method) {
+            (Ends::Knots, Method::AsCrate) => Call::SplineInverse,
+            (Ends::Knots, Method::Taught) => Call::SplineInverseTaught,
+            (Ends::Knots, Method::Steady) => Call::SplineInverseSteady,
+            (Ends::Curve, Method::AsCrate) => Call::CurveEnds,
+            (Ends::Curve, Method::Taught) => Call::CurveEndsTaught,
+            (Ends::Curve, Method::Steady) => Call::CurveEndsSteady,
+        }
+    }
+
+    pub fn segment_inversion(o: &Options) -> Call {
+        match o.method {
+            Method::AsCrate => Call::SplineInverseSegment,
+            Method::Taught => Call::SegmentTaught,
+            Method::Steady => Call::SegmentSteady,
+        }
+    }
+}
+
+/// An answer's column: 0 is plain, 1 to 20 the refusals, then the grounds, a number that stands for nothing, and
+/// the checker's two words.
 pub type Answer = usize;
 
 pub const PLAIN: Answer = 0;
-pub const NO_BASIS: Answer = 17;
-const ANSWERS: usize = 18;
+pub const NO_NUMBER: Answer = 26;
+pub const HOLDS: Answer = 27;
+pub const DIFFERS: Answer = 28;
+const ANSWERS: usize = 29;
+
+/// The column of a reply's number.
+pub fn of_reply(reply: u32) -> Answer {
+    match reply & 255 {
+        255 => NO_NUMBER,
+        no => no as usize,
+    }
+}
 
 pub fn of_ground(g: Ground) -> Answer {
-    12 + g as usize
+    21 + g as usize
 }
 
 fn name(a: Answer) -> String {
     match a {
         PLAIN => "answered".into(),
-        1..=11 => format!("refused {a}"),
-        12 => "end".into(),
-        13 => "edge".into(),
-        14 => "value".into(),
-        15 => "width".into(),
-        16 => "spent".into(),
-        _ => "no basis".into(),
+        1..=20 => format!("refused {a}"),
+        21 => "end".into(),
+        22 => "edge".into(),
+        23 => "value".into(),
+        24 => "width".into(),
+        25 => "spent".into(),
+        HOLDS => "holds".into(),
+        DIFFERS => "differs".into(),
+        _ => "no such number".into(),
     }
 }
 
-#[derive(Default)]
 pub struct Tally {
     /// compared with the crate and the model; with the model alone
-    counts: [[[u64; 2]; ANSWERS]; 7],
+    counts: Vec<[[u64; 2]; ANSWERS]>,
     /// left out, since the crate would not answer; the port was compared with the model
     pub limit_overflows: u64,
     pub side_overflows: u64,
     pub loops: u64,
+}
+
+impl Default for Tally {
+    fn default() -> Tally {
+        Tally { counts: vec![[[0; 2]; ANSWERS]; CALLS.len()], limit_overflows: 0, side_overflows: 0, loops: 0 }
+    }
 }
 
 impl Tally {

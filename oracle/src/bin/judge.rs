@@ -6,8 +6,9 @@ use std::{env, process, thread};
 use judge::compare;
 use judge::inputs::{self, Rng, AWKWARD, LIMITS, PRECISIONS, SEGMENTS};
 use judge::model::{self, Options, STEP};
+use judge::parts::PARTS;
 use judge::port::{self, UNTOUCHED, UNTOUCHED_WHOLE};
-use judge::tally::{Call, Tally, NO_BASIS};
+use judge::tally::{Call, Tally, NO_NUMBER};
 
 /// How much is run: awkward doubles in the exhaustive part, rounds of the random part.
 #[derive(Clone, Copy)]
@@ -16,7 +17,7 @@ struct Size {
     rounds: usize,
 }
 
-const DEFAULTS: Options = Options { check: true, limit: 32, precision: 1e-10 };
+const CHECKED: Options = Options { check: true, ..Options::DEFAULT };
 
 fn main() {
     let word = env::args().nth(1).unwrap_or_default();
@@ -48,6 +49,7 @@ fn share(size: Size, worker: usize, workers: usize) -> Tally {
     if worker == 0 {
         lengths(&mut t);
         no_bases(&mut t);
+        PARTS.iter().for_each(|part| (part.once)(&mut t));
     }
     let mut all = Vec::new();
     for n in 0..4 {
@@ -94,13 +96,13 @@ fn short(t: &mut Tally, knots: &[f64], ats: &[f64], worker: usize, workers: usiz
         for (i, &at) in of(model::is_len_ok(b, knots.len())).iter().enumerate() {
             compare::spline(t, b, at, knots);
             let other = other_options((sum >> 20) as usize + i);
-            for o in [DEFAULTS, Options { check: false, ..DEFAULTS }, other] {
+            for o in [CHECKED, Options::DEFAULT, other] {
                 compare::spline_inverse(t, b, at, knots, &o);
             }
         }
         for (i, &at) in of(knots.len() == 4).iter().enumerate() {
             compare::spline_segment(t, b, at, knots);
-            compare::spline_inverse_segment(t, b, at, knots, &DEFAULTS);
+            compare::spline_inverse_segment(t, b, at, knots, &Options::DEFAULT);
             compare::spline_inverse_segment(t, b, at, knots, &other_options((sum >> 20) as usize + i));
         }
         for to in 0..6 {
@@ -109,6 +111,7 @@ fn short(t: &mut Tally, knots: &[f64], ats: &[f64], worker: usize, workers: usiz
             compare::convert_spline(t, b, to, knots, room);
             compare::convert_segment(t, b, to, knots, [4, 5, 3, 0][(sum >> 52) as usize % 4]);
         }
+        PARTS.iter().for_each(|part| (part.knots)(t, &mut Rng(sum), b, knots));
     }
 }
 
@@ -118,6 +121,7 @@ fn other_options(turn: usize) -> Options {
         check: turn % 2 == 0,
         limit: LIMITS[turn % LIMITS.len()],
         precision: PRECISIONS[turn / 2 % PRECISIONS.len()],
+        ..Options::DEFAULT
     }
 }
 
@@ -141,7 +145,7 @@ fn random(t: &mut Tally, r: &mut Rng, b: usize, k: usize) {
         compare::spline(t, b, x, &knots);
         let y = inputs::target(r, b, &knots);
         compare::spline_inverse(t, b, y, &knots, &inputs::options(r));
-        compare::spline_inverse(t, b, y, &knots, &Options { check: r.below(2) == 0, ..DEFAULTS });
+        compare::spline_inverse(t, b, y, &knots, &Options { check: r.below(2) == 0, ..Options::DEFAULT });
         let s = r.below(knots.len().max(1));
         let cv = &knots[s.min(knots.len())..(s + 4).min(knots.len())];
         let y = inputs::target(r, b, cv);
@@ -155,6 +159,8 @@ fn random(t: &mut Tally, r: &mut Rng, b: usize, k: usize) {
         let room = (needed + r.below(6)).saturating_sub(r.below(2));
         compare::convert_spline(t, b, to, &knots, room);
     }
+    let seed = r.next();
+    PARTS.iter().for_each(|part| (part.knots)(t, &mut Rng(seed), b, &knots));
 }
 
 fn lengths(t: &mut Tally) {
@@ -176,9 +182,9 @@ fn no_bases(t: &mut Tally) {
                 assert_eq!(port::spline(b, at, cv), valued);
                 assert_eq!(port::spline_segment(b, at, cv), valued);
                 for limit in [0, 32] {
-                    let o = Options { check: true, limit, precision: at };
-                    assert_eq!(port::spline_inverse(b, at, cv, &o), inverted);
-                    assert_eq!(port::spline_inverse_segment(b, at, cv, limit, at), inverted);
+                    let o = Options { limit, precision: at, ..CHECKED };
+                    assert_eq!(port::spline_inverse_with(b, at, cv, &o), inverted);
+                    assert_eq!(port::spline_inverse_segment_with(b, at, cv, &o), inverted);
                 }
                 assert_eq!(port::spline_inverse_default(b, at, cv, true), inverted);
                 assert_eq!(port::spline_inverse_segment_default(b, at, cv), inverted);
@@ -191,7 +197,7 @@ fn no_bases(t: &mut Tally) {
             }
         }
         assert_eq!(port::is_len_ok(b, 4), 255);
-        t.add(Call::IsLenOk, NO_BASIS, false);
+        t.add(Call::IsLenOk, NO_NUMBER, false);
         for (call, n) in [
             (Call::Spline, 6),
             (Call::SplineSegment, 6),
@@ -200,7 +206,7 @@ fn no_bases(t: &mut Tally) {
             (Call::ConvertSpline, 15),
             (Call::ConvertSegment, 15),
         ] {
-            (0..n).for_each(|_| t.add(call, NO_BASIS, false));
+            (0..n).for_each(|_| t.add(call, NO_NUMBER, false));
         }
     }
 }

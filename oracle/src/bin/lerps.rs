@@ -33,8 +33,7 @@ fn main() {
                 inputs::fill(&mut r, n, &mut knots);
                 for _ in 0..(40_000 / (n + 100)).max(16) {
                     let y = inputs::target(&mut r, b, &knots);
-                    let defaults = Options { check: false, limit: 32, precision: 1e-10 };
-                    compare(&mut rows, b, y, &knots, &defaults);
+                    compare(&mut rows, b, y, &knots, &Options::DEFAULT);
                     compare(&mut rows, b, y, &knots, &Options { check: false, ..inputs::options(&mut r) });
                 }
             }

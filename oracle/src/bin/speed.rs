@@ -138,7 +138,7 @@ fn passes(k: usize) -> usize {
 
 /// Targets that are found in some segment, and not by the end rule.
 fn targets(r: &mut Rng, b: usize, knots: &[f64], n: usize) -> Vec<f64> {
-    let o = Options { check: true, limit: 32, precision: 1e-10 };
+    let o = Options { check: true, ..Options::DEFAULT };
     let mut ys = Vec::new();
     while ys.len() < n {
         let s = r.below((knots.len() - 4) / STEP[b] + 1) * STEP[b];

@@ -48,7 +48,7 @@ fn curve(r: &mut Rng, b: usize, k: usize, knots: &[f64]) {
         let y = inputs::target(r, b, knots);
         let o = inputs::options(r);
         let expected = model::spline_inverse(b, y, knots, &o);
-        if expected.fate == Fate::Answers && matches!(expected.answer, Ok(_) | Err(1 | 2 | 10 | 11)) {
+        if expected.fate == Fate::Answers && expected.answer.map_or_else(|why| matches!(why.no, 1 | 2 | 10 | 11), |_| true) {
             let theirs = crates::spline_inverse(b, y, knots, &o);
             inversion('i', b, y, &o, theirs, &expected);
         }
@@ -69,7 +69,7 @@ fn segment(r: &mut Rng, b: usize, cv: &[f64]) {
     let y = inputs::target(r, b, cv);
     let o = inputs::options(r);
     let expected = model::spline_inverse_segment(b, y, cv, &o);
-    if expected.fate == Fate::Answers && matches!(expected.answer, Ok(_) | Err(11)) {
+    if expected.fate == Fate::Answers && expected.answer.map_or_else(|why| why.no == 11, |_| true) {
         let theirs = crates::spline_inverse_segment(b, y, cv, o.limit, o.precision);
         inversion('j', b, y, &o, theirs, &expected);
     }
@@ -86,7 +86,7 @@ fn inversion(letter: char, b: usize, y: f64, o: &Options, theirs: Option<f64>, e
             let wholes = [p.ground as u64, p.segment as u64, expected.count as u64];
             [[0].as_slice(), &places, &wholes].concat()
         }
-        (None, Err(no)) => vec![no as u64, 0, 0, 0, 0, 0, 0, expected.count as u64],
+        (None, Err(why)) => vec![why.reply() as u64, 0, 0, 0, 0, 0, 0, expected.count as u64],
         _ => panic!("the crate and the model differ: run the judge"),
     };
     words(letter, &[asked.as_slice(), &record].concat());
