@@ -73,26 +73,6 @@ fn lies_between(v: f64, y: f64, w: f64) -> bool {
     (v <= y && y <= w) || (w <= y && y <= v)
 }
 
-// The bound on evaluations: limit + 26 up to 12 segments, limit + 2b + 6 above, b being the bits of k.
-fn most(k: usize, limit: u16) -> u32
-    ensures { λ r. ⌜ r ≤ 70000 ⌝ }
-{
-    let l = limit as u32;
-    if k <= 12 {
-        return l + 26;
-    }
-    if k < 16 {
-        return l + 14;
-    }
-    if k < 128 {
-        return l + 20;
-    }
-    if k < 2048 {
-        return l + 28;
-    }
-    l + 30
-}
-
 fn places_kept(p: Place) -> bool {
     let parameter = 0.0 <= p.parameter && p.parameter <= 1.0;
     let bracket = 0.0 <= p.lower && p.upper <= 1.0;
@@ -160,7 +140,7 @@ fn judge_answer(a: Asked, y: f64, r: Inverted, bound: u32, knots: &[f64], tally:
 fn ask(a: Asked, y: f64, knots: &[f64], tally: &mut [u32; 9]) {
     let b = a.b;
     let r = inverse::spline_inverse_with(b, y, knots, a.check, a.limit, a.precision);
-    judge_answer(a, y, r, most(a.k, a.limit), knots, tally);
+    judge_answer(a, y, r, search::most_evaluations(a.k, a.limit), knots, tally);
     if knots.len() < 4 {
         return;
     }
