@@ -140,7 +140,14 @@ fn judge_answer(a: Asked, y: f64, r: Inverted, bound: u32, knots: &[f64], tally:
 fn ask(a: Asked, y: f64, knots: &[f64], tally: &mut [u32; 9]) {
     let b = a.b;
     let r = inverse::spline_inverse_with(b, y, knots, a.check, a.limit, a.precision);
-    judge_answer(a, y, r, search::most_evaluations(a.k, a.limit), knots, tally);
+    judge_answer(
+        a,
+        y,
+        r,
+        search::most_evaluations(a.k, a.limit),
+        knots,
+        tally,
+    );
     if knots.len() < 4 {
         return;
     }
