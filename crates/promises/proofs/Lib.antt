@@ -5,3 +5,4 @@ pub mod Exports
 pub mod Searching
 pub mod Spending
 pub mod Ending
+pub mod Exact

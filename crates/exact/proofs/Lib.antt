@@ -1,0 +1,4 @@
+mod Horner
+pub mod Segment
+pub mod Calls
+pub mod Bspline

@@ -1,0 +1,1 @@
+// Evaluation without rounding, on whole knots: definitions in specs/, theorems in proofs/.
