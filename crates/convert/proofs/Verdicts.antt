@@ -12,8 +12,8 @@ use lib.Ieee.{Float}
 use Rattle.error.specs.declared.Refusal.{Refusal}
 use Rattle.error.specs.declared.Verdict.{Verdict}
 use Rattle.error.specs.declared.Verdict.the-variants.{Passed, Failed}
-use Rattle.error.specs.Refusals.{first, rows}
-use Rattle.error.proofs.First.{stops, goes-on, passed}
+use Rattle.error.specs.Refusals.{first}
+use Rattle.error.proofs.First.{stops, goes-on, clear}
 use Rattle.basis.specs.declared.Basis.{Basis}
 use Rattle.basis.specs.Basis.{stepOf, isLinear}
 use Rattle.spline.specs.Rows.{curveLength, segmentLength, allInRange}
@@ -46,19 +46,17 @@ pub record Room (to : Basis) (ks : List Float) (need room : ℕ) : Type 0 where
 
 pub segment-passed : (to : Basis) (cv : List Float) (room : ℕ) → first (convertSegmentUses to cv room) ≡ Passed → (length cv ≡ 4) × Room to cv 4 room
 segment-passed to cv room e =
-    let p = passed rows (convertSegmentUses to cv room) e in
-    let q = p .1 .1 .1 .1 .1 .1 in
-    let least : 4 ≤ length cv = ltb-false (length cv) 4 (p .0) in
-    let most : length cv ≤ 4 = ltb-false 4 (length cv) (p .1 .0) in
-    (omega arith, record { invertible = q .0; enough = ltb-false room 4 (q .1 .0); in-range = not-false (allInRange cv) (q .1 .1 .0) })
+    let p = clear (convertSegmentUses to cv room) e in
+    let least : 4 ≤ length cv = ltb-false (length cv) 4 (p 1) in
+    let most : length cv ≤ 4 = ltb-false 4 (length cv) (p 2) in
+    (omega arith, record { invertible = p 8; enough = ltb-false room 4 (p 9); in-range = not-false (allInRange cv) (p 4) })
 
 pub spline-passed : (from to : Basis) (ks : List Float) (room : ℕ) → first (convertUses from to ks room) ≡ Passed → Length (length ks) × Room to ks (outputLength from to (length ks)) room
 spline-passed from to ks room e =
-    let p = passed rows (convertUses from to ks room) e in
-    let q = p .1 .1 .1 .1 .1 .1 in
+    let p = clear (convertUses from to ks room) e in
     let n = length ks in (
-      record { least = ltb-false n 4 (p .0); most = ltb-false 4096 n (p .1 .1 .0) },
-      record { invertible = q .0; enough = ltb-false room (outputLength from to n) (q .1 .0); in-range = not-false (allInRange ks) (q .1 .1 .0) },
+      record { least = ltb-false n 4 (p 1); most = ltb-false 4096 n (p 3) },
+      record { invertible = p 8; enough = ltb-false room (outputLength from to n) (p 9); in-range = not-false (allInRange ks) (p 4) },
     )
 
 -- ---- the output's length in steps

@@ -1,4 +1,4 @@
--- The first row that applies: rows tested in groups, and what a verdict says of each row. Assumes nothing.
+-- The first row that applies: rows tested in groups, and what a verdict says of each row, by its number wherever it stands. Assumes nothing.
 use mathlib.Core.Path.{_≡_, refl, sym, ap, _∙_, subst}
 use mathlib.Core.Bool.{Bool, true, false, cond}
 use mathlib.Core.List.{List, [], _∷_, _++_}
@@ -7,9 +7,10 @@ use native.Mathlib.Omega.{arith}
 use lib.Dec.{eqb}
 use borrow.Author.Tests.{eqb-true}
 use Rattle.error.specs.declared.Refusal.{Refusal}
+use Rattle.error.specs.declared.Refusal.the-variants.{TooFew, BadPattern, TooMany, BadSpan, NotANumber, BadPrecision, NoRounds, LinearOutput, BadAllowance, ShortBuffer, BadStep, NoSegment, BadKnot, TurnsBack, UnequalSegments, OffCurve, BadLine, BadSheet, NoComparison, LostSeam}
 use Rattle.error.specs.declared.Verdict.{Verdict}
 use Rattle.error.specs.declared.Verdict.the-variants.{Passed, Failed}
-use Rattle.error.specs.Refusals.{numberOf, Uses, applies, refusalBy, firstOf, first}
+use Rattle.error.specs.Refusals.{numberOf, rows, Uses, applies, refusalBy, firstOf, first}
 
 -- two cases of one type are never the same: `never (cc)`
 pub never : {A : Type 0} → _≡_ {A = ℕ} 0 1 → A
@@ -37,12 +38,21 @@ module _ (ms ns : List ℕ) (us : Uses) {l : Verdict} (e : l ≡ firstOf ms us) 
   pub goes-past : {w : Verdict} → l ≡ Passed → w ≡ firstOf ns us → w ≡ firstOf (ms ++ ns) us
   goes-past k h = h ∙ sym (graft ms ns us ∙ ap (λ (v : Verdict). andThen v (firstOf ns us)) (sym e ∙ k))
 
+-- the rows of a list up to the one with a number, and those after it
+abbrev pub through : ℕ → List ℕ → List ℕ
+through n [] = []
+through n (m ∷ ms) = cond (eqb n m) (m ∷ []) (m ∷ through n ms)
+
+abbrev pub after : ℕ → List ℕ → List ℕ
+after n [] = []
+after n (m ∷ ms) = cond (eqb n m) ms (after n ms)
+
 -- ---- a call that tests lengths first
 abbrev pub lengthRows : List ℕ
-lengthRows = 1 ∷ 2 ∷ 3 ∷ []
+lengthRows = through 3 rows
 
 abbrev pub otherRows : List ℕ
-otherRows = 5 ∷ 6 ∷ 7 ∷ 8 ∷ 9 ∷ 4 ∷ 10 ∷ 11 ∷ 12 ∷ []
+otherRows = after 3 rows
 
 pub stops : (us : Uses) {l : Verdict} {r : Refusal} → l ≡ firstOf lengthRows us → l ≡ Failed r → l ≡ first us
 stops us e k = stops-in lengthRows otherRows us e k
@@ -100,3 +110,55 @@ pub first-applies : (us : Uses) (ns : List ℕ) (r : Refusal) → First us ns r 
 first-applies us [] r f = elim f [ ]
 first-applies us (n ∷ ns) r (here p e) = let q : n ≡ numberOf r = sym (row-number n us p) ∙ ap numberOf e in subst (λ (m : ℕ). (applies m us ≡ true) × (refusalBy m us ≡ r)) q (p, e)
 first-applies us (n ∷ ns) r (there p f) = first-applies us ns r f
+
+-- ---- where no row applies, each by its number
+abbrev pub has : ℕ → List ℕ → Bool
+has n [] = false
+has n (m ∷ ms) = cond (eqb n m) true (has n ms)
+
+none-at : (ns : List ℕ) (us : Uses) → None ns us → (n : ℕ) → has n ns ≡ true → applies n us ≡ false
+none-at [] us k n e = never (cc)
+none-at (m ∷ ms) us k n e = go (eqb n m) refl e (none-at ms us (k .1) n)
+  where
+    go : (t : Bool) → eqb n m ≡ t → cond t true (has n ms) ≡ true → (has n ms ≡ true → applies n us ≡ false) → applies n us ≡ false
+    go true p h r = subst (λ (i : ℕ). applies i us ≡ false) (sym (eqb-true n m p)) (k .0)
+    go false p h r = r h
+
+-- each refusal has its row
+in-table : (r : Refusal) → has (numberOf r) rows ≡ true
+in-table TooFew = refl
+in-table BadPattern = refl
+in-table TooMany = refl
+in-table BadSpan = refl
+in-table NotANumber = refl
+in-table BadPrecision = refl
+in-table NoRounds = refl
+in-table LinearOutput = refl
+in-table BadAllowance = refl
+in-table ShortBuffer = refl
+in-table BadStep = refl
+in-table NoSegment = refl
+in-table (BadKnot i) = refl
+in-table (TurnsBack i) = refl
+in-table UnequalSegments = refl
+in-table OffCurve = refl
+in-table BadLine = refl
+in-table BadSheet = refl
+in-table NoComparison = refl
+in-table (LostSeam i) = refl
+
+-- a number without a row applies to no call
+none-else : (us : Uses) (n : ℕ) → has n rows ≡ false → applies n us ≡ false
+none-else [] n e = refl
+none-else (u ∷ us) n e = go (eqb n (numberOf (u .0))) refl (none-else us n e)
+  where
+    go : (t : Bool) → eqb n (numberOf (u .0)) ≡ t → applies n us ≡ false → cond t (u .1) (applies n us) ≡ false
+    go true p h = let q : has n rows ≡ true = subst (λ (i : ℕ). has i rows ≡ true) (sym (eqb-true n (numberOf (u .0)) p)) (in-table (u .0)) in never (cc)
+    go false p h = h
+
+pub clear : (us : Uses) → first us ≡ Passed → (n : ℕ) → applies n us ≡ false
+clear us e n = go (has n rows) refl
+  where
+    go : (t : Bool) → has n rows ≡ t → applies n us ≡ false
+    go true p = none-at rows us (passed rows us e) n p
+    go false p = none-else us n p

@@ -1,10 +1,10 @@
 -- Numbered replies: the table's rows, their numbers and their order. Definitions only.
 use mathlib.Core.Bool.{Bool, false, cond}
 use mathlib.Core.List.{List, [], _∷_}
-use Prim.Native.Nat.{ℕ}
+use Prim.Native.Nat.{ℕ, _+_, _*_}
 use lib.Dec.{eqb}
 use Rattle.error.specs.declared.Refusal.{Refusal}
-use Rattle.error.specs.declared.Refusal.the-variants.{TooFew, BadPattern, TooMany, NotANumber, BadPrecision, NoRounds, LinearOutput, ShortBuffer, BadKnot, TurnsBack, OffCurve, BadLine}
+use Rattle.error.specs.declared.Refusal.the-variants.{TooFew, BadPattern, TooMany, BadSpan, NotANumber, BadPrecision, NoRounds, LinearOutput, BadAllowance, ShortBuffer, BadStep, NoSegment, BadKnot, TurnsBack, UnequalSegments, OffCurve, BadLine, BadSheet, NoComparison, LostSeam}
 use Rattle.error.specs.declared.Verdict.{Verdict}
 use Rattle.error.specs.declared.Verdict.the-variants.{Passed, Failed}
 
@@ -13,34 +13,62 @@ abbrev pub numberOf : Refusal → ℕ
 numberOf TooFew = 1
 numberOf BadPattern = 2
 numberOf TooMany = 3
+numberOf BadSpan = 14
 numberOf NotANumber = 5
 numberOf BadPrecision = 6
 numberOf NoRounds = 7
 numberOf LinearOutput = 8
+numberOf BadAllowance = 17
 numberOf ShortBuffer = 9
+numberOf BadStep = 16
+numberOf NoSegment = 19
 numberOf (BadKnot i) = 4
 numberOf (TurnsBack i) = 10
+numberOf UnequalSegments = 18
 numberOf OffCurve = 11
 numberOf BadLine = 12
+numberOf BadSheet = 13
+numberOf NoComparison = 20
+numberOf (LostSeam i) = 15
 
--- the place that it tells besides: a knot's number, from 0; most tell none
+-- the place that it tells besides: a knot's or a segment's number, from 0; most tell none
 abbrev pub placesOf : Refusal → List ℕ
 placesOf TooFew = []
 placesOf BadPattern = []
 placesOf TooMany = []
+placesOf BadSpan = []
 placesOf NotANumber = []
 placesOf BadPrecision = []
 placesOf NoRounds = []
 placesOf LinearOutput = []
+placesOf BadAllowance = []
 placesOf ShortBuffer = []
+placesOf BadStep = []
+placesOf NoSegment = []
 placesOf (BadKnot i) = i ∷ []
 placesOf (TurnsBack i) = i ∷ []
+placesOf UnequalSegments = []
 placesOf OffCurve = []
 placesOf BadLine = []
+placesOf BadSheet = []
+placesOf NoComparison = []
+placesOf (LostSeam i) = i ∷ []
+
+-- 0 for those
+abbrev pub placeIn : List ℕ → ℕ
+placeIn [] = 0
+placeIn (i ∷ is) = i
+
+abbrev pub placeOf : Refusal → ℕ
+placeOf r = placeIn (placesOf r)
+
+-- both in one number: the place in 256s
+abbrev pub replyOf : Refusal → ℕ
+replyOf r = numberOf r + 256 * placeOf r
 
 -- the rows of the table by their numbers, in its order
 abbrev pub rows : List ℕ
-rows = 1 ∷ 2 ∷ 3 ∷ 5 ∷ 6 ∷ 7 ∷ 8 ∷ 9 ∷ 4 ∷ 10 ∷ 11 ∷ 12 ∷ []
+rows = 1 ∷ 2 ∷ 3 ∷ 14 ∷ 5 ∷ 6 ∷ 7 ∷ 8 ∷ 17 ∷ 9 ∷ 16 ∷ 19 ∷ 4 ∷ 10 ∷ 18 ∷ 11 ∷ 12 ∷ 13 ∷ 20 ∷ 15 ∷ []
 
 -- the refusals that a call has use for, in any order, each with whether its row applies
 abbrev pub Uses : Type 0

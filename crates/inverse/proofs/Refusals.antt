@@ -12,7 +12,7 @@ use Rattle.error.specs.declared.Refusal.{Refusal}
 use Rattle.error.specs.declared.Refusal.the-variants.{TurnsBack}
 use Rattle.error.specs.declared.Verdict.the-variants.{Failed}
 use Rattle.error.specs.Refusals.{Uses, rows, firstOf, first}
-use Rattle.error.proofs.First.{goes-past, None, none-pass, First, first-sound, first-complete, first-applies}
+use Rattle.error.proofs.First.{through, after, goes-past, None, none-pass, First, first-sound, first-complete, first-applies}
 use Rattle.basis.specs.declared.Basis.{Basis}
 use Rattle.basis.specs.Basis.{segmentsOf}
 use Rattle.doubles.proofs.Tests.{branch}
@@ -32,7 +32,7 @@ use Rattle.inverse.proofs.TurnsBack.{AgainstAt, turning-first, turns-ba
 
 -- every row before refusal 10
 abbrev pub earlier : List ℕ
-earlier = 1 ∷ 2 ∷ 3 ∷ 5 ∷ 6 ∷ 7 ∷ 8 ∷ 9 ∷ 4 ∷ []
+earlier = through 4 rows
 
 module _ (m : Mode) (how : Method) (b : Basis) (y : Float) (ks : List Float) (check : Bool) (limit : ℕ) (ε : Float) where
   abbrev uses : Uses
@@ -71,7 +71,7 @@ module _ (m : Mode) (how : Method) (b : Basis) (y : Float) (ks : List Float) (ch
   pub inverse-turns-back-where : None earlier (inverseUses b y ks check limit ε) → T check → (i : ℕ) → AgainstAt ks i → inverseBy m how b y ks check limit ε ≡ Refused (TurnsBack (turningKnot ks))
   unfolding inverseBy
   inverse-turns-back-where n c i a =
-      let later : List ℕ = 11 ∷ 12 ∷ [] in
+      let later : List ℕ = after 10 rows in
       let q : (check && turnsBack ks) ≡ true = rw (is-true check c, is-true (turnsBack ks) (turns-back-where ks i a)) in
       let s : firstOf (10 ∷ later) uses ≡ Failed (TurnsBack (turningKnot ks)) = simp q in
       let v : first uses ≡ Failed (TurnsBack (turningKnot ks)) = sym (goes-past earlier (10 ∷ later) uses (sym (none-pass earlier uses n)) refl (sym s)) in

@@ -11,8 +11,8 @@ use Rattle.error.specs.declared.Refusal.{Refusal}
 use Rattle.error.specs.declared.Refusal.the-variants.{BadKnot, TurnsBack}
 use Rattle.error.specs.declared.Verdict.{Verdict}
 use Rattle.error.specs.declared.Verdict.the-variants.{Passed, Failed}
-use Rattle.error.specs.Refusals.{Uses, rows, first}
-use Rattle.error.proofs.First.{stops-in, goes-past, stops, goes-on, passed}
+use Rattle.error.specs.Refusals.{Uses, first}
+use Rattle.error.proofs.First.{stops-in, goes-past, stops, goes-on, clear}
 use Rattle.basis.specs.declared.Basis.{Basis}
 use Rattle.basis.specs.Basis.{segmentsOf}
 use Rattle.doubles.proofs.Tests.{holds, fails}
@@ -103,13 +103,13 @@ pub record Admitted (b : Basis) (y : Float) (ks : List Float) (check : Bool) : T
 
 pub admitted : (b : Basis) (y : Float) (ks : List Float) (check : Bool) (limit : ℕ) (ε : Float) → first (inverseUses b y ks check limit ε) ≡ Passed → Admitted b y ks check
 admitted b y ks check limit ε e =
-    let p = passed rows (inverseUses b y ks check limit ε) e in
+    let p = clear (inverseUses b y ks check limit ε) e in
     record {
-      long = ltb-false (length ks) 4 (p .0);
-      short = ltb-false 4096 (length ks) (p .1 .1 .0);
-      number = p .1 .1 .1 .0;
-      in-range = not-false (allInRange ks) (p .1 .1 .1 .1 .1 .1 .1 .1 .0);
-      in-order = p .1 .1 .1 .1 .1 .1 .1 .1 .1 .0;
+      long = ltb-false (length ks) 4 (p 1);
+      short = ltb-false 4096 (length ks) (p 3);
+      number = p 5;
+      in-range = not-false (allInRange ks) (p 4);
+      in-order = p 10;
     }
 
 -- ---- the answer

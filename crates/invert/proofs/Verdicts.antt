@@ -12,8 +12,8 @@ use Rattle.error.specs.declared.Refusal.{Refusal}
 use Rattle.error.specs.declared.Refusal.the-variants.{BadKnot}
 use Rattle.error.specs.declared.Verdict.{Verdict}
 use Rattle.error.specs.declared.Verdict.the-variants.{Passed, Failed}
-use Rattle.error.specs.Refusals.{Uses, rows, first}
-use Rattle.error.proofs.First.{stops-in, goes-past, stops, goes-on, passed}
+use Rattle.error.specs.Refusals.{Uses, first}
+use Rattle.error.proofs.First.{through, after, otherRows, stops-in, goes-past, stops, goes-on, clear}
 use Rattle.basis.specs.declared.Basis.{Basis}
 use Rattle.basis.specs.Basis.{stepOf, matrixOf}
 use Rattle.spline.specs.declared.Weights.{Weights}
@@ -31,12 +31,12 @@ use Rattle.invert.specs.Shown.{tried}
 use Rattle.invert.proofs.Turns.{was-outside, was-inside}
 use Rattle.invert.specs.Answer.{answered, alone, inverted, precise, asked, inverseSegmentUses, inverseSegmentOf}
 
--- ---- the rows of the target, the precision and the limit, and those after them
+-- ---- the rows up to those of the target, the precision and the limit, and those after them
 abbrev pub askedRows : List ℕ
-askedRows = 5 ∷ 6 ∷ 7 ∷ []
+askedRows = through 7 otherRows
 
 abbrev pub lastRows : List ℕ
-lastRows = 8 ∷ 9 ∷ 4 ∷ 10 ∷ 11 ∷ 12 ∷ []
+lastRows = after 7 otherRows
 
 module _ (y : Float) (cv : List Float) (limit : ℕ) (ε : Float) {l : Verdict} (e : l ≡ first (segmentLength (length cv))) where
   abbrev uses : Uses
@@ -65,15 +65,15 @@ pub record Passes (y : Float) (cv : List Float) (limit : ℕ) (ε : Float) : Typ
 
 pub passes : (y : Float) (cv : List Float) (limit : ℕ) (ε : Float) → first (inverseSegmentUses y cv limit ε) ≡ Passed → Passes y cv limit ε
 passes y cv limit ε e =
-    let p = passed rows (inverseSegmentUses y cv limit ε) e in
-    let long : 4 ≤ length cv = ltb-false (length cv) 4 (p .0) in
-    let short : length cv ≤ 4 = ltb-false 4 (length cv) (p .1 .0) in
+    let p = clear (inverseSegmentUses y cv limit ε) e in
+    let long : 4 ≤ length cv = ltb-false (length cv) 4 (p 1) in
+    let short : length cv ≤ 4 = ltb-false 4 (length cv) (p 2) in
     record {
       four = omega arith;
-      number = p .1 .1 .1 .0;
-      precise-is = not-false (precise ε) (p .1 .1 .1 .1 .0);
-      some = eqb-false limit 0 (p .1 .1 .1 .1 .1 .0);
-      in-range = not-false (allInRange cv) (p .1 .1 .1 .1 .1 .1 .1 .1 .0);
+      number = p 5;
+      precise-is = not-false (precise ε) (p 6);
+      some = eqb-false limit 0 (p 7);
+      in-range = not-false (allInRange cv) (p 4);
     }
 
 -- ---- a refusal by a row

@@ -8,16 +8,16 @@ use lib.Ieee.{Float}
 use Rattle.basis.specs.declared.Basis.{Basis}
 use Rattle.spline.specs.declared.Evaluated.{Evaluated}
 use Rattle.spline.specs.declared.Evaluated.the-variants as E
-use Rattle.spline.specs.Evaluation.{evaluatedNumber, splineOf, splineSegmentOf}
+use Rattle.spline.specs.Evaluation.{splineOf, splineSegmentOf}
 use Rattle.invert.specs.declared.Inverted.{Inverted}
 use Rattle.invert.specs.declared.Inverted.the-variants as I
-use Rattle.invert.specs.Answer.{numberTold, inverseSegmentOf, defaultLimit, defaultPrecision}
+use Rattle.invert.specs.Answer.{inverseSegmentOf, defaultLimit, defaultPrecision}
 use Rattle.inverse.specs.Inverse.{inverseOf}
 use Rattle.convert.specs.Conversion.{Conversion, gives, refuses, convertedOf, convertedSegmentOf}
-use Rattle.convert.specs.Buffer.{convertedNumber, answerOf, bufferOf}
+use Rattle.convert.specs.Buffer.{answerOf, bufferOf}
 use Rattle.simmerstoat.specs.declared.Chosen.{Chosen}
 use Rattle.simmerstoat.specs.declared.Chosen.the-variants.{Known, Unknown}
-use Rattle.simmerstoat.specs.Replies.{chosenOf, noBasis, chosen, valueLeft, placeLeft, wholeLeft, lengthLeft}
+use Rattle.simmerstoat.specs.Replies.{chosenOf, noBasis, chosen, evaluatedReply, valueLeft, invertedReply, placeLeft, wholeLeft, convertedReply, lengthLeft}
 use Rattle.simmerstoat.proofs.simmerstoat_is_len_ok.Reads as is_len_ok
 use Rattle.simmerstoat.proofs.simmerstoat_spline.Reads as spline
 use Rattle.simmerstoat.proofs.simmerstoat_spline_segment.Reads as spline_segment
@@ -57,15 +57,15 @@ convert-segment-asks-nothing κs a = tt
 pub convert-spline-asks-nothing : AsksNothing convert_spline.Asked
 convert-spline-asks-nothing κs a = tt
 
--- ---- what is left where the number returned is not 0
+-- ---- what is left where the reply is not 0
 abbrev NotZero : ℕ → Type 0
 NotZero n = n ≡ 0 → ⊥
 
-value-kept : (c : Chosen) (f : Basis → Evaluated) (old : Float) → NotZero (chosen c noBasis (λ b. evaluatedNumber (f b))) → chosen c old (λ b. valueLeft (f b) old) ≡ old
+value-kept : (c : Chosen) (f : Basis → Evaluated) (old : Float) → NotZero (chosen c noBasis (λ b. evaluatedReply (f b))) → chosen c old (λ b. valueLeft (f b) old) ≡ old
 value-kept Unknown f old h = refl
 value-kept (Known b) f old h = go (f b) h
   where
-    go : (v : Evaluated) → NotZero (evaluatedNumber v) → valueLeft v old ≡ old
+    go : (v : Evaluated) → NotZero (evaluatedReply v) → valueLeft v old ≡ old
     go (E.Value x) h = absurd (h refl)
     go (E.Refused r) h = refl
 
@@ -78,20 +78,20 @@ spline-segment-writes-nothing κs a z e p h =
     p .1 ∙ value-kept (chosenOf (a .0)) (λ b. splineSegmentOf b (a .1 .0) (now (a .1 .1 .0))) (now (a .1 .1 .1 .0)) (λ w. h (p .0 ∙ w))
 
 -- of an inversion: the four doubles, and but for 11 the three whole numbers
-place-kept : (c : Chosen) (f : Basis → Inverted) (old : List Float) → NotZero (chosen c noBasis (λ b. numberTold (f b))) → chosen c old (λ b. placeLeft (f b) old) ≡ old
+place-kept : (c : Chosen) (f : Basis → Inverted) (old : List Float) → NotZero (chosen c noBasis (λ b. invertedReply (f b))) → chosen c old (λ b. placeLeft (f b) old) ≡ old
 place-kept Unknown f old h = refl
 place-kept (Known b) f old h = go (f b) h
   where
-    go : (i : Inverted) → NotZero (numberTold i) → placeLeft i old ≡ old
+    go : (i : Inverted) → NotZero (invertedReply i) → placeLeft i old ≡ old
     go (I.At p) h = absurd (h refl)
     go (I.OffCurve n) h = refl
     go (I.Refused r) h = refl
 
-whole-kept : (c : Chosen) (f : Basis → Inverted) (old : List ℕ) → NotZero (chosen c noBasis (λ b. numberTold (f b))) → (chosen c noBasis (λ b. numberTold (f b)) ≡ 11 → ⊥) → chosen c old (λ b. wholeLeft (f b) old) ≡ old
+whole-kept : (c : Chosen) (f : Basis → Inverted) (old : List ℕ) → NotZero (chosen c noBasis (λ b. invertedReply (f b))) → (chosen c noBasis (λ b. invertedReply (f b)) ≡ 11 → ⊥) → chosen c old (λ b. wholeLeft (f b) old) ≡ old
 whole-kept Unknown f old h g = refl
 whole-kept (Known b) f old h g = go (f b) h g
   where
-    go : (i : Inverted) → NotZero (numberTold i) → (numberTold i ≡ 11 → ⊥) → wholeLeft i old ≡ old
+    go : (i : Inverted) → NotZero (invertedReply i) → (invertedReply i ≡ 11 → ⊥) → wholeLeft i old ≡ old
     go (I.At p) h g = absurd (h refl)
     go (I.OffCurve n) h g = absurd (g refl)
     go (I.Refused r) h g = refl
@@ -122,22 +122,22 @@ spline-inverse-segment-with-writes-nothing κs a z e p h =
 
 -- of a conversion: the buffer, and the length
 out-kept : (f t : Chosen) (g : Basis → Basis → Conversion) (out : List Float)
-    → NotZero (chosen f noBasis (λ b. chosen t noBasis (λ c. convertedNumber (answerOf (g b c))))) → chosen f out (λ b. chosen t out (λ c. bufferOf (g b c) out)) ≡ out
+    → NotZero (chosen f noBasis (λ b. chosen t noBasis (λ c. convertedReply (answerOf (g b c))))) → chosen f out (λ b. chosen t out (λ c. bufferOf (g b c) out)) ≡ out
 out-kept Unknown t g out h = refl
 out-kept (Known b) Unknown g out h = refl
 out-kept (Known b) (Known c) g out h = go (g b c) h
   where
-    go : (x : Conversion) → NotZero (convertedNumber (answerOf x)) → bufferOf x out ≡ out
+    go : (x : Conversion) → NotZero (convertedReply (answerOf x)) → bufferOf x out ≡ out
     go (gives l) h = absurd (h refl)
     go (refuses r) h = refl
 
 length-kept : (f t : Chosen) (g : Basis → Basis → Conversion) (old : ℕ)
-    → NotZero (chosen f noBasis (λ b. chosen t noBasis (λ c. convertedNumber (answerOf (g b c))))) → chosen f old (λ b. chosen t old (λ c. lengthLeft (answerOf (g b c)) old)) ≡ old
+    → NotZero (chosen f noBasis (λ b. chosen t noBasis (λ c. convertedReply (answerOf (g b c))))) → chosen f old (λ b. chosen t old (λ c. lengthLeft (answerOf (g b c)) old)) ≡ old
 length-kept Unknown t g old h = refl
 length-kept (Known b) Unknown g old h = refl
 length-kept (Known b) (Known c) g old h = go (g b c) h
   where
-    go : (x : Conversion) → NotZero (convertedNumber (answerOf x)) → lengthLeft (answerOf x) old ≡ old
+    go : (x : Conversion) → NotZero (convertedReply (answerOf x)) → lengthLeft (answerOf x) old ≡ old
     go (gives l) h = absurd (h refl)
     go (refuses r) h = refl
 

@@ -40,6 +40,11 @@ fn up_to_64(n: u64) -> usize
     if n < 64 { n as usize } else { 64 }
 }
 
+// The number told is the one stored.
+fn told(reply: u32, stored: u64) -> bool {
+    (reply % 256) as u64 == stored
+}
+
 // v and s: basis, parameter, reply, value.
 fn value_equal(letter: u8, w: [u64; 64], knots: &[f64]) -> bool {
     let mut value = 0.0;
@@ -49,15 +54,15 @@ fn value_equal(letter: u8, w: [u64; 64], knots: &[f64]) -> bool {
     } else {
         simmerstoat::simmerstoat_spline_segment(byte(w[0]), x, knots, &mut value)
     };
-    if reply == byte(w[2]) {
+    if told(reply, w[2]) {
         return reply != 0 || text::to_bits(value) == w[3];
     }
     false
 }
 
 // What an inversion left: parameter, local place, lower and upper end, ground, segment, count; for refusal 11 the count.
-fn place_equal(reply: u8, place: [f64; 4], whole: [usize; 3], w: [u64; 64]) -> bool {
-    if reply != byte(w[5]) {
+fn place_equal(reply: u32, place: [f64; 4], whole: [usize; 3], w: [u64; 64]) -> bool {
+    if !told(reply, w[5]) {
         return false;
     }
     if reply == 11 {
@@ -119,8 +124,8 @@ fn same(n: usize, out: &[f64], w: &[u64]) -> bool {
 }
 
 // c and d: basis, output basis, reply, length, and what is written.
-fn output_equal(reply: u8, written: usize, out: &[f64], w: [u64; 64]) -> bool {
-    if reply != byte(w[2]) {
+fn output_equal(reply: u32, written: usize, out: &[f64], w: [u64; 64]) -> bool {
+    if !told(reply, w[2]) {
         return false;
     }
     if reply != 0 {

@@ -46,15 +46,23 @@ fn knot_of(r: Refusal) -> Where
         Refusal::TooFew => Where::Nowhere,
         Refusal::BadPattern => Where::Nowhere,
         Refusal::TooMany => Where::Nowhere,
+        Refusal::BadSpan => Where::Nowhere,
         Refusal::NotANumber => Where::Nowhere,
         Refusal::BadPrecision => Where::Nowhere,
         Refusal::NoRounds => Where::Nowhere,
         Refusal::LinearOutput => Where::Nowhere,
+        Refusal::BadAllowance => Where::Nowhere,
         Refusal::ShortBuffer => Where::Nowhere,
+        Refusal::BadStep => Where::Nowhere,
+        Refusal::NoSegment => Where::Nowhere,
         Refusal::BadKnot(i) => Where::Knot(i),
         Refusal::TurnsBack(i) => Where::Knot(i),
+        Refusal::UnequalSegments => Where::Nowhere,
         Refusal::OffCurve => Where::Nowhere,
         Refusal::BadLine => Where::Nowhere,
+        Refusal::BadSheet => Where::Nowhere,
+        Refusal::NoComparison => Where::Nowhere,
+        Refusal::LostSeam(i) => Where::Knot(i),
     }
 }
 

@@ -1,8 +1,10 @@
--- What a caller from C sees: bases by number, the returned number, and what stands behind each pointer when a call returns. Definitions only.
+-- What a caller from C sees: bases by number, the reply, and what stands behind each pointer when a call returns. Definitions only.
 use mathlib.Core.List.{List, [], _∷_, map}
 use Prim.Native.Nat.{ℕ}
 use lib.ListN.{getD, set}
 use lib.Ieee.{Float}
+use Rattle.error.specs.declared.Refusal.the-variants.{OffCurve as OffCurveRow}
+use Rattle.error.specs.Refusals.{replyOf}
 use Rattle.basis.specs.declared.Basis.{Basis}
 use Rattle.basis.specs.declared.Basis.the-variants.{Bspline, Bezier, CatmullRom, Hermite, Linear, Power}
 use Rattle.spline.specs.declared.Evaluated.{Evaluated}
@@ -32,7 +34,11 @@ abbrev pub chosen {ℓ} : {A : Type ℓ} → Chosen → A → (Basis → A) → 
 chosen (Known b) d f = f b
 chosen Unknown d f = d
 
--- ---- evaluation: 0 and the value, or the refusal's number and what stood there
+-- ---- evaluation: 0 and the value, or the refusal's reply and what stood there
+abbrev pub evaluatedReply : Evaluated → ℕ
+evaluatedReply (Value v) = 0
+evaluatedReply (Refused r) = replyOf r
+
 abbrev pub valueLeft : Evaluated → Float → Float
 valueLeft (Value v) old = v
 valueLeft (Refused r) old = old
@@ -45,6 +51,11 @@ groundNumber ByValue = 2
 groundNumber Width = 3
 groundNumber Spent = 4
 
+abbrev pub invertedReply : Inverted → ℕ
+invertedReply (At p) = 0
+invertedReply (OffCurve n) = replyOf OffCurveRow
+invertedReply (NotInverted r) = replyOf r
+
 abbrev pub placeLeft : Inverted → List Float → List Float
 placeLeft (At p) old = p .parameter ∷ p .local ∷ p .lower ∷ p .upper ∷ []
 placeLeft (OffCurve n) old = old
@@ -55,7 +66,11 @@ wholeLeft (At p) old = groundNumber (p .ground) ∷ p .segment ∷ p .count ∷ 
 wholeLeft (OffCurve n) old = set old 2 n
 wholeLeft (NotInverted r) old = old
 
--- ---- conversion: 0 and the length, or the refusal's number and what stood there
+-- ---- conversion: 0 and the length, or the refusal's reply and what stood there
+abbrev pub convertedReply : Converted → ℕ
+convertedReply (Written n) = 0
+convertedReply (NotConverted r) = replyOf r
+
 abbrev pub lengthLeft : Converted → ℕ → ℕ
 lengthLeft (Written n) old = n
 lengthLeft (NotConverted r) old = old

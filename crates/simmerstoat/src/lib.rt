@@ -1,14 +1,27 @@
-// What C and Rust call: every function of the library by a plain name, with a basis by its number.
+// What C and Rust call: every function of the library by a plain name, with a basis by its number. A reply is 0, or a refusal's number with
+// its place above the lowest eight bits.
 ghost use mathlib.Core.Path.{_≡_};
 ghost use mathlib.Core.Bool.{cond};
 ghost use lib.ListN.{length};
 ghost use Rattle.basis.specs.Basis.{lengthOk};
-ghost use Rattle.spline.specs.Evaluation.{evaluatedNumber, splineOf, splineSegmentOf};
-ghost use Rattle.invert.specs.Answer.{inverseSegmentOf, numberTold, defaultLimit, defaultPrecision};
+ghost use Rattle.spline.specs.Evaluation.{splineOf, splineSegmentOf};
+ghost use Rattle.invert.specs.Answer.{inverseSegmentOf, defaultLimit, defaultPrecision};
 ghost use Rattle.inverse.specs.Inverse.{inverseOf};
 ghost use Rattle.convert.specs.Conversion.{convertedOf, convertedSegmentOf};
-ghost use Rattle.convert.specs.Buffer.{convertedNumber, answerOf, bufferOf};
-ghost use Rattle.simmerstoat.specs.Replies.{chosenOf, noBasis, chosen, valueLeft, groundNumber, placeLeft, wholeLeft, lengthLeft};
+ghost use Rattle.convert.specs.Buffer.{answerOf, bufferOf};
+ghost use Rattle.simmerstoat.specs.Replies.{
+    chosenOf,
+    noBasis,
+    chosen,
+    evaluatedReply,
+    valueLeft,
+    groundNumber,
+    invertedReply,
+    placeLeft,
+    wholeLeft,
+    convertedReply,
+    lengthLeft,
+};
 use basis::Basis;
 use convert::Converted;
 use error::Refusal;
@@ -48,7 +61,7 @@ pub fn ground_number(g: Ground) -> usize
     }
 }
 
-// 1 or 0; 255 for a number that is no basis, here and in every call below.
+// 1 or 0; 255 for a number that is no basis, here and in every other call.
 #[no_mangle]
 pub extern "C" fn simmerstoat_is_len_ok(basis: u8, n: usize) -> u8
     ensures { λ r. ⌜ r ≡ chosen (chosenOf basis) noBasis (λ b. cond (lengthOk b n) 1 0) ⌝ }
@@ -61,23 +74,23 @@ pub extern "C" fn simmerstoat_is_len_ok(basis: u8, n: usize) -> u8
 }
 
 // A value is written and answered by 0; a refusal writes nothing.
-fn value_told(e: Evaluated, value: &mut f64) -> u8
-    ensures { λ r. ⌜ (r ≡ evaluatedNumber e) × (now (value .exit) ≡ valueLeft e (now (value .entry))) ⌝ }
+pub fn value_told(e: Evaluated, value: &mut f64) -> u32
+    ensures { λ r. ⌜ (r ≡ evaluatedReply e) × (now (value .exit) ≡ valueLeft e (now (value .entry))) ⌝ }
 {
     match e {
         Evaluated::Value(v) => {
             *value = v;
             0
         }
-        Evaluated::Refused(r) => error::number(r),
+        Evaluated::Refused(r) => error::reply(r),
     }
 }
 
 // A curve's value.
 #[no_mangle]
-pub extern "C" fn simmerstoat_spline(basis: u8, x: f64, knots: &[f64], value: &mut f64) -> u8
-    ensures { λ r. ⌜ r ≡ chosen (chosenOf basis) noBasis (λ b. evaluatedNumber (splineOf b x (now (knots .entry)))) ⌝ }
-    ensures { λ _. ⌜ now (value .exit) ≡ chosen (chosenOf basis) (now (value .entry)) (λ b. valueLeft (splineOf b x (now (knots .entry))) (now (value .entry))) ⌝ }
+pub extern "C" fn simmerstoat_spline(basis: u8, x: f64, knots: &[f64], value: &mut f64) -> u32
+    ensures answer { λ r. ⌜ r ≡ chosen (chosenOf basis) noBasis (λ b. evaluatedReply (splineOf b x (now (knots .entry)))) ⌝ }
+    ensures value { λ _. ⌜ now (value .exit) ≡ chosen (chosenOf basis) (now (value .entry)) (λ b. valueLeft (splineOf b x (now (knots .entry))) (now (value .entry))) ⌝ }
 {
     let c = basis_of(basis);
     let Chosen::Known(b) = c else {
@@ -88,9 +101,9 @@ pub extern "C" fn simmerstoat_spline(basis: u8, x: f64, knots: &[f64], value: &m
 
 // One segment's value.
 #[no_mangle]
-pub extern "C" fn simmerstoat_spline_segment(basis: u8, x: f64, cv: &[f64], value: &mut f64) -> u8
-    ensures { λ r. ⌜ r ≡ chosen (chosenOf basis) noBasis (λ b. evaluatedNumber (splineSegmentOf b x (now (cv .entry)))) ⌝ }
-    ensures { λ _. ⌜ now (value .exit) ≡ chosen (chosenOf basis) (now (value .entry)) (λ b. valueLeft (splineSegmentOf b x (now (cv .entry))) (now (value .entry))) ⌝ }
+pub extern "C" fn simmerstoat_spline_segment(basis: u8, x: f64, cv: &[f64], value: &mut f64) -> u32
+    ensures answer { λ r. ⌜ r ≡ chosen (chosenOf basis) noBasis (λ b. evaluatedReply (splineSegmentOf b x (now (cv .entry)))) ⌝ }
+    ensures value { λ _. ⌜ now (value .exit) ≡ chosen (chosenOf basis) (now (value .entry)) (λ b. valueLeft (splineSegmentOf b x (now (cv .entry))) (now (value .entry))) ⌝ }
 {
     let c = basis_of(basis);
     let Chosen::Known(b) = c else {
@@ -100,8 +113,8 @@ pub extern "C" fn simmerstoat_spline_segment(basis: u8, x: f64, cv: &[f64], valu
 }
 
 // A place leaves parameter, local place, lower and upper end, and ground, segment and count; refusal 11 its count.
-fn place_told(a: Inverted, place: &mut [f64; 4], whole: &mut [usize; 3]) -> u8
-    ensures { λ r. ⌜ (r ≡ numberTold a) × (now (place .exit) ≡ placeLeft a (now (place .entry))) × (now (whole .exit) ≡ wholeLeft a (now (whole .entry))) ⌝ }
+pub fn place_told(a: Inverted, place: &mut [f64; 4], whole: &mut [usize; 3]) -> u32
+    ensures { λ r. ⌜ (r ≡ invertedReply a) × (now (place .exit) ≡ placeLeft a (now (place .entry))) × (now (whole .exit) ≡ wholeLeft a (now (whole .entry))) ⌝ }
 {
     match a {
         Inverted::At(p) => {
@@ -112,9 +125,9 @@ fn place_told(a: Inverted, place: &mut [f64; 4], whole: &mut [usize; 3]) -> u8
         }
         Inverted::OffCurve(n) => {
             whole[2] = n;
-            error::number(Refusal::OffCurve)
+            error::reply(Refusal::OffCurve)
         }
-        Inverted::Refused(r) => error::number(r),
+        Inverted::Refused(r) => error::reply(r),
     }
 }
 
@@ -127,10 +140,10 @@ pub extern "C" fn simmerstoat_spline_inverse(
     check: bool,
     place: &mut [f64; 4],
     whole: &mut [usize; 3],
-) -> u8
-    ensures { λ r. ⌜ r ≡ chosen (chosenOf basis) noBasis (λ b. numberTold (inverseOf b y (now (knots .entry)) check defaultLimit defaultPrecision)) ⌝ }
-    ensures { λ _. ⌜ now (place .exit) ≡ chosen (chosenOf basis) (now (place .entry)) (λ b. placeLeft (inverseOf b y (now (knots .entry)) check defaultLimit defaultPrecision) (now (place .entry))) ⌝ }
-    ensures { λ _. ⌜ now (whole .exit) ≡ chosen (chosenOf basis) (now (whole .entry)) (λ b. wholeLeft (inverseOf b y (now (knots .entry)) check defaultLimit defaultPrecision) (now (whole .entry))) ⌝ }
+) -> u32
+    ensures answer { λ r. ⌜ r ≡ chosen (chosenOf basis) noBasis (λ b. invertedReply (inverseOf b y (now (knots .entry)) check defaultLimit defaultPrecision)) ⌝ }
+    ensures place { λ _. ⌜ now (place .exit) ≡ chosen (chosenOf basis) (now (place .entry)) (λ b. placeLeft (inverseOf b y (now (knots .entry)) check defaultLimit defaultPrecision) (now (place .entry))) ⌝ }
+    ensures whole { λ _. ⌜ now (whole .exit) ≡ chosen (chosenOf basis) (now (whole .entry)) (λ b. wholeLeft (inverseOf b y (now (knots .entry)) check defaultLimit defaultPrecision) (now (whole .entry))) ⌝ }
 {
     let c = basis_of(basis);
     let Chosen::Known(b) = c else {
@@ -150,10 +163,10 @@ pub extern "C" fn simmerstoat_spline_inverse_with(
     precision: f64,
     place: &mut [f64; 4],
     whole: &mut [usize; 3],
-) -> u8
-    ensures { λ r. ⌜ r ≡ chosen (chosenOf basis) noBasis (λ b. numberTold (inverseOf b y (now (knots .entry)) check limit precision)) ⌝ }
-    ensures { λ _. ⌜ now (place .exit) ≡ chosen (chosenOf basis) (now (place .entry)) (λ b. placeLeft (inverseOf b y (now (knots .entry)) check limit precision) (now (place .entry))) ⌝ }
-    ensures { λ _. ⌜ now (whole .exit) ≡ chosen (chosenOf basis) (now (whole .entry)) (λ b. wholeLeft (inverseOf b y (now (knots .entry)) check limit precision) (now (whole .entry))) ⌝ }
+) -> u32
+    ensures answer { λ r. ⌜ r ≡ chosen (chosenOf basis) noBasis (λ b. invertedReply (inverseOf b y (now (knots .entry)) check limit precision)) ⌝ }
+    ensures place { λ _. ⌜ now (place .exit) ≡ chosen (chosenOf basis) (now (place .entry)) (λ b. placeLeft (inverseOf b y (now (knots .entry)) check limit precision) (now (place .entry))) ⌝ }
+    ensures whole { λ _. ⌜ now (whole .exit) ≡ chosen (chosenOf basis) (now (whole .entry)) (λ b. wholeLeft (inverseOf b y (now (knots .entry)) check limit precision) (now (whole .entry))) ⌝ }
 {
     let c = basis_of(basis);
     let Chosen::Known(b) = c else {
@@ -174,10 +187,10 @@ pub extern "C" fn simmerstoat_spline_inverse_segment(
     cv: &[f64],
     place: &mut [f64; 4],
     whole: &mut [usize; 3],
-) -> u8
-    ensures { λ r. ⌜ r ≡ chosen (chosenOf basis) noBasis (λ b. numberTold (inverseSegmentOf b y (now (cv .entry)) defaultLimit defaultPrecision)) ⌝ }
-    ensures { λ _. ⌜ now (place .exit) ≡ chosen (chosenOf basis) (now (place .entry)) (λ b. placeLeft (inverseSegmentOf b y (now (cv .entry)) defaultLimit defaultPrecision) (now (place .entry))) ⌝ }
-    ensures { λ _. ⌜ now (whole .exit) ≡ chosen (chosenOf basis) (now (whole .entry)) (λ b. wholeLeft (inverseSegmentOf b y (now (cv .entry)) defaultLimit defaultPrecision) (now (whole .entry))) ⌝ }
+) -> u32
+    ensures answer { λ r. ⌜ r ≡ chosen (chosenOf basis) noBasis (λ b. invertedReply (inverseSegmentOf b y (now (cv .entry)) defaultLimit defaultPrecision)) ⌝ }
+    ensures place { λ _. ⌜ now (place .exit) ≡ chosen (chosenOf basis) (now (place .entry)) (λ b. placeLeft (inverseSegmentOf b y (now (cv .entry)) defaultLimit defaultPrecision) (now (place .entry))) ⌝ }
+    ensures whole { λ _. ⌜ now (whole .exit) ≡ chosen (chosenOf basis) (now (whole .entry)) (λ b. wholeLeft (inverseSegmentOf b y (now (cv .entry)) defaultLimit defaultPrecision) (now (whole .entry))) ⌝ }
 {
     let c = basis_of(basis);
     let Chosen::Known(b) = c else {
@@ -196,10 +209,10 @@ pub extern "C" fn simmerstoat_spline_inverse_segment_with(
     precision: f64,
     place: &mut [f64; 4],
     whole: &mut [usize; 3],
-) -> u8
-    ensures { λ r. ⌜ r ≡ chosen (chosenOf basis) noBasis (λ b. numberTold (inverseSegmentOf b y (now (cv .entry)) limit precision)) ⌝ }
-    ensures { λ _. ⌜ now (place .exit) ≡ chosen (chosenOf basis) (now (place .entry)) (λ b. placeLeft (inverseSegmentOf b y (now (cv .entry)) limit precision) (now (place .entry))) ⌝ }
-    ensures { λ _. ⌜ now (whole .exit) ≡ chosen (chosenOf basis) (now (whole .entry)) (λ b. wholeLeft (inverseSegmentOf b y (now (cv .entry)) limit precision) (now (whole .entry))) ⌝ }
+) -> u32
+    ensures answer { λ r. ⌜ r ≡ chosen (chosenOf basis) noBasis (λ b. invertedReply (inverseSegmentOf b y (now (cv .entry)) limit precision)) ⌝ }
+    ensures place { λ _. ⌜ now (place .exit) ≡ chosen (chosenOf basis) (now (place .entry)) (λ b. placeLeft (inverseSegmentOf b y (now (cv .entry)) limit precision) (now (place .entry))) ⌝ }
+    ensures whole { λ _. ⌜ now (whole .exit) ≡ chosen (chosenOf basis) (now (whole .entry)) (λ b. wholeLeft (inverseSegmentOf b y (now (cv .entry)) limit precision) (now (whole .entry))) ⌝ }
 {
     let c = basis_of(basis);
     let Chosen::Known(b) = c else {
@@ -213,32 +226,32 @@ pub extern "C" fn simmerstoat_spline_inverse_segment_with(
 }
 
 // The length is written and answered by 0; a refusal writes nothing.
-fn length_told(a: Converted, written: &mut usize) -> u8
-    ensures { λ r. ⌜ (r ≡ convertedNumber a) × (now (written .exit) ≡ lengthLeft a (now (written .entry))) ⌝ }
+pub fn length_told(a: Converted, written: &mut usize) -> u32
+    ensures { λ r. ⌜ (r ≡ convertedReply a) × (now (written .exit) ≡ lengthLeft a (now (written .entry))) ⌝ }
 {
     match a {
         Converted::Written(n) => {
             *written = n;
             0
         }
-        Converted::Refused(r) => error::number(r),
+        Converted::Refused(r) => error::reply(r),
     }
 }
 
-fn conversion_reply(a: Converted) -> u8
-    ensures { λ r. ⌜ r ≡ convertedNumber a ⌝ }
+pub fn conversion_reply(a: Converted) -> u32
+    ensures { λ r. ⌜ r ≡ convertedReply a ⌝ }
 {
     match a {
         Converted::Written(_) => 0,
-        Converted::Refused(r) => error::number(r),
+        Converted::Refused(r) => error::reply(r),
     }
 }
 
 // One segment's conversion, into the first four places of out.
 #[no_mangle]
-pub extern "C" fn simmerstoat_convert_segment(from: u8, to: u8, cv: &[f64], out: &mut [f64]) -> u8
-    ensures { λ r. ⌜ r ≡ chosen (chosenOf from) noBasis (λ f. chosen (chosenOf to) noBasis (λ t. convertedNumber (answerOf (convertedSegmentOf f t (now (cv .entry)) (length (now (out .entry))))))) ⌝ }
-    ensures { λ _. ⌜ now (out .exit) ≡ chosen (chosenOf from) (now (out .entry)) (λ f. chosen (chosenOf to) (now (out .entry)) (λ t. bufferOf (convertedSegmentOf f t (now (cv .entry)) (length (now (out .entry)))) (now (out .entry)))) ⌝ }
+pub extern "C" fn simmerstoat_convert_segment(from: u8, to: u8, cv: &[f64], out: &mut [f64]) -> u32
+    ensures answer { λ r. ⌜ r ≡ chosen (chosenOf from) noBasis (λ f. chosen (chosenOf to) noBasis (λ t. convertedReply (answerOf (convertedSegmentOf f t (now (cv .entry)) (length (now (out .entry))))))) ⌝ }
+    ensures buffer { λ _. ⌜ now (out .exit) ≡ chosen (chosenOf from) (now (out .entry)) (λ f. chosen (chosenOf to) (now (out .entry)) (λ t. bufferOf (convertedSegmentOf f t (now (cv .entry)) (length (now (out .entry)))) (now (out .entry)))) ⌝ }
 {
     let c = basis_of(from);
     let Chosen::Known(f) = c else {
@@ -259,10 +272,10 @@ pub extern "C" fn simmerstoat_convert_spline(
     knots: &[f64],
     out: &mut [f64],
     written: &mut usize,
-) -> u8
-    ensures { λ r. ⌜ r ≡ chosen (chosenOf from) noBasis (λ f. chosen (chosenOf to) noBasis (λ t. convertedNumber (answerOf (convertedOf f t (now (knots .entry)) (length (now (out .entry))))))) ⌝ }
-    ensures { λ _. ⌜ now (written .exit) ≡ chosen (chosenOf from) (now (written .entry)) (λ f. chosen (chosenOf to) (now (written .entry)) (λ t. lengthLeft (answerOf (convertedOf f t (now (knots .entry)) (length (now (out .entry))))) (now (written .entry)))) ⌝ }
-    ensures { λ _. ⌜ now (out .exit) ≡ chosen (chosenOf from) (now (out .entry)) (λ f. chosen (chosenOf to) (now (out .entry)) (λ t. bufferOf (convertedOf f t (now (knots .entry)) (length (now (out .entry)))) (now (out .entry)))) ⌝ }
+) -> u32
+    ensures answer { λ r. ⌜ r ≡ chosen (chosenOf from) noBasis (λ f. chosen (chosenOf to) noBasis (λ t. convertedReply (answerOf (convertedOf f t (now (knots .entry)) (length (now (out .entry))))))) ⌝ }
+    ensures length { λ _. ⌜ now (written .exit) ≡ chosen (chosenOf from) (now (written .entry)) (λ f. chosen (chosenOf to) (now (written .entry)) (λ t. lengthLeft (answerOf (convertedOf f t (now (knots .entry)) (length (now (out .entry))))) (now (written .entry)))) ⌝ }
+    ensures buffer { λ _. ⌜ now (out .exit) ≡ chosen (chosenOf from) (now (out .entry)) (λ f. chosen (chosenOf to) (now (out .entry)) (λ t. bufferOf (convertedOf f t (now (knots .entry)) (length (now (out .entry)))) (now (out .entry)))) ⌝ }
 {
     let c = basis_of(from);
     let Chosen::Known(f) = c else {

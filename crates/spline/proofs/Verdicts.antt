@@ -12,8 +12,8 @@ use Rattle.error.specs.declared.Refusal.{Refusal}
 use Rattle.error.specs.declared.Refusal.the-variants.{NotANumber, BadKnot}
 use Rattle.error.specs.declared.Verdict.{Verdict}
 use Rattle.error.specs.declared.Verdict.the-variants.{Passed, Failed}
-use Rattle.error.specs.Refusals.{first, rows}
-use Rattle.error.proofs.First.{stops, goes-on, passed}
+use Rattle.error.specs.Refusals.{first}
+use Rattle.error.proofs.First.{stops, goes-on, clear}
 use Rattle.basis.specs.declared.Basis.{Basis}
 use Rattle.doubles.specs.Numbers.{nought, one}
 use Rattle.doubles.proofs.Order.{ne-itself}
@@ -58,13 +58,13 @@ pub record Length (n : ℕ) : Type 0 where
 
 pub length-passed : (b : Basis) (n : ℕ) → first (curveLength b n) ≡ Passed → Length n
 length-passed b n e =
-    let p = passed rows (curveLength b n) e in
-    record { least = ltb-false n 4 (p .0); most = ltb-false 4096 n (p .1 .1 .0) }
+    let p = clear (curveLength b n) e in
+    record { least = ltb-false n 4 (p 1); most = ltb-false 4096 n (p 3) }
 
 pub segment-length-passed : (n : ℕ) → first (segmentLength n) ≡ Passed → n ≤ 4096
 segment-length-passed n e =
-    let p = passed rows (segmentLength n) e in
-    le-trans (ltb-false 4 n (p .1 .0)) (lit≤ tt)
+    let p = clear (segmentLength n) e in
+    le-trans (ltb-false 4 n (p 2)) (lit≤ tt)
 
 pub record Sound (b : Basis) (x : Float) (ks : List Float) : Type 0 where
   pub many : 4 ≤ length ks
@@ -74,8 +74,8 @@ pub record Sound (b : Basis) (x : Float) (ks : List Float) : Type 0 where
 
 pub curve-sound : (b : Basis) (x : Float) (ks : List Float) → first (splineUses b x ks) ≡ Passed → Sound b x ks
 curve-sound b x ks e =
-    let p = passed rows (splineUses b x ks) e in
-    record { many = ltb-false (length ks) 4 (p .0); few = ltb-false 4096 (length ks) (p .1 .1 .0); number = p .1 .1 .1 .0; tame = not-false (allInRange ks) (p .1 .1 .1 .1 .1 .1 .1 .1 .0) }
+    let p = clear (splineUses b x ks) e in
+    record { many = ltb-false (length ks) 4 (p 1); few = ltb-false 4096 (length ks) (p 3); number = p 5; tame = not-false (allInRange ks) (p 4) }
 
 pub record SoundSegment (x : Float) (cv : List Float) : Type 0 where
   pub many : 4 ≤ length cv
@@ -84,5 +84,5 @@ pub record SoundSegment (x : Float) (cv : List Float) : Type 0 where
 
 pub segment-sound : (x : Float) (cv : List Float) → first (splineSegmentUses x cv) ≡ Passed → SoundSegment x cv
 segment-sound x cv e =
-    let p = passed rows (splineSegmentUses x cv) e in
-    record { many = ltb-false (length cv) 4 (p .0); inside = not-false (le nought x && le x one) (p .1 .1 .1 .0); tame = not-false (allInRange cv) (p .1 .1 .1 .1 .1 .1 .1 .1 .0) }
+    let p = clear (splineSegmentUses x cv) e in
+    record { many = ltb-false (length cv) 4 (p 1); inside = not-false (le nought x && le x one) (p 5); tame = not-false (allInRange cv) (p 4) }

@@ -1,8 +1,8 @@
 use mathlib.Core.Path.{ap, _∙_}
 use lib.ListN.{length}
 use Rattle.convert.specs.Conversion.{convertedSegmentOf}
-use Rattle.convert.specs.Buffer.{convertedNumber, answerOf, bufferOf}
-use Rattle.simmerstoat.specs.Replies.{chosenOf, noBasis, chosen}
+use Rattle.convert.specs.Buffer.{answerOf, bufferOf}
+use Rattle.simmerstoat.specs.Replies.{chosenOf, noBasis, chosen, convertedReply}
 use Rattle.simmerstoat.proofs.Found.{found, unfound}
 use borrow.Author.Needs.{needs}
 use Rattle.simmerstoat.proofs.simmerstoat_convert_segment.Statement.{statement}
@@ -23,7 +23,7 @@ returns c =
     let out = args .out .now in
     let asked = c .before .before .basis-of .ensures in
     let unknown = c .enum-told .given .1 in (
-      unfound noBasis (λ f. chosen (chosenOf (args .to)) noBasis (λ t. convertedNumber (answerOf (convertedSegmentOf f t (args .cv .now) (length out))))) asked unknown,
+      unfound noBasis (λ f. chosen (chosenOf (args .to)) noBasis (λ t. convertedReply (answerOf (convertedSegmentOf f t (args .cv .now) (length out))))) asked unknown,
       unfound out (λ f. chosen (chosenOf (args .to)) out (λ t. bufferOf (convertedSegmentOf f t (args .cv .now) (length out)) out)) asked unknown,
     )
 
@@ -45,7 +45,7 @@ returns-2 c =
     let from = c .before .before .before .before .c .given .0 .0 in
     let asked-to = c .before .before .basis-of2 .ensures in
     let unknown = c .enum-told2 .given .1 in (
-      found noBasis (λ f. chosen (chosenOf (args .to)) noBasis (λ t. convertedNumber (answerOf (convertedSegmentOf f t (args .cv .now) (length out))))) asked known (unfound noBasis (λ t. convertedNumber (answerOf (convertedSegmentOf from t (args .cv .now) (length out)))) asked-to unknown),
+      found noBasis (λ f. chosen (chosenOf (args .to)) noBasis (λ t. convertedReply (answerOf (convertedSegmentOf f t (args .cv .now) (length out))))) asked known (unfound noBasis (λ t. convertedReply (answerOf (convertedSegmentOf from t (args .cv .now) (length out)))) asked-to unknown),
       found out (λ f. chosen (chosenOf (args .to)) out (λ t. bufferOf (convertedSegmentOf f t (args .cv .now) (length out)) out)) asked known (unfound out (λ t. bufferOf (convertedSegmentOf from t (args .cv .now) (length out)) out) asked-to unknown),
     )
 
@@ -68,9 +68,9 @@ returns-3 c =
     let asked-to = c .before .before .before .before .before .before .before .before .basis-of2 .ensures in
     let known-to = c .before .before .before .before .before .before .d .given .1 in
     let call = c .before .before .before .convert-segment .ensures in
-    let reply = c .conversion-reply .ensures ∙ ap convertedNumber (call .0) in
+    let reply = c .conversion-reply .ensures ∙ ap convertedReply (call .0) in
     let buffer = call .1 in (
-      found noBasis (λ f. chosen (chosenOf (args .to)) noBasis (λ t. convertedNumber (answerOf (convertedSegmentOf f t (args .cv .now) (length out))))) asked known (found noBasis (λ t. convertedNumber (answerOf (convertedSegmentOf from t (args .cv .now) (length out)))) asked-to known-to reply),
+      found noBasis (λ f. chosen (chosenOf (args .to)) noBasis (λ t. convertedReply (answerOf (convertedSegmentOf f t (args .cv .now) (length out))))) asked known (found noBasis (λ t. convertedReply (answerOf (convertedSegmentOf from t (args .cv .now) (length out)))) asked-to known-to reply),
       found out (λ f. chosen (chosenOf (args .to)) out (λ t. bufferOf (convertedSegmentOf f t (args .cv .now) (length out)) out)) asked known (found out (λ t. bufferOf (convertedSegmentOf from t (args .cv .now) (length out)) out) asked-to known-to buffer),
     )
 

@@ -1,8 +1,8 @@
 use mathlib.Core.Path.{ap, _∙_}
 use lib.ListN.{length}
 use Rattle.convert.specs.Conversion.{convertedOf}
-use Rattle.convert.specs.Buffer.{convertedNumber, answerOf, bufferOf}
-use Rattle.simmerstoat.specs.Replies.{chosenOf, noBasis, chosen, lengthLeft}
+use Rattle.convert.specs.Buffer.{answerOf, bufferOf}
+use Rattle.simmerstoat.specs.Replies.{chosenOf, noBasis, chosen, lengthLeft, convertedReply}
 use Rattle.simmerstoat.proofs.Found.{found, unfound}
 use borrow.Author.Needs.{needs}
 use Rattle.simmerstoat.proofs.simmerstoat_convert_spline.Statement.{statement}
@@ -24,7 +24,7 @@ returns c =
     let out = args .out .now in
     let asked = c .before .before .basis-of .ensures in
     let unknown = c .enum-told .given .1 in (
-      unfound noBasis (λ f. chosen (chosenOf (args .to)) noBasis (λ t. convertedNumber (answerOf (convertedOf f t (args .knots .now) (length out))))) asked unknown,
+      unfound noBasis (λ f. chosen (chosenOf (args .to)) noBasis (λ t. convertedReply (answerOf (convertedOf f t (args .knots .now) (length out))))) asked unknown,
       (
         unfound written (λ f. chosen (chosenOf (args .to)) written (λ t. lengthLeft (answerOf (convertedOf f t (args .knots .now) (length out))) written)) asked unknown,
         unfound out (λ f. chosen (chosenOf (args .to)) out (λ t. bufferOf (convertedOf f t (args .knots .now) (length out)) out)) asked unknown,
@@ -50,7 +50,7 @@ returns-2 c =
     let from = c .before .before .before .before .c .given .0 .0 in
     let asked-to = c .before .before .basis-of2 .ensures in
     let unknown = c .enum-told2 .given .1 in (
-      found noBasis (λ f. chosen (chosenOf (args .to)) noBasis (λ t. convertedNumber (answerOf (convertedOf f t (args .knots .now) (length out))))) asked known (unfound noBasis (λ t. convertedNumber (answerOf (convertedOf from t (args .knots .now) (length out)))) asked-to unknown),
+      found noBasis (λ f. chosen (chosenOf (args .to)) noBasis (λ t. convertedReply (answerOf (convertedOf f t (args .knots .now) (length out))))) asked known (unfound noBasis (λ t. convertedReply (answerOf (convertedOf from t (args .knots .now) (length out)))) asked-to unknown),
       (
         found written (λ f. chosen (chosenOf (args .to)) written (λ t. lengthLeft (answerOf (convertedOf f t (args .knots .now) (length out))) written)) asked known (unfound written (λ t. lengthLeft (answerOf (convertedOf from t (args .knots .now) (length out))) written) asked-to unknown),
         found out (λ f. chosen (chosenOf (args .to)) out (λ t. bufferOf (convertedOf f t (args .knots .now) (length out)) out)) asked known (unfound out (λ t. bufferOf (convertedOf from t (args .knots .now) (length out)) out) asked-to unknown),
@@ -77,10 +77,10 @@ returns-3 c =
     let asked-to = c .before .before .before .before .before .before .before .before .before .basis-of2 .ensures in
     let known-to = c .before .before .before .before .before .before .before .d .given .1 in
     let call = c .before .before .before .before .convert-spline .ensures in
-    let reply = c .length-told .ensures .0 ∙ ap convertedNumber (call .0) in
+    let reply = c .length-told .ensures .0 ∙ ap convertedReply (call .0) in
     let length-left = c .length-told .ensures .1 ∙ ap (λ a. lengthLeft a written) (call .0) in
     let buffer = call .1 in (
-      found noBasis (λ f. chosen (chosenOf (args .to)) noBasis (λ t. convertedNumber (answerOf (convertedOf f t (args .knots .now) (length out))))) asked known (found noBasis (λ t. convertedNumber (answerOf (convertedOf from t (args .knots .now) (length out)))) asked-to known-to reply),
+      found noBasis (λ f. chosen (chosenOf (args .to)) noBasis (λ t. convertedReply (answerOf (convertedOf f t (args .knots .now) (length out))))) asked known (found noBasis (λ t. convertedReply (answerOf (convertedOf from t (args .knots .now) (length out)))) asked-to known-to reply),
       (
         found written (λ f. chosen (chosenOf (args .to)) written (λ t. lengthLeft (answerOf (convertedOf f t (args .knots .now) (length out))) written)) asked known (found written (λ t. lengthLeft (answerOf (convertedOf from t (args .knots .now) (length out))) written) asked-to known-to length-left),
         found out (λ f. chosen (chosenOf (args .to)) out (λ t. bufferOf (convertedOf f t (args .knots .now) (length out)) out)) asked known (found out (λ t. bufferOf (convertedOf from t (args .knots .now) (length out)) out) asked-to known-to buffer),

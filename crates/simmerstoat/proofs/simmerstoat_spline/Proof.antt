@@ -1,6 +1,6 @@
 use mathlib.Core.Path.{ap, _∙_}
-use Rattle.spline.specs.Evaluation.{evaluatedNumber, splineOf}
-use Rattle.simmerstoat.specs.Replies.{noBasis, valueLeft}
+use Rattle.spline.specs.Evaluation.{splineOf}
+use Rattle.simmerstoat.specs.Replies.{noBasis, valueLeft, evaluatedReply}
 use Rattle.simmerstoat.proofs.Found.{found}
 use borrow.Author.Needs.{needs}
 use Rattle.simmerstoat.proofs.simmerstoat_spline.Statement.{statement}
@@ -31,7 +31,7 @@ returns-2 c =
     let known = c .before .before .before .before .c .given .1 in
     let old = args .value .now in
     let call = c .before .before .spline .ensures in (
-      found noBasis (λ b. evaluatedNumber (splineOf b (args .x) (args .knots .now))) asked known (c .value-told .ensures .0 ∙ ap evaluatedNumber call),
+      found noBasis (λ b. evaluatedReply (splineOf b (args .x) (args .knots .now))) asked known (c .value-told .ensures .0 ∙ ap evaluatedReply call),
       found old (λ b. valueLeft (splineOf b (args .x) (args .knots .now)) old) asked known (c .value-told .ensures .1 ∙ ap (λ e. valueLeft e old) call),
     )
 

@@ -1,6 +1,6 @@
 use mathlib.Core.Path.{ap, _∙_}
-use Rattle.invert.specs.Answer.{inverseSegmentOf, numberTold, defaultLimit, defaultPrecision}
-use Rattle.simmerstoat.specs.Replies.{noBasis, placeLeft, wholeLeft}
+use Rattle.invert.specs.Answer.{inverseSegmentOf, defaultLimit, defaultPrecision}
+use Rattle.simmerstoat.specs.Replies.{noBasis, placeLeft, wholeLeft, invertedReply}
 use Rattle.simmerstoat.proofs.Found.{found, unfound}
 use borrow.Author.Needs.{needs}
 use Rattle.simmerstoat.proofs.simmerstoat_spline_inverse_segment.Statement.{statement}
@@ -22,7 +22,7 @@ returns c =
     let whole = args .whole .now in
     let asked = c .before .before .basis-of .ensures in
     let unknown = c .enum-told .given .1 in (
-      unfound noBasis (λ b. numberTold (inverseSegmentOf b (args .y) (args .cv .now) defaultLimit defaultPrecision)) asked unknown,
+      unfound noBasis (λ b. invertedReply (inverseSegmentOf b (args .y) (args .cv .now) defaultLimit defaultPrecision)) asked unknown,
       (
         unfound place (λ b. placeLeft (inverseSegmentOf b (args .y) (args .cv .now) defaultLimit defaultPrecision) place) asked unknown,
         unfound whole (λ b. wholeLeft (inverseSegmentOf b (args .y) (args .cv .now) defaultLimit defaultPrecision) whole) asked unknown,
@@ -43,7 +43,7 @@ returns-2 c =
     let asked = c .before .before .before .before .before .before .before .basis-of .ensures in
     let known = c .before .before .before .before .before .c .given .1 in
     let call = c .before .before .before .spline-inverse-segment .ensures in (
-      found noBasis (λ b. numberTold (inverseSegmentOf b (args .y) (args .cv .now) defaultLimit defaultPrecision)) asked known (c .place-told .ensures .0 ∙ ap numberTold call),
+      found noBasis (λ b. invertedReply (inverseSegmentOf b (args .y) (args .cv .now) defaultLimit defaultPrecision)) asked known (c .place-told .ensures .0 ∙ ap invertedReply call),
       (
         found place (λ b. placeLeft (inverseSegmentOf b (args .y) (args .cv .now) defaultLimit defaultPrecision) place) asked known (c .place-told .ensures .1 ∙ ap (λ a. placeLeft a place) call),
         found whole (λ b. wholeLeft (inverseSegmentOf b (args .y) (args .cv .now) defaultLimit defaultPrecision) whole) asked known (c .place-told .ensures .2 ∙ ap (λ a. wholeLeft a whole) call),

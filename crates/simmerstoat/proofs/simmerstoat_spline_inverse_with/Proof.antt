@@ -1,7 +1,6 @@
 use mathlib.Core.Path.{ap, _∙_}
-use Rattle.invert.specs.Answer.{numberTold}
 use Rattle.inverse.specs.Inverse.{inverseOf}
-use Rattle.simmerstoat.specs.Replies.{noBasis, placeLeft, wholeLeft}
+use Rattle.simmerstoat.specs.Replies.{noBasis, placeLeft, wholeLeft, invertedReply}
 use Rattle.simmerstoat.proofs.Found.{found, unfound}
 use borrow.Author.Needs.{needs}
 use Rattle.simmerstoat.proofs.simmerstoat_spline_inverse_with.Statement.{statement}
@@ -23,7 +22,7 @@ returns c =
     let whole = args .whole .now in
     let asked = c .before .before .basis-of .ensures in
     let unknown = c .enum-told .given .1 in (
-      unfound noBasis (λ b. numberTold (inverseOf b (args .y) (args .knots .now) (args .check) (args .limit) (args .precision))) asked unknown,
+      unfound noBasis (λ b. invertedReply (inverseOf b (args .y) (args .knots .now) (args .check) (args .limit) (args .precision))) asked unknown,
       (
         unfound place (λ b. placeLeft (inverseOf b (args .y) (args .knots .now) (args .check) (args .limit) (args .precision)) place) asked unknown,
         unfound whole (λ b. wholeLeft (inverseOf b (args .y) (args .knots .now) (args .check) (args .limit) (args .precision)) whole) asked unknown,
@@ -44,7 +43,7 @@ returns-2 c =
     let asked = c .before .before .before .before .before .before .before .basis-of .ensures in
     let known = c .before .before .before .before .before .c .given .1 in
     let call = c .before .before .before .spline-inverse-with .ensures in (
-      found noBasis (λ b. numberTold (inverseOf b (args .y) (args .knots .now) (args .check) (args .limit) (args .precision))) asked known (c .place-told .ensures .0 ∙ ap numberTold call),
+      found noBasis (λ b. invertedReply (inverseOf b (args .y) (args .knots .now) (args .check) (args .limit) (args .precision))) asked known (c .place-told .ensures .0 ∙ ap invertedReply call),
       (
         found place (λ b. placeLeft (inverseOf b (args .y) (args .knots .now) (args .check) (args .limit) (args .precision)) place) asked known (c .place-told .ensures .1 ∙ ap (λ a. placeLeft a place) call),
         found whole (λ b. wholeLeft (inverseOf b (args .y) (args .knots .now) (args .check) (args .limit) (args .precision)) whole) asked known (c .place-told .ensures .2 ∙ ap (λ a. wholeLeft a whole) call),

@@ -1,6 +1,6 @@
 use mathlib.Core.Path.{ap, _∙_}
-use Rattle.spline.specs.Evaluation.{evaluatedNumber, splineSegmentOf}
-use Rattle.simmerstoat.specs.Replies.{noBasis, valueLeft}
+use Rattle.spline.specs.Evaluation.{splineSegmentOf}
+use Rattle.simmerstoat.specs.Replies.{noBasis, valueLeft, evaluatedReply}
 use Rattle.simmerstoat.proofs.Found.{found}
 use borrow.Author.Needs.{needs}
 use Rattle.simmerstoat.proofs.simmerstoat_spline_segment.Statement.{statement}
@@ -31,7 +31,7 @@ returns-2 c =
     let known = c .before .before .before .before .c .given .1 in
     let old = args .value .now in
     let call = c .before .before .spline-segment .ensures in (
-      found noBasis (λ b. evaluatedNumber (splineSegmentOf b (args .x) (args .cv .now))) asked known (c .value-told .ensures .0 ∙ ap evaluatedNumber call),
+      found noBasis (λ b. evaluatedReply (splineSegmentOf b (args .x) (args .cv .now))) asked known (c .value-told .ensures .0 ∙ ap evaluatedReply call),
       found old (λ b. valueLeft (splineSegmentOf b (args .x) (args .cv .now)) old) asked known (c .value-told .ensures .1 ∙ ap (λ e. valueLeft e old) call),
     )
 
