@@ -2,6 +2,7 @@ pub mod OneReply
 pub mod Refusing
 pub mod Inverting
 pub mod Exports
+pub mod Orders
 pub mod Searching
 pub mod Spending
 pub mod Ending

@@ -6,6 +6,8 @@ use denote.Ref.{now}
 use lib.ListN.{take, drop, take-append-drop}
 use lib.Ieee.{Float}
 use Rattle.error.proofs.number.Reads as number
+use Rattle.error.proofs.place.Reads as place
+use Rattle.error.proofs.reply.Reads as reply
 use Rattle.basis.proofs.is_len_ok.Reads as is_len_ok
 use Rattle.spline.proofs.spline.Reads as spline
 use Rattle.spline.proofs.spline_segment.Reads as spline_segment
@@ -40,6 +42,12 @@ one p q = p ∙ sym q
 -- ---- calls that lend nothing to write in: the reply
 pub number-one-reply : OneReply number.Learnt (λ κs z e z′ e′. z ≡ z′)
 number-one-reply κs a z z′ e e′ p q = one p q
+
+pub place-one-reply : OneReply place.Learnt (λ κs z e z′ e′. z ≡ z′)
+place-one-reply κs a z z′ e e′ p q = one p q
+
+pub reply-one-reply : OneReply reply.Learnt (λ κs z e z′ e′. z ≡ z′)
+reply-one-reply κs a z z′ e e′ p q = one p q
 
 pub is-len-ok-one-reply : OneReply is_len_ok.Learnt (λ κs z e z′ e′. z ≡ z′)
 is-len-ok-one-reply κs a z z′ e e′ p q = one p q

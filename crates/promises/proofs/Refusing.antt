@@ -12,6 +12,8 @@ use Rattle.error.specs.declared.Verdict.the-variants.{Passed, Failed}
 use Rattle.error.specs.Refusals.{Uses, rows, first}
 use Rattle.error.proofs.First.{never, First, first-sound, first-complete}
 use Rattle.error.proofs.number.Reads as number
+use Rattle.error.proofs.place.Reads as place
+use Rattle.error.proofs.reply.Reads as reply
 use Rattle.basis.specs.declared.Basis.{Basis}
 use Rattle.basis.specs.Basis.{matrixOf}
 use Rattle.basis.proofs.is_len_ok.Reads as is_len_ok
@@ -46,6 +48,12 @@ use Rattle.promises.specs.Calls.{AsksNothing, Keeps, Exactly}
 -- ---- no call asks anything of its caller
 pub number-asks-nothing : AsksNothing number.Asked
 number-asks-nothing κs a = tt
+
+pub place-asks-nothing : AsksNothing place.Asked
+place-asks-nothing κs a = tt
+
+pub reply-asks-nothing : AsksNothing reply.Asked
+reply-asks-nothing κs a = tt
 
 pub is-len-ok-asks-nothing : AsksNothing is_len_ok.Asked
 is-len-ok-asks-nothing κs a = tt
