@@ -10,17 +10,17 @@ ghost use Rattle.inverse.specs.Inverse.{inverseOf};
 ghost use Rattle.convert.specs.Conversion.{convertedOf, convertedSegmentOf};
 ghost use Rattle.convert.specs.Buffer.{answerOf, bufferOf};
 ghost use Rattle.simmerstoat.specs.Replies.{
-    chosenOf,
-    noBasis,
-    chosen,
-    evaluatedReply,
-    valueLeft,
-    groundNumber,
-    invertedReply,
-    placeLeft,
-    wholeLeft,
-    convertedReply,
-    lengthLeft,
+  chosenOf,
+  noBasis,
+  chosen,
+  evaluatedReply,
+  valueLeft,
+  groundNumber,
+  invertedReply,
+  placeLeft,
+  wholeLeft,
+  convertedReply,
+  lengthLeft,
 };
 use basis::Basis;
 use convert::Converted;
