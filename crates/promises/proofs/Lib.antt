@@ -7,3 +7,5 @@ pub mod Searching
 pub mod Spending
 pub mod Ending
 pub mod Exact
+pub mod Numbers
+pub mod Values
