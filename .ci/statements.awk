@@ -50,7 +50,7 @@ function show(s,    n, i, part, depth, out, t) {
     out = "   "
     for (i = 1; i <= n; i++) {
         t = part[i]
-        if (depth == 0 && i > 1 && (t == "→" || t == ";" || t == "ensures" || t == "requires" || (t == "pub" && part[i - 1] != ";" && part[i - 1] !~ /^(abbrev|unfoldable)$/) || (part[i + 1] == ":" && t !~ /^[({]/ && part[i - 1] != "pub" && part[i - 1] != ";"))) out = out "\n   "
+        if (depth == 0 && i > 1 && (t == "→" || t == ";" || t == "ensures" || t == "requires" || (t == "pub" && part[i - 1] != ";" && part[i - 1] !~ /^(abbrev|unfoldable)$/) || (part[i + 1] == ":" && t !~ /^[({]/ && part[i - 1] !~ /^(pub|;|abbrev|unfoldable)$/))) out = out "\n   "
         if (t != ";" || depth) out = out " " t
         depth += gsub(/[({\[]/, "", t)
         depth -= gsub(/[)}\]]/, "", t)
