@@ -24,8 +24,8 @@ use Rattle.steady.specs.Method.{ruleOf}
 use Rattle.search.specs.Trial.{trial}
 use Rattle.search.specs.Search.{find}
 use Rattle.inverse.specs.declared.Ends.{Ends}
-use Rattle.inverse.specs.declared.Mode.{Mode}
-use Rattle.inverse.specs.declared.Mode.the-variants.{Knots, Curve}
+use Rattle.inverse.specs.declared.EndsBy.{EndsBy}
+use Rattle.inverse.specs.declared.EndsBy.the-variants.{Knots, Curve}
 use Rattle.inverse.specs.Shown.{LocatedIs}
 use Rattle.inverse.specs.EndRule.{atLow, atHigh, knotEnds, curveRule, endRuleOf, own}
 use Rattle.inverse.specs.Curve.{parameterOf, ended, located}
@@ -57,12 +57,12 @@ module _ (R : Rule) (e : Ends) (ev : Evaluations) (g : ℕ → Float → Float) 
   unfolding located
   located-searched t u h = h ∙ simp (t, u)
 
--- ---- the mode's end rule
-pub rule-made : (m : Mode) (b : Basis) (ks : List Float) (g : ℕ → Float → Float) → length (endRuleOf m b ks g .made) ≡ own m
+-- ---- the end rule that is asked for
+pub rule-made : (m : EndsBy) (b : Basis) (ks : List Float) (g : ℕ → Float → Float) → length (endRuleOf m b ks g .made) ≡ own m
 rule-made Knots b ks g = refl
 rule-made Curve b ks g = refl
 
-module _ (m : Mode) (b : Basis) (ks : List Float) (k : ℕ) (q : k ≡ segmentsOf b (length ks)) where
+module _ (m : EndsBy) (b : Basis) (ks : List Float) (k : ℕ) (q : k ≡ segmentsOf b (length ks)) where
   -- e is what it goes by, as the code has it
   pub curve-ends-in : {e : Ends} → m ≡ Curve → e ≡ curveRule (segmentOf b ks) k .ends → e ≡ endRuleOf m b ks (segmentOf b ks) .ends
   curve-ends-in t h = rw t (h ∙ ap (λ (z : ℕ). curveRule (segmentOf b ks) z .ends) q)

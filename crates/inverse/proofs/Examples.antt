@@ -48,16 +48,11 @@ ends : T (each (λ i. le (g i one) (g (suc i) one)) 12)
 unfolding each sixes steady matrixOf row frac round ofInt add mul lt le eq
 ends = tt
 
-own : T (each (λ i. le (g i nought) (g i one)) 13)
-unfolding each sixes steady matrixOf row frac round ofInt add mul lt le eq
-own = tt
-
 pub premise-met : Straight (segmentOf Bspline steady) half 13 true
 premise-met =
     record {
       starts = λ i l. each-at (λ i. le (g i nought) (g (suc i) nought)) 12 i starts (omega arith);
       ends = λ i l. each-at (λ i. le (g i one) (g (suc i) one)) 12 i ends (omega arith);
-      own = λ i l. each-at (λ i. le (g i nought) (g i one)) 13 i own l;
     }
 
 -- ---- needed: a Power curve of 13 segments, the first from 0 to 1, the last from 1 to 2, and 0 in between. Its ends turn back after the first;

@@ -57,11 +57,14 @@ pub record Proper (p : Place) : Type 0 where
   pub order : T (le (p .lower) (p .upper))
 
 module _ (e : Ends) (ev : Evaluations) (g : ℕ → Float → Float) (k : ℕ) (y ε : Float) (limit : ℕ) where
-  -- the segment's values at the two bracket ends enclose the target, as do those at its own ends
+  -- the segment's values at the two bracket ends enclose the target, as do those at its own ends; the local place lies between the bracket's ends, and the parameter is that of segment and local place
   pub record Enclosing (p : Place) : Type 0 where
     pub below : p .segment < k
     pub ends : T (Holds g y k (p .segment))
     pub bracket : T (encloses (g (p .segment) (p .lower)) (g (p .segment) (p .upper)) y)
+    pub from-lower : T (le (p .lower) (p .local))
+    pub to-upper : T (le (p .local) (p .upper))
+    pub parameter : p .parameter ≡ parameterOf k (p .segment) (p .local)
 
   -- so where a segment was entered: by every ground but `end`
   abbrev pub Enclosed : Ground → Place → Type 0
@@ -174,7 +177,14 @@ module _ (R : Rule) (lawful : Lawful R) (e : Ends) (ev : Evaluations) (g : ℕ �
 
   in-enclosing : (p : Place) → In e ev g k y ε limit p → Enclosing e ev g k y ε limit p
   in-enclosing p r =
-      record { below = r .below; ends = r .holds; bracket = bracket-encloses (g (p .segment)) y (lt (g (p .segment) nought) (g (p .segment) one)) (numbers (p .segment) (r .below)) (r .sound .bracketed) }
+      record {
+        below = r .below;
+        ends = r .holds;
+        bracket = bracket-encloses (g (p .segment)) y (lt (g (p .segment) nought) (g (p .segment) one)) (numbers (p .segment) (r .below)) (r .sound .bracketed);
+        from-lower = r .sound .inside .above;
+        to-upper = r .sound .inside .below;
+        parameter = r .scaled;
+      }
 
   by-ground : (p : Place) (i : Ground) → Enclosing e ev g k y ε limit p → Enclosed e ev g k y ε limit i p
   by-ground p End h = tt

@@ -1,25 +1,38 @@
 -- Beside the crate's way, in which an entered segment's ends are evaluated twice: every answer is the same but for the count, which is lower by two where a segment was entered. For any end rule and any weighting. Assumes nothing.
 use mathlib.Core.Path.{_≡_, refl, ap, _∙_}
+use mathlib.Core.List.{List}
 use mathlib.Core.Bool.{Bool, true, false, cond}
 use Prim.Native.Nat.{ℕ, _+_, _-_}
+use lib.ListN.{length}
 use lib.Ieee.{Float}
+use Rattle.error.specs.declared.Refusal.{Refusal}
+use Rattle.error.specs.declared.Verdict.{Verdict}
+use Rattle.error.specs.declared.Verdict.the-variants.{Passed, Failed}
+use Rattle.error.specs.Refusals.{first}
+use Rattle.basis.specs.declared.Basis.{Basis}
+use Rattle.basis.specs.Basis.{segmentsOf}
 use Rattle.doubles.specs.Numbers.{nought, one}
+use Rattle.spline.specs.Segment.{segmentOf}
 use Rattle.invert.specs.declared.Place.{Place}
 use Rattle.invert.specs.declared.Inverted.{Inverted}
-use Rattle.invert.specs.declared.Inverted.the-variants.{At}
+use Rattle.invert.specs.declared.Inverted.the-variants.{Refused, OffCurve, At}
 use Rattle.invert.specs.Evaluations.{Evaluations}
 use Rattle.invert.specs.Round.{Rule}
 use Rattle.invert.specs.Rounds.{Placed}
 use Rattle.invert.specs.Segment.{Outcome}
-use Rattle.invert.specs.Answer.{placeOf, answered}
-use Rattle.invert.proofs.Later.{More}
+use Rattle.invert.specs.Answer.{placeOf, answered, inverted}
+use Rattle.steady.specs.declared.Method.{Method}
+use Rattle.steady.specs.Method.{ruleOf}
+use Rattle.invert.proofs.Later.{isEnd, More}
 use Rattle.search.specs.Search.{find}
 use Rattle.search.specs.Trial.{trial}
 use Rattle.search.specs.Twice.{trialTwice}
 use Rattle.search.proofs.Fewer as search
 use Rattle.inverse.specs.declared.Ends.{Ends}
-use Rattle.inverse.specs.EndRule.{atLow, atHigh}
+use Rattle.inverse.specs.declared.EndsBy.{EndsBy}
+use Rattle.inverse.specs.EndRule.{atLow, atHigh, endRuleOf}
 use Rattle.inverse.specs.Curve.{parameterOf, ended, located}
+use Rattle.inverse.specs.Inverse.{inverseUses, inverseBy}
 
 -- q is p with n more counted
 pub record Counted (n : ℕ) (p q : Place) : Type 0 where
@@ -31,10 +44,12 @@ pub record Counted (n : ℕ) (p q : Place) : Type 0 where
   pub upper : q .upper ≡ p .upper
   pub count : q .count ≡ p .count + n
 
--- the two answers are one, or places in a segment that was entered
+-- n fewer where a segment was entered; and where none was, the two answers are one: a refusal, refusal 11 or a place by the end rule
 pub data Fewer (n : ℕ) : Inverted → Inverted → Type 0 where
-  same : {r : Inverted} → Fewer n r r
-  fewer : {p q : Place} → Counted n p q → Fewer n (At p) (At q)
+  refused : {r : Refusal} → Fewer n (Refused r) (Refused r)
+  off-curve : {c : ℕ} → Fewer n (OffCurve c) (OffCurve c)
+  by-end : {p : Place} → isEnd (p .ground) ≡ true → Fewer n (At p) (At p)
+  fewer : {p q : Place} → isEnd (p .ground) ≡ false → Counted n p q → Fewer n (At p) (At q)
 
 either : (n : ℕ) (t : Bool) {a b c d : Inverted} → Fewer n a c → Fewer n b d → Fewer n (cond t a b) (cond t c d)
 either n true p q = p
@@ -53,8 +68,8 @@ counted P n p q m =
     }
 
 told : (P : ℕ → Float → Float) (n : ℕ) {o q : Outcome} → search.Fewer n o q → Fewer n (answered P o) (answered P q)
-told P n search.same = same
-told P n (search.fewer {p} {q} m) = fewer (counted P n p q m)
+told P n search.same = off-curve
+told P n (search.fewer {p} {q} m) = fewer (m .searched) (counted P n p q m)
 
 module _ (R : Rule) (e : Ends) (ev : Evaluations) (g : ℕ → Float → Float) (k : ℕ) (y ε : Float) (limit : ℕ) where
   -- the answer past the refusals, by the crate's trial
@@ -65,4 +80,21 @@ module _ (R : Rule) (e : Ends) (ev : Evaluations) (g : ℕ → Float → Float) 
 
   pub located-fewer : Fewer 2 (located R e ev g k y ε limit) locatedTwice
   unfolding located
-  located-fewer = either 2 (atLow e y) same (either 2 (atHigh e y) same (told (parameterOf k) 2 (search.find-fewer R g y ε limit (e .rising) k ev)))
+  located-fewer = either 2 (atLow e y) (by-end refl) (either 2 (atHigh e y) (by-end refl) (told (parameterOf k) 2 (search.find-fewer R g y ε limit (e .rising) k ev)))
+
+-- ---- the call
+module _ (m : EndsBy) (how : Method) (b : Basis) (y : Float) (ks : List Float) (check : Bool) (limit : ℕ) (ε : Float) where
+  -- as the call would answer if each segment that it enters had its ends evaluated twice
+  abbrev pub twice : Inverted
+  twice =
+      let r = endRuleOf m b ks (segmentOf b ks) in
+      inverted (first (inverseUses b y ks check limit ε)) (locatedTwice (ruleOf how) (r .ends) (r .made) (segmentOf b ks) (segmentsOf b (length ks)) y ε limit)
+
+  pub inverse-fewer : Fewer 2 (inverseBy m how b y ks check limit ε) twice
+  unfolding inverseBy
+  inverse-fewer = go (first (inverseUses b y ks check limit ε))
+    where
+      go : (v : Verdict) → let r = endRuleOf m b ks (segmentOf b ks) in
+          Fewer 2 (inverted v (located (ruleOf how) (r .ends) (r .made) (segmentOf b ks) (segmentsOf b (length ks)) y ε limit)) (inverted v (locatedTwice (ruleOf how) (r .ends) (r .made) (segmentOf b ks) (segmentsOf b (length ks)) y ε limit))
+      go Passed = let r = endRuleOf m b ks (segmentOf b ks) in located-fewer (ruleOf how) (r .ends) (r .made) (segmentOf b ks) (segmentsOf b (length ks)) y ε limit
+      go (Failed r) = refused

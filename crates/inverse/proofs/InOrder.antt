@@ -23,7 +23,7 @@ use Rattle.steady.specs.declared.Method.{Method}
 use Rattle.steady.specs.Method.{ruleOf}
 use Rattle.steady.proofs.Lawful.{lawful-of}
 use Rattle.search.proofs.Sound.{SoundIn, trial-tried}
-use Rattle.inverse.specs.declared.Mode.{Mode}
+use Rattle.inverse.specs.declared.EndsBy.{EndsBy}
 use Rattle.inverse.specs.EndRule.{atLow, atHigh, endRuleOf}
 use Rattle.inverse.specs.Curve.{parameterOf, located}
 use Rattle.inverse.specs.Inverse.{inverseBy}
@@ -31,7 +31,7 @@ use Rattle.inverse.proofs.Curve.{curve-numbers}
 use Rattle.inverse.proofs.Verdicts.{admitted}
 use Rattle.inverse.proofs.Promises.{Pass, Quiet}
 
-module _ (m : Mode) (how : Method) (b : Basis) (y : Float) (ks : List Float) (check : Bool) (limit : ℕ) (ε : Float) where
+module _ (m : EndsBy) (how : Method) (b : Basis) (y : Float) (ks : List Float) (check : Bool) (limit : ℕ) (ε : Float) where
   abbrev k : ℕ
   k = segmentsOf b (length ks)
 

@@ -1,4 +1,4 @@
--- What the inversion of a curve promises on every input, in either mode m of the end rule. b, y, ks, check, limit and ε are the call's arguments: basis, target, knots, order check yes or no, limit, precision. Assumes nothing.
+-- What the inversion of a curve promises on every input, by either rule m of the ends. b, y, ks, check, limit and ε are the call's arguments: basis, target, knots, order check yes or no, limit, precision. Assumes nothing.
 use mathlib.Core.Path.{_≡_, refl, sym, ap, _∙_, subst}
 use mathlib.Core.Bool.{Bool}
 use mathlib.Core.List.{List, []}
@@ -20,18 +20,18 @@ use Rattle.invert.specs.declared.Place.{Place}
 use Rattle.invert.specs.declared.Inverted.{Inverted}
 use Rattle.invert.specs.declared.Inverted.the-variants.{Refused, OffCurve, At}
 use Rattle.invert.specs.Agreed.{Agreed}
-use Rattle.invert.specs.Answer.{inverted, countTold}
+use Rattle.invert.specs.Answer.{inverted, countTold, unlessRefused}
 use Rattle.steady.specs.declared.Method.{Method}
 use Rattle.steady.specs.Method.{ruleOf}
 use Rattle.steady.proofs.Lawful.{lawful-of}
 use Rattle.invert.proofs.Enclosing.{Numbers}
 use Rattle.search.specs.Bound.{bitsOf, boundOf}
 use Rattle.search.proofs.Found.{Holds}
-use Rattle.inverse.specs.declared.Mode.{Mode}
-use Rattle.inverse.specs.declared.Mode.the-variants.{Knots, Curve}
+use Rattle.inverse.specs.declared.EndsBy.{EndsBy}
+use Rattle.inverse.specs.declared.EndsBy.the-variants.{Knots, Curve}
 use Rattle.inverse.specs.EndRule.{EndRule, endRuleOf, own}
 use Rattle.inverse.specs.Curve.{located, evaluations}
-use Rattle.inverse.specs.Inverse.{inverseUses, inverseBy, unlessRefused, evaluationsBy}
+use Rattle.inverse.specs.Inverse.{inverseUses, inverseBy, evaluationsBy}
 use Rattle.inverse.proofs.Told.{Silent, NoneHolds, Supposed}
 use Rattle.inverse.proofs.Facts.{AtPlace, IfOff, Proper, Enclosed, GroundSays, count-is-length, rule-listed, none-unlisted, count-bounded, place-proper, place-enclosed, ground-says, off-only, off-where, place-where}
 use Rattle.inverse.proofs.Calls.{rule-made}
@@ -39,7 +39,7 @@ use Rattle.inverse.proofs.Curve.{segments-some, segments-few, curve-num
 use Rattle.inverse.proofs.Verdicts.{Admitted, admitted}
 
 -- curves that agree at these have the same rule
-rule-same : (m : Mode) (b : Basis) (ks : List Float) (g h : ℕ → Float → Float) → Agreed g h (endRuleOf m b ks g .made) → endRuleOf m b ks g ≡ endRuleOf m b ks h
+rule-same : (m : EndsBy) (b : Basis) (ks : List Float) (g h : ℕ → Float → Float) → Agreed g h (endRuleOf m b ks g .made) → endRuleOf m b ks g ≡ endRuleOf m b ks h
 rule-same Knots b ks g h a = refl
 rule-same Curve b ks g h a = rw (a .0, a .1 .0)
 
@@ -48,7 +48,7 @@ with-pass P Q R (At p) e h = tt
 with-pass P Q R (OffCurve n) e h = (e, h .0, h .1)
 with-pass P Q R (Refused r) e h = tt
 
-module _ (m : Mode) (how : Method) (b : Basis) (y : Float) (ks : List Float) (check : Bool) (limit : ℕ) (ε : Float) where
+module _ (m : EndsBy) (how : Method) (b : Basis) (y : Float) (ks : List Float) (check : Bool) (limit : ℕ) (ε : Float) where
   abbrev pub k : ℕ
   k = segmentsOf b (length ks)
 
@@ -72,7 +72,7 @@ module _ (m : Mode) (how : Method) (b : Basis) (y : Float) (ks : List Float) (ch
   abbrev pub Nowhere : Type 0
   Nowhere = NoneHolds (rule .ends) (rule .made) (segmentOf b ks) k y ε limit
 
-  -- above 12 segments: evaluated starts, and ends, never turn against the rule's direction, and no start lies past its own end
+  -- above 12 segments: evaluated starts, and evaluated ends, never turn against the rule's direction
   abbrev pub Premise : Type 0
   Premise = Supposed (rule .ends) (rule .made) (segmentOf b ks) k y ε limit
 
@@ -130,7 +130,7 @@ module _ (m : Mode) (how : Method) (b : Basis) (y : Float) (ks : List Float) (ch
   pub inverse-proper : AtPlace Proper (inverseBy m how b y ks check limit ε)
   inverse-proper = by-verdict (AtPlace Proper) (λ r. tt) (λ a. place-proper (ruleOf how) (lawful-of how) (rule .ends) (rule .made) (segmentOf b ks) k y ε limit some (fits a) (numbers a))
 
-  -- ---- where a segment was entered, its values at the two bracket ends enclose the target, and so do those at its own ends
+  -- ---- where a segment was entered: its values at the two bracket ends enclose the target, and so do those at its own ends; the local place lies between the bracket's ends
   pub inverse-enclosed : AtPlace (λ p. Enclosed (rule .ends) (rule .made) (segmentOf b ks) k y ε limit (p .ground) p) (inverseBy m how b y ks check limit ε)
   inverse-enclosed =
       by-verdict (AtPlace (λ p. Enclosed (rule .ends) (rule .made) (segmentOf b ks) k y ε limit (p .ground) p)) (λ r. tt) (λ a. place-enclosed (ruleOf how) (lawful-of how) (rule .ends) (rule .made) (segmentOf b ks) k y ε limit some (fits a) (numbers a))
@@ -168,6 +168,8 @@ module _ (m : Mode) (how : Method) (b : Basis) (y : Float) (ks : List Float) (ch
   -- ---- all of these of a reply r, as the call's contract gives it
   pub record Promised (r : Inverted) : Type 0 where
     pub count : countTold r ≡ length (evaluationsBy m how b y ks check limit ε)
+    pub unlisted : (h : ℕ → Float → Float) → Agreed (segmentOf b ks) h (evaluationsBy m how b y ks check limit ε)
+        → r ≡ inverted (first (inverseUses b y ks check limit ε)) (located (ruleOf how) (endRuleOf m b ks h .ends) (endRuleOf m b ks h .made) h k y ε limit)
     pub few : k ≤ 12 → countTold r ≤ own m + (limit + 24)
     pub many : 12 < k → countTold r ≤ own m + (limit + 2 * bitsOf k + 4)
     pub proper : AtPlace Proper r
@@ -181,6 +183,7 @@ module _ (m : Mode) (how : Method) (b : Basis) (y : Float) (ks : List Float) (ch
       subst Promised (sym e)
       (record {
         count = inverse-count;
+        unlisted = inverse-unlisted;
         few = λ h. omega (arith, inverse-bounded, few-bound h);
         many = λ h. omega (arith, inverse-bounded, many-bound h);
         proper = inverse-proper;

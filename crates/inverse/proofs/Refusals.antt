@@ -24,7 +24,7 @@ use Rattle.steady.specs.Method.{ruleOf}
 use Rattle.search.specs.Trial.{trial}
 use Rattle.search.specs.Search.{find}
 use Rattle.inverse.specs.Order.{turnsBack, turningKnot}
-use Rattle.inverse.specs.declared.Mode.{Mode}
+use Rattle.inverse.specs.declared.EndsBy.{EndsBy}
 use Rattle.inverse.specs.EndRule.{atLow, atHigh, endRuleOf}
 use Rattle.inverse.specs.Curve.{parameterOf, located}
 use Rattle.inverse.specs.Inverse.{inverseUses, inverseBy}
@@ -34,7 +34,7 @@ use Rattle.inverse.proofs.TurnsBack.{AgainstAt, turning-first, turns-ba
 abbrev pub earlier : List ℕ
 earlier = through 4 rows
 
-module _ (m : Mode) (how : Method) (b : Basis) (y : Float) (ks : List Float) (check : Bool) (limit : ℕ) (ε : Float) where
+module _ (m : EndsBy) (how : Method) (b : Basis) (y : Float) (ks : List Float) (check : Bool) (limit : ℕ) (ε : Float) where
   abbrev uses : Uses
   uses = inverseUses b y ks check limit ε
 

@@ -22,7 +22,7 @@ use Rattle.steady.specs.declared.Method.the-variants.{Steady}
 use Rattle.steady.specs.Steady.{secant}
 use Rattle.steady.proofs.Lawful.{secant-lawful}
 use Rattle.steady.proofs.Ending.{isSpent}
-use Rattle.inverse.specs.declared.Mode.{Mode}
+use Rattle.inverse.specs.declared.EndsBy.{EndsBy}
 use Rattle.inverse.specs.EndRule.{endRuleOf, own}
 use Rattle.inverse.specs.Inverse.{inverseBy}
 use Rattle.inverse.proofs.Facts.{AtPlace}
@@ -30,7 +30,7 @@ use Rattle.inverse.proofs.Calls.{rule-made}
 use Rattle.inverse.proofs.Pace.{located-timely}
 use Rattle.inverse.proofs.Promises as kept
 
-module _ (m : Mode) (b : Basis) (y : Float) (ks : List Float) (check : Bool) (limit : ℕ) where
+module _ (m : EndsBy) (b : Basis) (y : Float) (ks : List Float) (check : Bool) (limit : ℕ) where
   -- never spent, where the limit is above N; and at most N + 24 evaluations, or N + 2b + 4, and the two of the curve's own ends where the end rule goes by them
   abbrev pub Within : ℕ → Inverted → Type 0
   Within N r = AtPlace (λ p. N < limit → T (not (isSpent (p .ground)))) r × (countTold r ≤ own m + boundOf (segmentsOf b (length ks)) N)

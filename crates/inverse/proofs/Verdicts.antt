@@ -24,7 +24,7 @@ use Rattle.invert.specs.Answer.{asked}
 use Rattle.steady.specs.declared.Method.{Method}
 use Rattle.steady.specs.Method.{ruleOf}
 use Rattle.invert.proofs.Verdicts.{askedRows, lastRows}
-use Rattle.inverse.specs.declared.Mode.{Mode}
+use Rattle.inverse.specs.declared.EndsBy.{EndsBy}
 use Rattle.inverse.specs.Order.{rises, turnsBack, turningKnot}
 use Rattle.inverse.specs.EndRule.{endRuleOf}
 use Rattle.inverse.specs.Curve.{located}
@@ -113,7 +113,7 @@ admitted b y ks check limit ε e =
     }
 
 -- ---- the answer
-module _ (m : Mode) (how : Method) (b : Basis) (y : Float) (ks : List Float) (check : Bool) (limit : ℕ) (ε : Float) {v : Verdict} (e : v ≡ first (inverseUses b y ks check limit ε)) where
+module _ (m : EndsBy) (how : Method) (b : Basis) (y : Float) (ks : List Float) (check : Bool) (limit : ℕ) (ε : Float) {v : Verdict} (e : v ≡ first (inverseUses b y ks check limit ε)) where
   pub refused-is : {r : Refusal} → v ≡ Failed r → Refused r ≡ inverseBy m how b y ks check limit ε
   unfolding inverseBy
   refused-is k = rw (sym e ∙ k)

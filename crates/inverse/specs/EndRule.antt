@@ -10,8 +10,8 @@ use Rattle.basis.specs.Basis.{stepOf, segmentsOf}
 use Rattle.doubles.specs.Numbers.{nought, one}
 use Rattle.invert.specs.Evaluations.{Evaluations, see}
 use Rattle.inverse.specs.declared.Ends.{Ends}
-use Rattle.inverse.specs.declared.Mode.{Mode}
-use Rattle.inverse.specs.declared.Mode.the-variants.{Knots, Curve}
+use Rattle.inverse.specs.declared.EndsBy.{EndsBy}
+use Rattle.inverse.specs.declared.EndsBy.the-variants.{Knots, Curve}
 use Rattle.inverse.specs.Order.{knot, rises}
 
 -- it goes by a direction, and a value at either end. Rising: y ≤ low gives 0, y ≥ high gives 1; otherwise with ≥ and ≤
@@ -40,12 +40,12 @@ curveRule g k =
     let b = see (g (k - 1)) (k - 1) one (a .made) in
     record { ends = record { rising = lt (a .value) (b .value); low = a .value; high = b .value }; made = b .made }
 
--- in each mode; g s is segment s of the curve of the knots ks
-abbrev pub endRuleOf : Mode → Basis → List Float → (ℕ → Float → Float) → EndRule
+-- by each; g s is segment s of the curve of the knots ks
+abbrev pub endRuleOf : EndsBy → Basis → List Float → (ℕ → Float → Float) → EndRule
 endRuleOf Knots b ks g = record { ends = knotEnds b ks; made = [] }
 endRuleOf Curve b ks g = curveRule g (segmentsOf b (length ks))
 
 -- how many evaluations that makes
-abbrev pub own : Mode → ℕ
+abbrev pub own : EndsBy → ℕ
 own Knots = 0
 own Curve = 2

@@ -4,8 +4,6 @@ use mathlib.Core.Bool.{Bool}
 use Prim.Native.Nat.{ℕ}
 use lib.ListN.{length}
 use lib.Ieee.{Float}
-use Rattle.error.specs.declared.Verdict.{Verdict}
-use Rattle.error.specs.declared.Verdict.the-variants.{Passed, Failed}
 use Rattle.error.specs.Refusals.{Uses, first}
 use Rattle.basis.specs.declared.Basis.{Basis}
 use Rattle.basis.specs.Basis.{segmentsOf}
@@ -13,12 +11,12 @@ use Rattle.spline.specs.Segment.{segmentOf}
 use Rattle.spline.specs.Rows.{curveLength, badKnot}
 use Rattle.invert.specs.declared.Inverted.{Inverted}
 use Rattle.invert.specs.Evaluations.{Evaluations}
-use Rattle.invert.specs.Answer.{inverted, asked}
+use Rattle.invert.specs.Answer.{inverted, asked, unlessRefused}
 use Rattle.steady.specs.declared.Method.{Method}
 use Rattle.steady.specs.declared.Method.the-variants.{AsCrate}
 use Rattle.steady.specs.Method.{ruleOf}
-use Rattle.inverse.specs.declared.Mode.{Mode}
-use Rattle.inverse.specs.declared.Mode.the-variants.{Knots}
+use Rattle.inverse.specs.declared.EndsBy.{EndsBy}
+use Rattle.inverse.specs.declared.EndsBy.the-variants.{Knots}
 use Rattle.inverse.specs.Order.{turnBack}
 use Rattle.inverse.specs.EndRule.{endRuleOf}
 use Rattle.inverse.specs.Curve.{located, evaluations}
@@ -26,17 +24,13 @@ use Rattle.inverse.specs.Curve.{located, evaluations}
 abbrev pub inverseUses : Basis → Float → List Float → Bool → ℕ → Float → Uses
 inverseUses b y ks check limit ε = curveLength b (length ks) ++ asked y limit ε ++ (badKnot ks ∷ turnBack check ks ∷ [])
 
-unfoldable pub inverseBy : Mode → Method → Basis → Float → List Float → Bool → ℕ → Float → Inverted
+unfoldable pub inverseBy : EndsBy → Method → Basis → Float → List Float → Bool → ℕ → Float → Inverted
 inverseBy m how b y ks check limit ε =
     let r = endRuleOf m b ks (segmentOf b ks) in
     inverted (first (inverseUses b y ks check limit ε)) (located (ruleOf how) (r .ends) (r .made) (segmentOf b ks) (segmentsOf b (length ks)) y ε limit)
 
 -- the evaluations that the call makes: none where it refuses by a row
-abbrev pub unlessRefused : Verdict → Evaluations → Evaluations
-unlessRefused Passed ev = ev
-unlessRefused (Failed r) ev = []
-
-unfoldable pub evaluationsBy : Mode → Method → Basis → Float → List Float → Bool → ℕ → Float → Evaluations
+unfoldable pub evaluationsBy : EndsBy → Method → Basis → Float → List Float → Bool → ℕ → Float → Evaluations
 evaluationsBy m how b y ks check limit ε =
     let r = endRuleOf m b ks (segmentOf b ks) in
     unlessRefused (first (inverseUses b y ks check limit ε)) (evaluations (ruleOf how) (r .ends) (r .made) (segmentOf b ks) (segmentsOf b (length ks)) y ε limit)

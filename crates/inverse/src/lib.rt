@@ -23,9 +23,18 @@ use steady::Method;
 pub mod order;
 
 // Whether the end rule goes by the knots, as in the crate, or by the curve's own ends.
-pub enum Mode {
+pub enum EndsBy {
     Knots,
     Curve,
+}
+
+// What the caller may choose: whether knots that turn back are refused, the most rounds, the precision, the end rule and the method.
+pub struct Options {
+    pub check: bool,
+    pub limit: u16,
+    pub precision: f64,
+    pub ends: EndsBy,
+    pub method: Method,
 }
 
 // What the end rule goes by: the direction, and a value at either end.
@@ -160,28 +169,28 @@ fn located(
 }
 
 // One call of `located` follows, so that it is inlined.
-fn mode_ends(m: Mode, b: Basis, knots: &[f64], k: usize) -> Ends
+fn ends_by(ends: EndsBy, b: Basis, knots: &[f64], k: usize) -> Ends
     requires { ⌜ (k ≡ segmentsOf b (length (now knots))) × (4 ≤ length (now knots)) × (length (now knots) ≤ 4096) ⌝ }
-    ensures { λ r. ⌜ r ≡ endRuleOf m b (now (knots .entry)) (segmentOf b (now (knots .entry))) .ends ⌝ }
+    ensures { λ r. ⌜ r ≡ endRuleOf ends b (now (knots .entry)) (segmentOf b (now (knots .entry))) .ends ⌝ }
 {
-    match m {
-        Mode::Knots => knot_ends(b, knots),
-        Mode::Curve => curve_ends(b, knots, k),
+    match ends {
+        EndsBy::Knots => knot_ends(b, knots),
+        EndsBy::Curve => curve_ends(b, knots, k),
     }
 }
 
-fn evaluations(m: Mode) -> u32
-    ensures { λ r. ⌜ (r ≡ own m) × (r ≤ 2) ⌝ }
+fn evaluations(ends: EndsBy) -> u32
+    ensures { λ r. ⌜ (r ≡ own ends) × (r ≤ 2) ⌝ }
 {
-    match m {
-        Mode::Knots => 0,
-        Mode::Curve => 2,
+    match ends {
+        EndsBy::Knots => 0,
+        EndsBy::Curve => 2,
     }
 }
 
-// Past the refusals, by the mode's end rule.
+// Past the refusals, by the end rule that is asked for.
 fn locate(
-    m: Mode,
+    ends: EndsBy,
     how: Method,
     b: Basis,
     y: f64,
@@ -190,13 +199,13 @@ fn locate(
     precision: f64,
 ) -> Inverted
     requires { ⌜ (4 ≤ length (now knots)) × (length (now knots) ≤ 4096) × (isNan y ≡ false) × (allInRange (now knots) ≡ true) ⌝ }
-    ensures { λ r. ⌜ r ≡ located (ruleOf how) (endRuleOf m b (now (knots .entry)) (segmentOf b (now (knots .entry))) .ends) (endRuleOf m b (now (knots .entry)) (segmentOf b (now (knots .entry))) .made) (segmentOf b (now (knots .entry))) (segmentsOf b (length (now (knots .entry)))) y precision limit ⌝ }
+    ensures { λ r. ⌜ r ≡ located (ruleOf how) (endRuleOf ends b (now (knots .entry)) (segmentOf b (now (knots .entry))) .ends) (endRuleOf ends b (now (knots .entry)) (segmentOf b (now (knots .entry))) .made) (segmentOf b (now (knots .entry))) (segmentsOf b (length (now (knots .entry)))) y precision limit ⌝ }
 {
     let k = basis::segments(b, knots.len());
     located(
         how,
-        mode_ends(m, b, knots, k),
-        evaluations(m),
+        ends_by(ends, b, knots, k),
+        evaluations(ends),
         b,
         y,
         knots,
@@ -206,23 +215,18 @@ fn locate(
     )
 }
 
-// The place of y on the curve, with the end rule of the mode; with `check`, knots that turn back are refused.
-pub fn spline_inverse_by(
-    m: Mode,
-    how: Method,
-    b: Basis,
-    y: f64,
-    knots: &[f64],
-    check: bool,
-    limit: u16,
-    precision: f64,
-) -> Inverted
-    ensures { λ r. ⌜ r ≡ inverseBy m how b y (now (knots .entry)) check limit precision ⌝ }
+// The place of y on the curve, by these options; where they ask for the order check, knots that turn back are refused.
+pub fn spline_inverse_by(o: Options, b: Basis, y: f64, knots: &[f64]) -> Inverted
+    ensures { λ r. ⌜ r ≡ inverseBy (o .ends) (o .method) b y (now (knots .entry)) (o .check) (o .limit) (o .precision) ⌝ }
 {
-    let v = order::verdict(b, y, knots, check, limit, precision);
+    let v = order::verdict(b, y, knots, o.check, o.limit, o.precision);
     match v {
         Verdict::Failed(r) => Inverted::Refused(r),
-        Verdict::Passed => locate(m, how, b, y, knots, limit, precision),
+        Verdict::Passed => {
+            let ends = o.ends;
+            let method = o.method;
+            locate(ends, method, b, y, knots, o.limit, o.precision)
+        }
     }
 }
 
@@ -237,16 +241,14 @@ pub fn spline_inverse_with(
 ) -> Inverted
     ensures { λ r. ⌜ r ≡ inverseOf b y (now (knots .entry)) check limit precision ⌝ }
 {
-    spline_inverse_by(
-        Mode::Knots,
-        Method::AsCrate,
-        b,
-        y,
-        knots,
-        check,
-        limit,
-        precision,
-    )
+    let o = Options {
+        check: check,
+        limit: limit,
+        precision: precision,
+        ends: EndsBy::Knots,
+        method: Method::AsCrate,
+    };
+    spline_inverse_by(o, b, y, knots)
 }
 
 // The same with limit 32 and precision 1e-10.

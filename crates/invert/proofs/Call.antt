@@ -23,10 +23,10 @@ use Rattle.spline.proofs.Finite.{knots-within, segment-finite}
 use Rattle.invert.specs.declared.Inverted.{Inverted}
 use Rattle.invert.specs.declared.Inverted.the-variants.{Refused, OffCurve, At}
 use Rattle.invert.specs.Agreed.{Agreed}
-use Rattle.invert.specs.Round.{asCrate}
-use Rattle.invert.specs.Segment.{encloses, Entry, enter, outcomeOf}
-use Rattle.invert.specs.Answer.{numberTold, countTold, answered, alone, inverted, precise, inverseSegmentUses, inverseSegmentOf}
-use Rattle.invert.proofs.Rules.{asCrate-lawful}
+use Rattle.invert.specs.Round.{Rule}
+use Rattle.invert.specs.Segment.{encloses, Entry, outside, inside, enter, evaluationsOf, Outcome, off, placed, outcomeOf}
+use Rattle.invert.specs.Answer.{numberTold, countTold, answered, alone, inverted, precise, unlessRefused, inverseSegmentUses, inverseSegmentBy, segmentEvaluationsBy}
+use Rattle.invert.proofs.Rules.{Lawful}
 use Rattle.invert.proofs.Enclosing.{Numbers, Sound}
 use Rattle.invert.proofs.Places.{Tells, missed, hit, enter-tells}
 use Rattle.invert.proofs.Complete.{seenIn, enter-same}
@@ -63,38 +63,47 @@ count-any : (limit : ℕ) (v : Verdict) (a : Inverted) → (v ≡ Passed → cou
 count-any limit Passed a h = h refl
 count-any limit (Failed r) a h = omega arith
 
-module _ (b : Basis) (y : Float) (cv : List Float) (limit : ℕ) (ε : Float) where
+listed : (v : Verdict) (o : Outcome) → countTold (inverted v (answered alone o)) ≡ length (unlessRefused v (evaluationsOf o))
+listed Passed (off ev) = refl
+listed Passed (placed p) = refl
+listed (Failed r) o = refl
+
+seen-is : (e : Entry) → evaluationsOf (outcomeOf e) ≡ seenIn e
+seen-is (outside v ev) = refl
+seen-is (inside p) = refl
+
+module _ (R : Rule) (lawful : Lawful R) (b : Basis) (y : Float) (cv : List Float) (limit : ℕ) (ε : Float) where
   abbrev Passed-all : Type 0
   Passed-all = first (inverseSegmentUses y cv limit ε) ≡ Passed
 
-  said : Passed-all → Tells (segmentOf b cv 0) 0 y ε limit [] (enter asCrate (segmentOf b cv 0) 0 y ε limit [])
+  said : Passed-all → Tells (segmentOf b cv 0) 0 y ε limit [] (enter R (segmentOf b cv 0) 0 y ε limit [])
   said e =
       let p = passes y cv limit ε e in
       let long : 0 * stepOf b + 4 ≤ length cv = omega (arith, zero-mul (stepOf b), p .four) in
-      enter-tells asCrate asCrate-lawful (segmentOf b cv 0) 0 y ε limit [] (segment-numbers b cv 0 y (holds (p .in-range)) long (fails (p .number)))
+      enter-tells R lawful (segmentOf b cv 0) 0 y ε limit [] (segment-numbers b cv 0 y (holds (p .in-range)) long (fails (p .number)))
 
-  answers : Passed-all → inverseSegmentOf b y cv limit ε ≡ answered alone (outcomeOf (enter asCrate (segmentOf b cv 0) 0 y ε limit []))
-  unfolding inverseSegmentOf
-  answers e = ap (λ (v : Verdict). inverted v (answered alone (outcomeOf (enter asCrate (segmentOf b cv 0) 0 y ε limit [])))) e
+  answers : Passed-all → inverseSegmentBy R b y cv limit ε ≡ answered alone (outcomeOf (enter R (segmentOf b cv 0) 0 y ε limit []))
+  unfolding inverseSegmentBy
+  answers e = ap (λ (v : Verdict). inverted v (answered alone (outcomeOf (enter R (segmentOf b cv 0) 0 y ε limit [])))) e
 
-  pub inverse-segment-owed : Passed-all → Owed (segmentOf b cv 0) y ε limit (inverseSegmentOf b y cv limit ε)
-  inverse-segment-owed e = subst (λ (a : Inverted). Owed (segmentOf b cv 0) y ε limit a) (sym (answers e)) (owed (segmentOf b cv 0) y ε limit (enter asCrate (segmentOf b cv 0) 0 y ε limit []) (said e))
+  pub inverse-segment-owed : Passed-all → Owed (segmentOf b cv 0) y ε limit (inverseSegmentBy R b y cv limit ε)
+  inverse-segment-owed e = subst (λ (a : Inverted). Owed (segmentOf b cv 0) y ε limit a) (sym (answers e)) (owed (segmentOf b cv 0) y ε limit (enter R (segmentOf b cv 0) 0 y ε limit []) (said e))
 
   -- at most limit + 2 evaluations, whatever is asked
-  pub inverse-segment-count : countTold (inverseSegmentOf b y cv limit ε) ≤ limit + 2
-  unfolding inverseSegmentOf
+  pub inverse-segment-count : countTold (inverseSegmentBy R b y cv limit ε) ≤ limit + 2
+  unfolding inverseSegmentBy
   inverse-segment-count =
-      let o = enter asCrate (segmentOf b cv 0) 0 y ε limit [] in
+      let o = enter R (segmentOf b cv 0) 0 y ε limit [] in
       count-any limit (first (inverseSegmentUses y cv limit ε)) (answered alone (outcomeOf o)) (λ e. owed-count (segmentOf b cv 0) y ε limit (answered alone (outcomeOf o)) (owed (segmentOf b cv 0) y ε limit o (said e)))
 
   -- 11 where no row applies and the end values do not enclose the target; and nowhere else
-  pub inverse-segment-number : Passed-all → numberTold (inverseSegmentOf b y cv limit ε) ≡ cond (encloses (segmentOf b cv 0 nought) (segmentOf b cv 0 one) y) 0 11
-  inverse-segment-number e = owed-number (segmentOf b cv 0) y ε limit (inverseSegmentOf b y cv limit ε) (inverse-segment-owed e)
+  pub inverse-segment-number : Passed-all → numberTold (inverseSegmentBy R b y cv limit ε) ≡ cond (encloses (segmentOf b cv 0 nought) (segmentOf b cv 0 one) y) 0 11
+  inverse-segment-number e = owed-number (segmentOf b cv 0) y ε limit (inverseSegmentBy R b y cv limit ε) (inverse-segment-owed e)
 
-  pub inverse-segment-eleven : numberTold (inverseSegmentOf b y cv limit ε) ≡ 11 → Passed-all
-  unfolding inverseSegmentOf
+  pub inverse-segment-eleven : numberTold (inverseSegmentBy R b y cv limit ε) ≡ 11 → Passed-all
+  unfolding inverseSegmentBy
   inverse-segment-eleven =
-      let P : Verdict → Type 0 = λ v. numberTold (inverted v (answered alone (outcomeOf (enter asCrate (segmentOf b cv 0) 0 y ε limit [])))) ≡ 11 → v ≡ Passed in
+      let P : Verdict → Type 0 = λ v. numberTold (inverted v (answered alone (outcomeOf (enter R (segmentOf b cv 0) 0 y ε limit [])))) ≡ 11 → v ≡ Passed in
       branch P (ltb (length cv) 4) (λ _ e. absurd (omega arith))
       (λ _. branch P (ltb 4 (length cv)) (λ _ e. absurd (omega arith))
       (λ _. branch P (isNan y) (λ _ e. absurd (omega arith))
@@ -102,8 +111,21 @@ module _ (b : Basis) (y : Float) (cv : List Float) (limit : ℕ) (ε : Float) wh
       (λ _. branch P (eqb limit 0) (λ _ e. absurd (omega arith))
       (λ _. branch P (not (allInRange cv)) (λ _ e. absurd (omega arith)) (λ _ e. refl))))))
 
--- two segments that agree at every listed place get the same answer
-pub inverse-segment-complete : (b c : Basis) (y : Float) (cv dv : List Float) (limit : ℕ) (ε : Float) → first (inverseSegmentUses y cv limit ε) ≡ Passed → first (inverseSegmentUses y dv limit ε) ≡ Passed
-    → Agreed (segmentOf b cv) (segmentOf c dv) (seenIn (enter asCrate (segmentOf b cv 0) 0 y ε limit [])) → inverseSegmentOf b y cv limit ε ≡ inverseSegmentOf c y dv limit ε
-inverse-segment-complete b c y cv dv limit ε p q a =
-    answers b y cv limit ε p ∙ ap (λ (e : Entry). answered alone (outcomeOf e)) (enter-same (segmentOf b cv) (segmentOf c dv) asCrate 0 y ε limit [] a) ∙ sym (answers c y dv limit ε q)
+  -- ---- the list of evaluations
+  -- the count is its length
+  pub inverse-segment-listed : countTold (inverseSegmentBy R b y cv limit ε) ≡ length (segmentEvaluationsBy R b y cv limit ε)
+  unfolding inverseSegmentBy segmentEvaluationsBy
+  inverse-segment-listed = listed (first (inverseSegmentUses y cv limit ε)) (outcomeOf (enter R (segmentOf b cv 0) 0 y ε limit []))
+
+  -- it misses none: a segment h that agrees with this one at every listed place gets the same answer
+  pub inverse-segment-unlisted : (h : ℕ → Float → Float) → Agreed (segmentOf b cv) h (segmentEvaluationsBy R b y cv limit ε)
+      → inverseSegmentBy R b y cv limit ε ≡ inverted (first (inverseSegmentUses y cv limit ε)) (answered alone (outcomeOf (enter R (h 0) 0 y ε limit [])))
+  unfolding inverseSegmentBy segmentEvaluationsBy
+  inverse-segment-unlisted h = go (first (inverseSegmentUses y cv limit ε))
+    where
+      go : (v : Verdict) → Agreed (segmentOf b cv) h (unlessRefused v (evaluationsOf (outcomeOf (enter R (segmentOf b cv 0) 0 y ε limit []))))
+          → inverted v (answered alone (outcomeOf (enter R (segmentOf b cv 0) 0 y ε limit []))) ≡ inverted v (answered alone (outcomeOf (enter R (h 0) 0 y ε limit [])))
+      go Passed a =
+          let e = enter R (segmentOf b cv 0) 0 y ε limit [] in
+          ap (λ (z : Entry). answered alone (outcomeOf z)) (enter-same (segmentOf b cv) h R 0 y ε limit [] (subst (Agreed (segmentOf b cv) h) (seen-is e) a))
+      go (Failed r) a = refl

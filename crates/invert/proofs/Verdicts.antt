@@ -25,11 +25,11 @@ use Rattle.invert.specs.Evaluations.{Evaluations}
 use Rattle.invert.specs.declared.Place.{Place}
 use Rattle.invert.specs.declared.Tried.{Tried}
 use Rattle.invert.specs.declared.Tried.the-variants.{Outside, Inside}
-use Rattle.invert.specs.Round.{asCrate}
+use Rattle.invert.specs.Round.{Rule}
 use Rattle.invert.specs.Segment.{Outcome, off, placed, Entry, enter, outcomeOf}
 use Rattle.invert.specs.Shown.{tried}
 use Rattle.invert.proofs.Turns.{was-outside, was-inside}
-use Rattle.invert.specs.Answer.{answered, alone, inverted, precise, asked, inverseSegmentUses, inverseSegmentOf}
+use Rattle.invert.specs.Answer.{answered, alone, inverted, precise, asked, inverseSegmentUses, inverseSegmentBy}
 
 -- ---- the rows up to those of the target, the precision and the limit, and those after them
 abbrev pub askedRows : List ℕ
@@ -92,29 +92,29 @@ pub refused-by : (v : Verdict) (a : Inverted) (r : Refusal) → Past a → inver
 refused-by Passed a r p e = absurd (subst Past e p)
 refused-by (Failed q) a r p e = let s : q ≡ r = cc in ap Failed s
 
--- ---- what the call answers
-module _ (b : Basis) (y : Float) (cv : List Float) (limit : ℕ) (ε : Float) {v : Verdict} (e : v ≡ first (inverseSegmentUses y cv limit ε)) where
+-- ---- what the call answers, by the rule R
+module _ (R : Rule) (b : Basis) (y : Float) (cv : List Float) (limit : ℕ) (ε : Float) {v : Verdict} (e : v ≡ first (inverseSegmentUses y cv limit ε)) where
   pub four-for : v ≡ Passed → 4 ≤ length cv
   four-for p = omega (arith, passes y cv limit ε (sym e ∙ p) .four)
 
-  pub refused-is : {r : Refusal} → v ≡ Failed r → Refused r ≡ inverseSegmentOf b y cv limit ε
-  unfolding inverseSegmentOf
+  pub refused-is : {r : Refusal} → v ≡ Failed r → Refused r ≡ inverseSegmentBy R b y cv limit ε
+  unfolding inverseSegmentBy
   refused-is d = rw (← e, d)
 
   -- its trial, over the row sums
-  told : v ≡ Passed → (w : Weights) → w ≡ weightsOf (matrixOf b) cv → answered alone (outcomeOf (enter asCrate (hornerOf w) 0 y ε limit [])) ≡ inverseSegmentOf b y cv limit ε
-  unfolding inverseSegmentOf
+  told : v ≡ Passed → (w : Weights) → w ≡ weightsOf (matrixOf b) cv → answered alone (outcomeOf (enter R (hornerOf w) 0 y ε limit [])) ≡ inverseSegmentBy R b y cv limit ε
+  unfolding inverseSegmentBy
   told d w e-w =
-      let told : Weights → Inverted = λ z. answered alone (outcomeOf (enter asCrate (hornerOf z) 0 y ε limit [])) in
+      let told : Weights → Inverted = λ z. answered alone (outcomeOf (enter R (hornerOf z) 0 y ε limit [])) in
       rw (← e, d) (ap told e-w ∙ sym (ap (λ (n : ℕ). told (weightsOf (matrixOf b) (drop n cv))) (zero-mul (stepOf b))))
 
-  module _ (d : v ≡ Passed) (w : Weights) (e-w : w ≡ weightsOf (matrixOf b) cv) (t : Tried) (k : (ev : Evaluations) → length ev ≡ 0 → t ≡ tried (enter asCrate (hornerOf w) 0 y ε limit ev)) where
-    pub place-is : {p : Place} → t ≡ Inside p → At p ≡ inverseSegmentOf b y cv limit ε
+  module _ (d : v ≡ Passed) (w : Weights) (e-w : w ≡ weightsOf (matrixOf b) cv) (t : Tried) (k : (ev : Evaluations) → length ev ≡ 0 → t ≡ tried (enter R (hornerOf w) 0 y ε limit ev)) where
+    pub place-is : {p : Place} → t ≡ Inside p → At p ≡ inverseSegmentBy R b y cv limit ε
     place-is {p} i =
-        let r = was-inside asCrate (hornerOf w) 0 y ε limit [] (sym i ∙ k [] refl) in
+        let r = was-inside R (hornerOf w) 0 y ε limit [] (sym i ∙ k [] refl) in
         ap At (r .2) ∙ sym (ap (λ (z : Entry). answered alone (outcomeOf z)) (r .1)) ∙ told d w e-w
 
-    pub off-is : {x : Float} → t ≡ Outside x → OffSegment 2 ≡ inverseSegmentOf b y cv limit ε
+    pub off-is : {x : Float} → t ≡ Outside x → OffSegment 2 ≡ inverseSegmentBy R b y cv limit ε
     off-is i =
-        let r = was-outside asCrate (hornerOf w) 0 y ε limit [] (sym i ∙ k [] refl) in
+        let r = was-outside R (hornerOf w) 0 y ε limit [] (sym i ∙ k [] refl) in
         sym (ap (λ (z : Entry). answered alone (outcomeOf z)) (r .1)) ∙ told d w e-w

@@ -16,9 +16,10 @@ use Rattle.doubles.specs.Numbers.{nought}
 use Rattle.invert.specs.declared.Place.{Place}
 use Rattle.invert.specs.declared.Inverted.{Inverted}
 use Rattle.invert.specs.declared.Inverted.the-variants.{Refused, OffCurve, At}
-use Rattle.invert.specs.Round.{asCrate}
+use Rattle.invert.specs.Evaluations.{Evaluations}
+use Rattle.invert.specs.Round.{Rule, asCrate}
 use Rattle.invert.specs.Rounds.{Placed}
-use Rattle.invert.specs.Segment.{Outcome, off, placed, enter, outcomeOf}
+use Rattle.invert.specs.Segment.{Outcome, off, placed, evaluationsOf, enter, outcomeOf}
 
 -- ---- what an answer tells
 -- the refusal's number; 0 for a place
@@ -62,7 +63,7 @@ asked y limit ε = (NotANumber, isNan y) ∷ (BadPrecision, not (precise ε)) �
 abbrev pub inverseSegmentUses : Float → List Float → ℕ → Float → Uses
 inverseSegmentUses y cv limit ε = segmentLength (length cv) ++ asked y limit ε ++ (badKnot cv ∷ [])
 
--- ---- the call
+-- ---- the call, by the rule R
 -- the defaults: 32 rounds, and the double nearest to 1e-10
 abbrev pub defaultLimit : ℕ
 defaultLimit = 32
@@ -70,5 +71,17 @@ defaultLimit = 32
 abbrev pub defaultPrecision : Float
 defaultPrecision = ofBits binary64 0x3ddb_7cdf_d9d7_bdbb
 
-unfoldable pub inverseSegmentOf : Basis → Float → List Float → ℕ → Float → Inverted
-inverseSegmentOf b y cv limit ε = inverted (first (inverseSegmentUses y cv limit ε)) (answered alone (outcomeOf (enter asCrate (segmentOf b cv 0) 0 y ε limit [])))
+unfoldable pub inverseSegmentBy : Rule → Basis → Float → List Float → ℕ → Float → Inverted
+inverseSegmentBy R b y cv limit ε = inverted (first (inverseSegmentUses y cv limit ε)) (answered alone (outcomeOf (enter R (segmentOf b cv 0) 0 y ε limit [])))
+
+-- the evaluations that it makes, the latest first: none where it refuses by a row
+abbrev pub unlessRefused : Verdict → Evaluations → Evaluations
+unlessRefused Passed ev = ev
+unlessRefused (Failed r) ev = []
+
+unfoldable pub segmentEvaluationsBy : Rule → Basis → Float → List Float → ℕ → Float → Evaluations
+segmentEvaluationsBy R b y cv limit ε = unlessRefused (first (inverseSegmentUses y cv limit ε)) (evaluationsOf (outcomeOf (enter R (segmentOf b cv 0) 0 y ε limit [])))
+
+-- as the crate inverts
+abbrev pub inverseSegmentOf : Basis → Float → List Float → ℕ → Float → Inverted
+inverseSegmentOf = inverseSegmentBy asCrate

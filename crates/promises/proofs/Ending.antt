@@ -13,13 +13,13 @@ use Rattle.invert.specs.declared.Inverted.{Inverted}
 use Rattle.invert.specs.Answer.{defaultPrecision}
 use Rattle.steady.specs.declared.Method.{Method}
 use Rattle.steady.specs.declared.Method.the-variants.{Steady}
-use Rattle.inverse.specs.declared.Mode.{Mode}
+use Rattle.inverse.specs.declared.EndsBy.{EndsBy}
 use Rattle.inverse.specs.Inverse.{inverseBy}
 use Rattle.inverse.proofs.Timely.{Within, default-timely, any-timely}
 use Rattle.inverse.proofs.spline_inverse_by.Reads as spline_inverse_by
 use Rattle.promises.specs.Calls.{Keeps}
 
-module _ (m : Mode) (how : Method) (b : Basis) (y : Float) (ks : List Float) (check : Bool) (limit : ℕ) (ε : Float) (r : Inverted) (p : r ≡ inverseBy m how b y ks check limit ε) (s : how ≡ Steady) where
+module _ (m : EndsBy) (how : Method) (b : Basis) (y : Float) (ks : List Float) (check : Bool) (limit : ℕ) (ε : Float) (r : Inverted) (p : r ≡ inverseBy m how b y ks check limit ε) (s : how ≡ Steady) where
   steadily : r ≡ inverseBy m Steady b y ks check limit ε
   steadily = p ∙ ap (λ (h : Method). inverseBy m h b y ks check limit ε) s
 
@@ -30,10 +30,10 @@ module _ (m : Mode) (how : Method) (b : Basis) (y : Float) (ks : List Float) (ch
   by-any f c l = subst (Within m b y ks check limit 59) (sym steadily) (any-timely m b y ks check limit ε f c l)
 
 -- with the default precision
-pub spline-inverse-by-timely : Keeps spline_inverse_by.Learnt (λ κs a z e. (a .1 .0) ≡ Steady → (a .1 .1 .1 .1 .1 .1 .1 .0) ≡ defaultPrecision → Within (a .0) (a .1 .1 .0) (a .1 .1 .1 .0) (now (a .1 .1 .1 .1 .0)) (a .1 .1 .1 .1 .1 .0) (a .1 .1 .1 .1 .1 .1 .0) 39 z)
-spline-inverse-by-timely κs a z e p = by-default (a .0) (a .1 .0) (a .1 .1 .0) (a .1 .1 .1 .0) (now (a .1 .1 .1 .1 .0)) (a .1 .1 .1 .1 .1 .0) (a .1 .1 .1 .1 .1 .1 .0) (a .1 .1 .1 .1 .1 .1 .1 .0) z p
+pub spline-inverse-by-timely : Keeps spline_inverse_by.Learnt (λ κs a z e. a .0 .method ≡ Steady → a .0 .precision ≡ defaultPrecision → Within (a .0 .ends) (a .1 .0) (a .1 .1 .0) (now (a .1 .1 .1 .0)) (a .0 .check) (a .0 .limit) 39 z)
+spline-inverse-by-timely κs a z e p = by-default (a .0 .ends) (a .0 .method) (a .1 .0) (a .1 .1 .0) (now (a .1 .1 .1 .0)) (a .0 .check) (a .0 .limit) (a .0 .precision) z p
 
 -- with any of 2^-50 at least
 pub spline-inverse-by-any-timely : Keeps spline_inverse_by.Learnt
-    (λ κs a z e. (a .1 .0) ≡ Steady → T (fits binary64 (a .1 .1 .1 .1 .1 .1 .1 .0)) → T (clear (a .1 .1 .1 .1 .1 .1 .1 .0)) → T (le (fin false 1 (negsuc 49)) (a .1 .1 .1 .1 .1 .1 .1 .0)) → Within (a .0) (a .1 .1 .0) (a .1 .1 .1 .0) (now (a .1 .1 .1 .1 .0)) (a .1 .1 .1 .1 .1 .0) (a .1 .1 .1 .1 .1 .1 .0) 59 z)
-spline-inverse-by-any-timely κs a z e p = by-any (a .0) (a .1 .0) (a .1 .1 .0) (a .1 .1 .1 .0) (now (a .1 .1 .1 .1 .0)) (a .1 .1 .1 .1 .1 .0) (a .1 .1 .1 .1 .1 .1 .0) (a .1 .1 .1 .1 .1 .1 .1 .0) z p
+    (λ κs a z e. a .0 .method ≡ Steady → T (fits binary64 (a .0 .precision)) → T (clear (a .0 .precision)) → T (le (fin false 1 (negsuc 49)) (a .0 .precision)) → Within (a .0 .ends) (a .1 .0) (a .1 .1 .0) (now (a .1 .1 .1 .0)) (a .0 .check) (a .0 .limit) 59 z)
+spline-inverse-by-any-timely κs a z e p = by-any (a .0 .ends) (a .0 .method) (a .1 .0) (a .1 .1 .0) (now (a .1 .1 .1 .0)) (a .0 .check) (a .0 .limit) (a .0 .precision) z p

@@ -25,10 +25,10 @@ use Rattle.spline.proofs.spline.Reads as spline
 use Rattle.spline.proofs.spline_segment.Reads as spline_segment
 use Rattle.invert.specs.declared.Inverted.the-variants as I
 use Rattle.steady.specs.declared.Method.the-variants.{AsCrate}
-use Rattle.invert.specs.Round.{asCrate}
+use Rattle.invert.specs.Round.{Rule, asCrate}
 use Rattle.invert.specs.Segment.{Outcome, enter, outcomeOf}
-use Rattle.inverse.specs.declared.Mode.the-variants.{Knots}
-use Rattle.invert.specs.Answer.{answered, inverted, alone, inverseSegmentUses, inverseSegmentOf, defaultLimit, defaultPrecision}
+use Rattle.inverse.specs.declared.EndsBy.the-variants.{Knots}
+use Rattle.invert.specs.Answer.{answered, inverted, alone, inverseSegmentUses, inverseSegmentBy, defaultLimit, defaultPrecision}
 use Rattle.invert.proofs.Verdicts.{answered-past, refused-by}
 use Rattle.invert.proofs.spline_inverse_segment_with.Reads as spline_inverse_segment_with
 use Rattle.invert.proofs.spline_inverse_segment.Reads as spline_inverse_segment
@@ -111,10 +111,10 @@ pub segment-value-refused : (b : Basis) (x : Float) (cv : List Float) (r : Refus
 unfolding splineSegmentOf
 segment-value-refused b x cv r = two-ways (by-evaluated (first (splineSegmentUses x cv)) (segmentValue (matrixOf b) cv x) r) (by-first (splineSegmentUses x cv) r)
 
-pub segment-place-refused : (b : Basis) (y : Float) (cv : List Float) (limit : ℕ) (ε : Float) (r : Refusal) → Exactly (inverseSegmentOf b y cv limit ε ≡ I.Refused r) (First (inverseSegmentUses y cv limit ε) rows r)
-unfolding inverseSegmentOf
-segment-place-refused b y cv limit ε r =
-    two-ways (by-inverted (first (inverseSegmentUses y cv limit ε)) alone (outcomeOf (enter asCrate (segmentOf b cv 0) 0 y ε limit [])) r) (by-first (inverseSegmentUses y cv limit ε) r)
+pub segment-place-refused : (R : Rule) (b : Basis) (y : Float) (cv : List Float) (limit : ℕ) (ε : Float) (r : Refusal) → Exactly (inverseSegmentBy R b y cv limit ε ≡ I.Refused r) (First (inverseSegmentUses y cv limit ε) rows r)
+unfolding inverseSegmentBy
+segment-place-refused R b y cv limit ε r =
+    two-ways (by-inverted (first (inverseSegmentUses y cv limit ε)) alone (outcomeOf (enter R (segmentOf b cv 0) 0 y ε limit [])) r) (by-first (inverseSegmentUses y cv limit ε) r)
 
 pub place-refused : (b : Basis) (y : Float) (ks : List Float) (check : Bool) (limit : ℕ) (ε : Float) (r : Refusal) → Exactly (inverseOf b y ks check limit ε ≡ I.Refused r) (First (inverseUses b y ks check limit ε) rows r)
 place-refused b y ks check limit ε r = (inverse-refused-only Knots AsCrate b y ks check limit ε r, inverse-refused-where Knots AsCrate b y ks check limit ε r)
@@ -139,15 +139,15 @@ spline-segment-refuses κs a z e p r = carried p (segment-value-refused (a .0) (
 
 pub spline-inverse-segment-with-refuses : Keeps spline_inverse_segment_with.Learnt
     (λ κs a z e. (r : Refusal) → Exactly (z ≡ I.Refused r) (First (inverseSegmentUses (a .1 .0) (now (a .1 .1 .0)) (a .1 .1 .1 .0) (a .1 .1 .1 .1 .0)) rows r))
-spline-inverse-segment-with-refuses κs a z e p r = carried p (segment-place-refused (a .0) (a .1 .0) (now (a .1 .1 .0)) (a .1 .1 .1 .0) (a .1 .1 .1 .1 .0) r)
+spline-inverse-segment-with-refuses κs a z e p r = carried p (segment-place-refused asCrate (a .0) (a .1 .0) (now (a .1 .1 .0)) (a .1 .1 .1 .0) (a .1 .1 .1 .1 .0) r)
 
 pub spline-inverse-segment-refuses : Keeps spline_inverse_segment.Learnt
     (λ κs a z e. (r : Refusal) → Exactly (z ≡ I.Refused r) (First (inverseSegmentUses (a .1 .0) (now (a .1 .1 .0)) defaultLimit defaultPrecision) rows r))
-spline-inverse-segment-refuses κs a z e p r = carried p (segment-place-refused (a .0) (a .1 .0) (now (a .1 .1 .0)) defaultLimit defaultPrecision r)
+spline-inverse-segment-refuses κs a z e p r = carried p (segment-place-refused asCrate (a .0) (a .1 .0) (now (a .1 .1 .0)) defaultLimit defaultPrecision r)
 
 pub spline-inverse-by-refuses : Keeps spline_inverse_by.Learnt
-    (λ κs a z e. (r : Refusal) → Exactly (z ≡ I.Refused r) (First (inverseUses (a .1 .1 .0) (a .1 .1 .1 .0) (now (a .1 .1 .1 .1 .0)) (a .1 .1 .1 .1 .1 .0) (a .1 .1 .1 .1 .1 .1 .0) (a .1 .1 .1 .1 .1 .1 .1 .0)) rows r))
-spline-inverse-by-refuses κs a z e p r = carried p (inverse-refused-only (a .0) (a .1 .0) (a .1 .1 .0) (a .1 .1 .1 .0) (now (a .1 .1 .1 .1 .0)) (a .1 .1 .1 .1 .1 .0) (a .1 .1 .1 .1 .1 .1 .0) (a .1 .1 .1 .1 .1 .1 .1 .0) r, inverse-refused-where (a .0) (a .1 .0) (a .1 .1 .0) (a .1 .1 .1 .0) (now (a .1 .1 .1 .1 .0)) (a .1 .1 .1 .1 .1 .0) (a .1 .1 .1 .1 .1 .1 .0) (a .1 .1 .1 .1 .1 .1 .1 .0) r)
+    (λ κs a z e. (r : Refusal) → Exactly (z ≡ I.Refused r) (First (inverseUses (a .1 .0) (a .1 .1 .0) (now (a .1 .1 .1 .0)) (a .0 .check) (a .0 .limit) (a .0 .precision)) rows r))
+spline-inverse-by-refuses κs a z e p r = carried p (inverse-refused-only (a .0 .ends) (a .0 .method) (a .1 .0) (a .1 .1 .0) (now (a .1 .1 .1 .0)) (a .0 .check) (a .0 .limit) (a .0 .precision) r, inverse-refused-where (a .0 .ends) (a .0 .method) (a .1 .0) (a .1 .1 .0) (now (a .1 .1 .1 .0)) (a .0 .check) (a .0 .limit) (a .0 .precision) r)
 
 pub spline-inverse-with-refuses : Keeps spline_inverse_with.Learnt
     (λ κs a z e. (r : Refusal) → Exactly (z ≡ I.Refused r) (First (inverseUses (a .0) (a .1 .0) (now (a .1 .1 .0)) (a .1 .1 .1 .0) (a .1 .1 .1 .1 .0) (a .1 .1 .1 .1 .1 .0)) rows r))

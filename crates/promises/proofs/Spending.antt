@@ -24,7 +24,7 @@ use Rattle.invert.specs.Evaluations.{Evaluations}
 use Rattle.invert.specs.Round.{Rule, narrow, Turn, found, on, turn, probed, settled}
 use Rattle.invert.specs.Rounds.{Placed, rounds}
 use Rattle.invert.specs.Segment.{encloses, near, start, opening, entered, Entry, outside, inside, enter, Outcome, off, placed, orElse, evaluationsOf}
-use Rattle.invert.specs.Answer.{answered, inverted, defaultLimit, defaultPrecision}
+use Rattle.invert.specs.Answer.{answered, inverted, unlessRefused, defaultLimit, defaultPrecision}
 use Rattle.invert.proofs.Ends.{both}
 use Rattle.search.specs.Bound.{bitsOf}
 use Rattle.search.specs.Search.{before, Trial, tries, last, halve, find}
@@ -32,11 +32,11 @@ use Rattle.search.specs.Trial.{trial}
 use Rattle.steady.specs.declared.Method.{Method}
 use Rattle.steady.specs.declared.Method.the-variants.{AsCrate}
 use Rattle.steady.specs.Method.{ruleOf}
-use Rattle.inverse.specs.declared.Mode.{Mode}
-use Rattle.inverse.specs.declared.Mode.the-variants.{Knots}
+use Rattle.inverse.specs.declared.EndsBy.{EndsBy}
+use Rattle.inverse.specs.declared.EndsBy.the-variants.{Knots}
 use Rattle.inverse.specs.EndRule.{atLow, atHigh, EndRule, endRuleOf}
 use Rattle.inverse.specs.Curve.{parameterOf, ended, located, evaluations}
-use Rattle.inverse.specs.Inverse.{inverseUses, inverseBy, unlessRefused, evaluationsBy}
+use Rattle.inverse.specs.Inverse.{inverseUses, inverseBy, evaluationsBy}
 use Rattle.inverse.proofs.Facts.{AtPlace}
 use Rattle.inverse.proofs.spline_inverse_by.Reads as spline_inverse_by
 use Rattle.inverse.proofs.spline_inverse_with.Reads as spline_inverse_with
@@ -131,7 +131,7 @@ find-rounded : (R : Rule) (g : ℕ → Float → Float) (y ε : Float) (limit : 
 find-rounded R g y ε limit rising k ev = find-all limit (trial R g y ε limit) (λ s ev. enter-rounded R (g s) s y ε limit ev) y rising k ev
 
 -- ---- the call
-module _ (m : Mode) (how : Method) (b : Basis) (y : Float) (ks : List Float) (check : Bool) (limit : ℕ) (ε : Float) where
+module _ (m : EndsBy) (how : Method) (b : Basis) (y : Float) (ks : List Float) (check : Bool) (limit : ℕ) (ε : Float) where
   abbrev rule : EndRule
   rule = endRuleOf m b ks (segmentOf b ks)
 
@@ -159,8 +159,8 @@ module _ (m : Mode) (how : Method) (b : Basis) (y : Float) (ks : List Float) (ch
   reply-spent : (r : Inverted) → r ≡ inverseBy m how b y ks check limit ε → AllRounds r
   reply-spent r e = subst AllRounds (sym e) inverse-spent
 
-pub spline-inverse-by-spent : Keeps spline_inverse_by.Learnt (λ κs a z e. AllRounds (a .0) (a .1 .0) (a .1 .1 .0) (a .1 .1 .1 .0) (now (a .1 .1 .1 .1 .0)) (a .1 .1 .1 .1 .1 .0) (a .1 .1 .1 .1 .1 .1 .0) (a .1 .1 .1 .1 .1 .1 .1 .0) z)
-spline-inverse-by-spent κs a z e p = reply-spent (a .0) (a .1 .0) (a .1 .1 .0) (a .1 .1 .1 .0) (now (a .1 .1 .1 .1 .0)) (a .1 .1 .1 .1 .1 .0) (a .1 .1 .1 .1 .1 .1 .0) (a .1 .1 .1 .1 .1 .1 .1 .0) z p
+pub spline-inverse-by-spent : Keeps spline_inverse_by.Learnt (λ κs a z e. AllRounds (a .0 .ends) (a .0 .method) (a .1 .0) (a .1 .1 .0) (now (a .1 .1 .1 .0)) (a .0 .check) (a .0 .limit) (a .0 .precision) z)
+spline-inverse-by-spent κs a z e p = reply-spent (a .0 .ends) (a .0 .method) (a .1 .0) (a .1 .1 .0) (now (a .1 .1 .1 .0)) (a .0 .check) (a .0 .limit) (a .0 .precision) z p
 
 pub spline-inverse-with-spent : Keeps spline_inverse_with.Learnt (λ κs a z e. AllRounds Knots AsCrate (a .0) (a .1 .0) (now (a .1 .1 .0)) (a .1 .1 .1 .0) (a .1 .1 .1 .1 .0) (a .1 .1 .1 .1 .1 .0) z)
 spline-inverse-with-spent κs a z e p = reply-spent Knots AsCrate (a .0) (a .1 .0) (now (a .1 .1 .0)) (a .1 .1 .1 .0) (a .1 .1 .1 .1 .0) (a .1 .1 .1 .1 .1 .0) z p

@@ -22,7 +22,7 @@ use Rattle.invert.specs.declared.Inverted.{Inverted}
 use Rattle.invert.specs.declared.Inverted.the-variants as I
 use Rattle.invert.specs.Answer.{defaultLimit, defaultPrecision}
 use Rattle.inverse.specs.Inverse.{inverseBy, inverseOf, inverseEvaluations}
-use Rattle.inverse.specs.declared.Mode.the-variants.{Curve}
+use Rattle.inverse.specs.declared.EndsBy.the-variants.{Curve}
 use Rattle.steady.specs.declared.Method.the-variants.{AsCrate}
 use Rattle.convert.specs.Conversion.{Conversion, gives, refuses, convertedOf}
 

@@ -1,5 +1,6 @@
 -- A direction: `Along rising a b` says that a is not past b. What it gives of a segment whose ends enclose the target. Assumes nothing.
 use mathlib.Core.Path.{_≡_, refl, subst}
+use mathlib.Core.Logic.{_⊎_, inl, inr}
 use mathlib.Core.Bool.{Bool, true, false, not, cond}
 use Prim.Native.Nat.{ℕ, zero, suc, _+_, _-_, _<_}
 use native.Mathlib.Omega.{arith}
@@ -7,8 +8,9 @@ use lib.Dec.{T}
 use lib.Ieee.{Float, lt, le, isNan}
 use lib.Ieee.Fits.{and-l, and-r}
 use Rattle.doubles.proofs.Tests.{branch}
-use Rattle.doubles.proofs.Order.{not-lt→le, le-trans-float, lt-le-absurd}
+use Rattle.doubles.proofs.Order.{lt→le, not-lt→le, le-trans-float, lt-le-absurd}
 use Rattle.invert.specs.Segment.{encloses}
+use Rattle.invert.proofs.Places.{encloses-of}
 use Rattle.search.specs.Search.{before}
 
 abbrev pub Along : Bool → Float → Float → Type 0
@@ -18,15 +20,24 @@ pub along-trans : (rising : Bool) (a b c : Float) → Along rising a b → Along
 along-trans true a b c h k = le-trans-float a b c h k
 along-trans false a b c h k = le-trans-float c b a k h
 
-pub enclosed : (rising : Bool) (a b y : Float) → Along rising a b → T (encloses a b y) → Along rising a y × Along rising y b
-enclosed true a b y o =
-    branch (λ (z : Bool). T z → T (le a y) × T (le y b)) (lt a b)
-    (λ _ h. (and-l (le a y) (le y b) h, and-r (le a y) (le y b) h))
-    (λ _ h. (le-trans-float a b y o (and-l (le b y) (le y a) h), le-trans-float y a b (and-r (le b y) (le y a) h) o))
-enclosed false a b y o =
-    branch (λ (z : Bool). T z → T (le y a) × T (le b y)) (lt a b)
-    (λ l h. absurd (lt-le-absurd a b l o))
-    (λ _ h. (and-r (le b y) (le y a) h, and-l (le b y) (le y a) h))
+-- a target that two values enclose lies between them in the direction, or against it
+pub held-by : (rising : Bool) (a b y : Float) → T (encloses a b y) → (Along rising a y × Along rising y b) ⊎ (Along rising b y × Along rising y a)
+held-by true a b y =
+    branch (λ (z : Bool). T z → (T (le a y) × T (le y b)) ⊎ (T (le b y) × T (le y a))) (lt a b)
+    (λ _ h. inl (and-l (le a y) (le y b) h, and-r (le a y) (le y b) h))
+    (λ _ h. inr (and-l (le b y) (le y a) h, and-r (le b y) (le y a) h))
+held-by false a b y =
+    branch (λ (z : Bool). T z → (T (le y a) × T (le b y)) ⊎ (T (le y b) × T (le a y))) (lt a b)
+    (λ _ h. inr (and-r (le a y) (le y b) h, and-l (le a y) (le y b) h))
+    (λ _ h. inl (and-r (le b y) (le y a) h, and-l (le b y) (le y a) h))
+
+pub other-way : (rising : Bool) (v0 v1 y : Float) → T (not (isNan v0)) → T (not (isNan v1)) → Along rising y v0 → Along rising v1 y → T (encloses v0 v1 y)
+other-way true v0 v1 y m n a b = encloses-of false v0 v1 y m n a b
+other-way false v0 v1 y m n a b = encloses-of true v0 v1 y m n a b
+
+pub before-along : (rising : Bool) (y v : Float) → T (before rising y v) → Along rising y v
+before-along true y v h = lt→le y v h
+before-along false y v h = lt→le v y h
 
 pub before-not : (rising : Bool) (y v : Float) → T (before rising y v) → Along rising v y → ⊥
 before-not true y v h k = lt-le-absurd y v h k
@@ -46,3 +57,11 @@ far rising v k h i (suc d) j e l =
 
 pub ahead : (rising : Bool) (v : ℕ → Float) (k : ℕ) → ((i : ℕ) → suc i < k → Along rising (v i) (v (suc i))) → (i j : ℕ) → i < j → j < k → Along rising (v i) (v j)
 ahead rising v k h i j l m = far rising v k h i (j - suc i) j (omega arith) m
+
+-- a target at the start is enclosed, wherever the end lies
+pub at-start : (rising : Bool) (v0 v1 y : Float) → T (not (isNan y)) → T (not (isNan v0)) → T (not (isNan v1)) → Along rising v0 y → Along rising y v0 → T (encloses v0 v1 y)
+at-start rising v0 v1 y o m n a b = go (before rising y v1) (λ h. h) (λ h. h)
+  where
+    go : (t : Bool) → (T t → T (before rising y v1)) → (T (not t) → T (not (before rising y v1))) → T (encloses v0 v1 y)
+    go true f g = encloses-of rising v0 v1 y m n a (before-along rising y v1 (f tt))
+    go false f g = other-way rising v0 v1 y m n b (not-before rising y v1 o n (g tt))

@@ -18,7 +18,7 @@ use Rattle.invert.proofs.Ends.{both}
 use Rattle.invert.proofs.Places.{encloses-of}
 use Rattle.search.specs.Bound.{bitsOf}
 use Rattle.search.specs.Search.{before, Trial, tries, last, halve, find}
-use Rattle.search.proofs.Along.{Along, along-trans, enclosed, before-not, not-before, ahead}
+use Rattle.search.proofs.Along.{Along, along-trans, held-by, other-way, at-start, before-along, before-not, not-before, ahead}
 use Rattle.search.proofs.Digits.{bits-enough}
 
 -- ---- what is said of a curve g of k segments
@@ -31,11 +31,10 @@ module _ (g : ℕ → Float → Float) (y : Float) (k : ℕ) where
   abbrev pub Nothing : ℕ → ℕ → Type 0
   Nothing s n = (j : ℕ) → s ≤ j → j < s + n → T (not (Holds j))
 
-  -- neither the starts nor the ends turn against the direction, and no start lies past its own end
+  -- neither the starts nor the ends turn against the direction
   pub record Straight (rising : Bool) : Type 0 where
     pub starts : (i : ℕ) → suc i < k → Along rising (g i nought) (g (suc i) nought)
     pub ends : (i : ℕ) → suc i < k → Along rising (g i one) (g (suc i) one)
-    pub own : (i : ℕ) → i < k → Along rising (g i nought) (g i one)
 
 -- ---- what a search comes to. `Good s base p` stands for what the inversion of segment s tells of its place p, `base` evaluations having been made before its rounds
 module _ (g : ℕ → Float → Float) (y : Float) (k : ℕ) (Good : ℕ → ℕ → Placed → Type 0) where
@@ -102,9 +101,16 @@ module _ (g : ℕ → Float → Float) (y : Float) (k : ℕ) (Good : ℕ → ℕ
             | inl q ↦ elim (eq-or-lt-of-le q) [
               | inl p ↦ subst (λ (i : ℕ). T (not (Holds g y k i))) p h
               | inr p ↦ not-T (Holds g y k j) (λ H.
-                  before-not rising y (g m nought) b
-                  (along-trans rising (g m nought) (g j nought) y (ahead rising (λ i. g i nought) k (S .starts) m j p (omega arith))
-                  (enclosed rising (g j nought) (g j one) y (S .own j (omega arith)) H .0)))
+                  let M : m < k = omega arith in
+                  let J : j < k = omega arith in
+                  let v = numbers m M in
+                  elim (held-by rising (g j nought) (g j one) y H) [
+                    | inl q ↦ before-not rising y (g m nought) b
+                        (along-trans rising (g m nought) (g j nought) y (ahead rising (λ i. g i nought) k (S .starts) m j p J) (q .0))
+                    | inr q ↦ T-not (Holds g y k m) h
+                        (other-way rising (g m nought) (g m one) y (v .0) (v .1) (before-along rising y (g m nought) b)
+                        (along-trans rising (g m one) (g j one) y (ahead rising (λ i. g i one) k (S .ends) m j p J) (q .0)))
+                  ])
             ]
             | inr q ↦ r S (omega (arith, two-pow-succ n)) j a q
           ]
@@ -119,9 +125,12 @@ module _ (g : ℕ → Float → Float) (y : Float) (k : ℕ) (Good : ℕ → ℕ
             | inl q ↦ elim (eq-or-lt-of-le q) [
               | inl p ↦ subst (λ (i : ℕ). T (not (Holds g y k i))) (sym p) h
               | inr p ↦ not-T (Holds g y k j) (λ H.
+                  let a : Along rising (g m nought) y = not-before rising y (g m nought) number (v .0) b in
                   T-not (Holds g y k m) h
-                  (encloses-of rising (g m nought) (g m one) y (v .0) (v .1) (not-before rising y (g m nought) number (v .0) b)
-                  (along-trans rising y (g j one) (g m one) (enclosed rising (g j nought) (g j one) y (S .own j (omega arith)) H .1) (ahead rising (λ i. g i one) k (S .ends) j m p M))))
+                  (elim (held-by rising (g j nought) (g j one) y H) [
+                    | inl q ↦ encloses-of rising (g m nought) (g m one) y (v .0) (v .1) a (along-trans rising y (g j one) (g m one) (q .1) (ahead rising (λ i. g i one) k (S .ends) j m p M))
+                    | inr q ↦ at-start rising (g m nought) (g m one) y number (v .0) (v .1) a (along-trans rising y (g j nought) (g m nought) (q .1) (ahead rising (λ i. g i nought) k (S .starts) j m p M))
+                  ]))
             ]
             | inr q ↦ r S (omega (arith, two-pow-succ n)) j q (omega arith)
           ]

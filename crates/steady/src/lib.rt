@@ -4,10 +4,15 @@ ghost use Prim.Native.Nat.{_≤_, _<_, _+_};
 ghost use mathlib.Core.Bool.{true};
 ghost use Rattle.invert.specs.Round.{toward, weighed};
 ghost use Rattle.invert.specs.Shown.{repeatsAfter, countAfter};
+ghost use Rattle.invert.specs.Answer.{inverseSegmentBy};
+ghost use Rattle.steady.specs.Method.{ruleOf};
 ghost use Rattle.steady.specs.Steady.{inner};
 ghost use Rattle.steady.specs.Shown.{ChosenIs, TurnIs, RoundsIs, EnteredIs, EnteredBy, EnterIs};
+use basis::Basis;
+use error::Verdict;
 use invert::Bracket;
 use invert::Ground;
+use invert::Inverted;
 use invert::Place;
 use invert::State;
 use invert::Tried;
@@ -213,4 +218,36 @@ pub fn enter(
         return Tried::Inside(entered_by(how, w, s, y, precision, limit, v0, v1, count + 2));
     }
     Tried::Outside(v0)
+}
+
+// The place of y on the segment whose four knots are cv, by the method that is asked for.
+pub fn spline_inverse_segment_by(
+    b: Basis,
+    y: f64,
+    cv: &[f64],
+    limit: u16,
+    precision: f64,
+    how: Method,
+) -> Inverted
+    ensures { λ r. ⌜ r ≡ inverseSegmentBy (ruleOf how) b y (now (cv .entry)) limit precision ⌝ }
+{
+    let v = invert::rows::segment_verdict(y, cv, limit, precision);
+    match v {
+        Verdict::Failed(r) => Inverted::Refused(r),
+        Verdict::Passed => {
+            let t = enter(
+                how,
+                spline::segment::weights(b, cv),
+                0,
+                y,
+                precision,
+                limit,
+                0,
+            );
+            let Tried::Inside(p) = t else {
+                return Inverted::OffCurve(2);
+            };
+            Inverted::At(p)
+        }
+    }
 }

@@ -6,8 +6,8 @@ use Rattle.inverse.proofs.locate.Tie as tie
 segments-requires : tie.Need-segments-requires
 segments-requires c κs = search needs
 
-mode-ends-requires : tie.Need-mode-ends-requires
-mode-ends-requires c κs = search needs
+ends-by-requires : tie.Need-ends-by-requires
+ends-by-requires c κs = search needs
 
 evaluations-requires : tie.Need-evaluations-requires
 evaluations-requires c κs = search needs
@@ -16,9 +16,9 @@ located-requires : tie.Need-located-requires
 located-requires c κs = search needs
 
 returns : tie.Need-returns
-returns c = by-rule (c .before .before .before .before .before .args .m) (c .before .before .before .before .before .args .b) (c .before .before .before .before .before .args .knots .now) (c .before .before .before .segments .result) (c .before .before .before .segments .ensures) (c .before .before .before .before .before .args .how) (c .before .before .before .before .before .args .y) (c .before .before .before .before .before .args .precision) (c .before .before .before .before .before .args .limit) (c .before .evaluations .result) (c .before .before .mode-ends .result) (c .before .before .mode-ends .ensures) (c .before .evaluations .ensures .0) (c .located .ensures)
+returns c = by-rule (c .before .before .before .before .before .args .ends) (c .before .before .before .before .before .args .b) (c .before .before .before .before .before .args .knots .now) (c .before .before .before .segments .result) (c .before .before .before .segments .ensures) (c .before .before .before .before .before .args .how) (c .before .before .before .before .before .args .y) (c .before .before .before .before .before .args .precision) (c .before .before .before .before .before .args .limit) (c .before .evaluations .result) (c .before .before .ends-by .result) (c .before .before .ends-by .ensures) (c .before .evaluations .ensures .0) (c .located .ensures)
 
 pub locate-spec : {M : Type 1} → statement M
 locate-spec =
     tie.close
-    (tie.spec segments-requires mode-ends-requires evaluations-requires located-requires returns)
+    (tie.spec segments-requires ends-by-requires evaluations-requires located-requires returns)
