@@ -23,6 +23,7 @@ mod answer;
 pub mod basis;
 pub mod convert;
 pub mod raw;
+pub mod valve;
 
 pub use answer::{Ground, Place, Refusal};
 pub use basis::Basis;

@@ -9,3 +9,4 @@ pub mod Ending
 pub mod Exact
 pub mod Numbers
 pub mod Values
+pub mod Valve

@@ -1,0 +1,7 @@
+mod Table
+pub mod Rule
+pub mod Sizes
+mod Sum
+mod Refusals
+mod Fits
+pub mod Between

@@ -1,0 +1,131 @@
+// Valves that count in whole steps: four whole knots, mixed by stored weights. No floating point.
+ghost use mathlib.Core.Path.{_≡_};
+ghost use Prim.Native.Nat.{_≤_, _<_};
+ghost use lib.ListN.{length};
+ghost use lib.IntN.{pos, natAbs, _+ℤ_, _*ℤ_};
+ghost use mir.Syntax.{w64};
+ghost use mir.Val.{SFits};
+ghost use Rattle.error.specs.Refusals.{first};
+ghost use Rattle.valve.specs.Mix.{termOf, mixOf, small, firstLarge, mixUses, mixtureOf, mixtureReply, sumLeft};
+ghost use Rattle.valve.specs.Shown.{SmallKnots};
+use error::Refusal;
+use error::Verdict;
+
+pub mod weights;
+
+pub enum Mixture {
+    Refused(Refusal),
+    Mixed(i64),
+}
+
+fn wide(w: u32) -> i64
+    requires { ⌜ w ≤ 67108864 ⌝ }
+    ensures { λ r. ⌜ r ≡ pos w ⌝ }
+{
+    w as i64
+}
+
+fn times(a: i64, b: i64) -> i64
+    requires { ⌜ SFits w64 (a *ℤ b) ⌝ }
+    ensures { λ r. ⌜ r ≡ a *ℤ b ⌝ }
+{
+    a * b
+}
+
+fn plus(a: i64, b: i64) -> i64
+    requires { ⌜ SFits w64 (a +ℤ b) ⌝ }
+    ensures { λ r. ⌜ r ≡ a +ℤ b ⌝ }
+{
+    a + b
+}
+
+// A weight times a knot.
+fn term(knots: &[i64], step: usize, i: usize) -> i64
+    requires { ⌜ (step ≤ 256) × (i < 4) × (4 ≤ length (now knots)) × SmallKnots (now knots) ⌝ }
+    ensures { λ r. ⌜ (r ≡ termOf (now (knots .entry)) step i) × (natAbs r ≤ 67108864000000) ⌝ }
+{
+    times(wide(weights::weight(step, i)), knots[i])
+}
+
+// The weighted sum, undivided.
+fn weighted_sum(knots: &[i64], step: usize) -> i64
+    requires { ⌜ (step ≤ 256) × (4 ≤ length (now knots)) × SmallKnots (now knots) ⌝ }
+    ensures { λ r. ⌜ r ≡ mixOf (now (knots .entry)) step ⌝ }
+{
+    let a = plus(term(knots, step, 0), term(knots, step, 1));
+    let b = plus(a, term(knots, step, 2));
+    plus(b, term(knots, step, 3))
+}
+
+// Two comparisons: the least i64 has no magnitude.
+fn is_small(k: i64) -> bool
+    ensures { λ r. ⌜ r ≡ small k ⌝ }
+{
+    if -1000000 <= k { k <= 1000000 } else { false }
+}
+
+fn first_large(knots: &[i64]) -> usize
+    requires { ⌜ 4 ≤ length (now knots) ⌝ }
+    ensures { λ r. ⌜ (r ≡ firstLarge (now (knots .entry))) × (r ≤ 4) ⌝ }
+{
+    if is_small(knots[0]) {
+        if is_small(knots[1]) {
+            if is_small(knots[2]) {
+                if is_small(knots[3]) {
+                    return 4;
+                }
+                return 3;
+            }
+            return 2;
+        }
+        return 1;
+    }
+    0
+}
+
+// The refusals, apart from the mixing.
+fn verdict(step: u16, knots: &[i64]) -> Verdict
+    ensures { λ r. ⌜ r ≡ first (mixUses step (now (knots .entry))) ⌝ }
+{
+    if knots.len() < 4 {
+        return Verdict::Failed(Refusal::TooFew);
+    }
+    if 4 < knots.len() {
+        return Verdict::Failed(Refusal::BadPattern);
+    }
+    if 256 < step {
+        return Verdict::Failed(Refusal::BadStep);
+    }
+    let i = first_large(knots);
+    if i < 4 {
+        return Verdict::Failed(Refusal::BadKnot(i as u16));
+    }
+    Verdict::Passed
+}
+
+// Four knots mixed at a step from 0 to 256.
+pub fn mix(step: u16, knots: &[i64]) -> Mixture
+    ensures { λ r. ⌜ r ≡ mixtureOf step (now (knots .entry)) ⌝ }
+{
+    let v = verdict(step, knots);
+    match v {
+        Verdict::Failed(r) => Mixture::Refused(r),
+        Verdict::Passed => Mixture::Mixed(weighted_sum(knots, step as usize)),
+    }
+}
+
+// What C and Rust call. A sum is written and answered by 0; a refusal writes nothing.
+#[no_mangle]
+pub extern "C" fn simmerstoat_valve(step: u16, knots: &[i64], sum: &mut i64) -> u32
+    ensures answer { λ r. ⌜ r ≡ mixtureReply (mixtureOf step (now (knots .entry))) ⌝ }
+    ensures sum { λ _. ⌜ now (sum .exit) ≡ sumLeft (mixtureOf step (now (knots .entry))) (now (sum .entry)) ⌝ }
+{
+    let m = mix(step, knots);
+    match m {
+        Mixture::Refused(r) => error::reply(r),
+        Mixture::Mixed(z) => {
+            *sum = z;
+            0
+        }
+    }
+}
