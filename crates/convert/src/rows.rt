@@ -23,7 +23,7 @@ pub fn is_linear(b: Basis) -> bool
     }
 }
 
-fn output_verdict(to: Basis, knots: &[f64], need: usize, room: usize) -> Verdict
+pub fn output_verdict(to: Basis, knots: &[f64], need: usize, room: usize) -> Verdict
     requires { ⌜ length (now knots) ≤ 4096 ⌝ }
     ensures { λ r. ⌜ r ≡ first (outputUses to (now (knots .entry)) need room) ⌝ }
 {

@@ -58,7 +58,7 @@ pub convert-spline-asks-nothing : AsksNothing convert_spline.Asked
 convert-spline-asks-nothing κs a = tt
 
 -- ---- what is left where the reply is not 0
-abbrev NotZero : ℕ → Type 0
+abbrev pub NotZero : ℕ → Type 0
 NotZero n = n ≡ 0 → ⊥
 
 value-kept : (c : Chosen) (f : Basis → Evaluated) (old : Float) → NotZero (chosen c noBasis (λ b. evaluatedReply (f b))) → chosen c old (λ b. valueLeft (f b) old) ≡ old
@@ -121,7 +121,7 @@ spline-inverse-segment-with-writes-nothing κs a z e p h =
     (p .1 .0 ∙ place-kept c f (now (a .1 .1 .1 .1 .1 .0)) (λ w. h (p .0 ∙ w)), λ g. p .1 .1 ∙ whole-kept c f (now (a .1 .1 .1 .1 .1 .1 .0)) (λ w. h (p .0 ∙ w)) (λ w. g (p .0 ∙ w)))
 
 -- of a conversion: the buffer, and the length
-out-kept : (f t : Chosen) (g : Basis → Basis → Conversion) (out : List Float)
+pub out-kept : (f t : Chosen) (g : Basis → Basis → Conversion) (out : List Float)
     → NotZero (chosen f noBasis (λ b. chosen t noBasis (λ c. convertedReply (answerOf (g b c))))) → chosen f out (λ b. chosen t out (λ c. bufferOf (g b c) out)) ≡ out
 out-kept Unknown t g out h = refl
 out-kept (Known b) Unknown g out h = refl
@@ -131,7 +131,7 @@ out-kept (Known b) (Known c) g out h = go (g b c) h
     go (gives l) h = absurd (h refl)
     go (refuses r) h = refl
 
-length-kept : (f t : Chosen) (g : Basis → Basis → Conversion) (old : ℕ)
+pub length-kept : (f t : Chosen) (g : Basis → Basis → Conversion) (old : ℕ)
     → NotZero (chosen f noBasis (λ b. chosen t noBasis (λ c. convertedReply (answerOf (g b c))))) → chosen f old (λ b. chosen t old (λ c. lengthLeft (answerOf (g b c)) old)) ≡ old
 length-kept Unknown t g old h = refl
 length-kept (Known b) Unknown g old h = refl

@@ -10,3 +10,4 @@ pub mod Exact
 pub mod Numbers
 pub mod Values
 pub mod Valve
+pub mod Strict

@@ -29,6 +29,8 @@ use invert::Ground;
 use invert::Inverted;
 use spline::Evaluated;
 
+pub mod seams;
+
 pub enum Chosen {
     Known(Basis),
     Unknown,

@@ -1,0 +1,5 @@
+pub mod Scan
+pub mod Lowest
+pub mod Verdicts
+pub mod Call
+pub mod Readings
