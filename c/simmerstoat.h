@@ -1,11 +1,29 @@
 /* Uniform cubic splines over doubles, proved. Link with libsimmerstoat.a, which `rt staticlib simmerstoat` writes.
  *
- * Every call answers every input: no argument makes one panic, loop or read outside what is lent. A pointer with a
- * length must be good for that many doubles; it may be null where the length is 0. Each other pointer must be good
- * for what it points to. The knots may be anything, NaN too, and must not overlap what is written.
+ * Every call answers every input: no argument makes one panic, loop or read outside what is lent.
  *
- * The reply is 0 when the call did its work, or the number of a refusal. The first refusal that applies is given, in
- * the order of the enum below. On a refusal nothing is written, but for the count of SIMMERSTOAT_OFF_CURVE.
+ * What a caller owes
+ *   - A pointer with a length is good for that many doubles; it may be null where the length is 0. Each other pointer
+ *     is good for what it points to. The knots may be anything, NaN too.
+ *   - What is written overlaps nothing else that the call is lent: not the knots, and no other output. Two pointers
+ *     that are only read may be the same.
+ *   - The caller's floating-point state: round to nearest, no flush to zero, no denormals taken as zero. It is a premise
+ *     of every value, bound and place below; with another rounding mode a parameter above 1 has come out. Code that
+ *     was built with -ffast-math, or linked against it, may set such a state before main.
+ *
+ * What comes back
+ *   - The reply is 0 when the call did its work. Otherwise its lowest eight bits are the number of a refusal and the bits
+ *     above them the place that the refusal tells: take it apart with SIMMERSTOAT_NUMBER and SIMMERSTOAT_PLACE.
+ *   - The first refusal that applies is given, in the order of the enum below. On a refusal nothing is written, but for
+ *     the count of SIMMERSTOAT_OFF_CURVE.
+ *
+ * What the archive is
+ *   - One object for x86-64 Linux. It has no data, no state and no heap, and leaves one symbol undefined: memcpy. So every
+ *     call is re-entrant, and may run in any thread or signal handler.
+ *   - Stack: at most 96 bytes for an evaluation, 512 for an inversion, 400 for a conversion (c/stack.c measures them;
+ *     a first call of memcpy through lazy binding takes the dynamic linker's some 3 KB besides).
+ *   - An inversion makes at most limit + 26 evaluations on up to 12 segments and at most limit + 2 b + 6 above, where b
+ *     is the number of binary digits of the segment count: 12 at most. In SIMMERSTOAT_ENDS_CURVE there are 2 more.
  */
 #ifndef SIMMERSTOAT_H
 #define SIMMERSTOAT_H
@@ -18,6 +36,14 @@
 extern "C" {
 #endif
 
+/* 0.2: replies are 32 bits wide and tell a place; 0.1 had 8. */
+#define SIMMERSTOAT_VERSION_MAJOR 0
+#define SIMMERSTOAT_VERSION_MINOR 2
+#define SIMMERSTOAT_VERSION_PATCH 0
+
+/* The knots of a curve at most. */
+#define SIMMERSTOAT_MOST_KNOTS 4096
+
 /* The bases, and the knots from the start of one segment to the start of the next. */
 enum {
     SIMMERSTOAT_BSPLINE = 0,     /* 1 */
@@ -28,21 +54,35 @@ enum {
     SIMMERSTOAT_POWER = 5        /* 4 */
 };
 
-/* The replies. */
+/* A reply's number, and its place: of BAD_KNOT and TURNS_BACK a knot, of LOST_SEAM a segment, from 0; else 0. */
+#define SIMMERSTOAT_NUMBER(reply) ((uint32_t)(reply)&255u)
+#define SIMMERSTOAT_PLACE(reply) ((uint32_t)(reply) >> 8)
+
+/* The numbers. */
 enum {
     SIMMERSTOAT_DONE = 0,
-    SIMMERSTOAT_NO_BASIS = 255,    /* a basis's number is above 5; comes before all others */
-    SIMMERSTOAT_TOO_FEW = 1,       /* fewer than 4 knots */
-    SIMMERSTOAT_BAD_PATTERN = 2,   /* (knots - 4) is no multiple of the basis's step; one segment: more than 4 knots */
-    SIMMERSTOAT_TOO_MANY = 3,      /* more than 4,096 knots */
-    SIMMERSTOAT_NOT_A_NUMBER = 5,  /* x or y is NaN; one segment's x lies outside 0 to 1 */
-    SIMMERSTOAT_BAD_PRECISION = 6, /* the precision is not finite or not above 0 */
-    SIMMERSTOAT_NO_ROUNDS = 7,     /* the limit is 0 */
-    SIMMERSTOAT_LINEAR_OUTPUT = 8, /* the output basis is Linear */
-    SIMMERSTOAT_SHORT_BUFFER = 9,  /* the output buffer is shorter than needed */
-    SIMMERSTOAT_BAD_KNOT = 4,      /* some knot is not finite or exceeds 2^40 in magnitude */
-    SIMMERSTOAT_TURNS_BACK = 10,   /* the order check was wanted, and the knots turn back */
-    SIMMERSTOAT_OFF_CURVE = 11     /* y is not on the curve */
+    SIMMERSTOAT_NO_BASIS = 255,         /* a number that is no basis, no rule of the ends or no method; before all others */
+    SIMMERSTOAT_TOO_FEW = 1,            /* fewer than 4 knots */
+    SIMMERSTOAT_BAD_PATTERN = 2,        /* (knots - 4) is no multiple of the basis's step; one segment: more than 4 knots */
+    SIMMERSTOAT_TOO_MANY = 3,           /* more than 4,096 knots */
+    SIMMERSTOAT_BAD_SPAN = 14,          /* the span is missing, or outside 1 to 86,400 seconds */
+    SIMMERSTOAT_NOT_A_NUMBER = 5,       /* x or y is NaN; one segment's x lies outside 0 to 1 */
+    SIMMERSTOAT_BAD_PRECISION = 6,      /* the precision is not finite or not above 0 */
+    SIMMERSTOAT_NO_ROUNDS = 7,          /* the limit is 0 */
+    SIMMERSTOAT_LINEAR_OUTPUT = 8,      /* the output basis is Linear */
+    SIMMERSTOAT_BAD_ALLOWANCE = 17,     /* the allowance is not finite, or negative */
+    SIMMERSTOAT_SHORT_BUFFER = 9,       /* the output buffer is shorter than needed */
+    SIMMERSTOAT_BAD_STEP = 16,          /* the step is above 256 */
+    SIMMERSTOAT_NO_SEGMENT = 19,        /* the segment's number is not below the count of segments */
+    SIMMERSTOAT_BAD_KNOT = 4,           /* a knot is not finite or exceeds 2^40 in magnitude; the place: the first such knot */
+    SIMMERSTOAT_TURNS_BACK = 10,        /* the order check was wanted, and the knots turn back; the place: the first knot
+                                           whose step to the next goes against the direction */
+    SIMMERSTOAT_UNEQUAL_SEGMENTS = 18,  /* the two tables have different counts of segments */
+    SIMMERSTOAT_OFF_CURVE = 11,         /* y is not on the curve */
+    SIMMERSTOAT_BAD_LINE = 12,          /* a line of a listing; no call of this header gives it, nor the next two */
+    SIMMERSTOAT_BAD_SHEET = 13,         /* a line of a sheet */
+    SIMMERSTOAT_NO_COMPARISON = 20,     /* nothing to compare with */
+    SIMMERSTOAT_LOST_SEAM = 15          /* a seam would be lost; the place: the segment that ends at it */
 };
 
 /* What an inversion writes: four doubles .. */
@@ -69,40 +109,156 @@ enum {
     SIMMERSTOAT_SPENT = 4  /* the rounds were spent */
 };
 
-/* 1 if n knots suit the basis, 0 if not, 255 if there is no such basis. It knows no upper bound: above 4,096 knots the
- * calls refuse. */
+/* By which values a target lies at or beyond an end of the curve. */
+enum {
+    SIMMERSTOAT_ENDS_KNOTS = 0, /* the second and the last but one knot, as the crate has it: good where the curve goes
+                                   through its knots */
+    SIMMERSTOAT_ENDS_CURVE = 1  /* the curve's own first and last value, which are evaluated */
+};
+
+/* How an inversion chooses its next place. */
+enum {
+    SIMMERSTOAT_AS_CRATE = 0, /* as the crate does */
+    SIMMERSTOAT_TAUGHT = 1,   /* regula falsi with the weighting as it is taught */
+    SIMMERSTOAT_STEADY = 2    /* kept to a pace by which the bracket narrows */
+};
+
+/* ATTENTION: 1 if n knots suit the basis, 0 if not, and 255, WHICH IS TRUE IN AN `if`, if there is no such basis. Write
+ * simmerstoat_suits(basis, n) instead. It knows no upper bound: above 4,096 knots the calls refuse. */
 uint8_t simmerstoat_is_len_ok(uint8_t basis, size_t n);
 
 /* The value of the curve at x, which is clamped to 0 to 1. Refusals: 255, 1, 2, 3, 5, 4. */
-uint8_t simmerstoat_spline(uint8_t basis, double x, const double *knots, size_t n, double *value);
+uint32_t simmerstoat_spline(uint8_t basis, double x, const double *knots, size_t n, double *value);
 
 /* The value of one segment of four knots at x, from 0 to 1. Refusals: 255, 1, 2, 5, 4. */
-uint8_t simmerstoat_spline_segment(uint8_t basis, double x, const double *cv, size_t n, double *value);
+uint32_t simmerstoat_spline_segment(uint8_t basis, double x, const double *cv, size_t n, double *value);
 
 /* Where the curve is at y: limit 32, precision 1e-10. With check, knots that turn back are refused.
  * Refusals: 255, 1, 2, 3, 5, 4, 10, 11. */
-uint8_t simmerstoat_spline_inverse(uint8_t basis, double y, const double *knots, size_t n, bool check, double place[4],
-                                   size_t whole[3]);
+uint32_t simmerstoat_spline_inverse(uint8_t basis, double y, const double *knots, size_t n, bool check, double place[4],
+                                    size_t whole[3]);
 
 /* The same, with at most limit rounds, to the given precision. Refusals: 255, 1, 2, 3, 5, 6, 7, 4, 10, 11. */
-uint8_t simmerstoat_spline_inverse_with(uint8_t basis, double y, const double *knots, size_t n, bool check,
-                                        uint16_t limit, double precision, double place[4], size_t whole[3]);
+uint32_t simmerstoat_spline_inverse_with(uint8_t basis, double y, const double *knots, size_t n, bool check,
+                                         uint16_t limit, double precision, double place[4], size_t whole[3]);
+
+/* The same, with a rule of the ends and a method. Refusals: 255, 1, 2, 3, 5, 6, 7, 4, 10, 11. */
+uint32_t simmerstoat_spline_inverse_by(uint8_t basis, double y, const double *knots, size_t n, bool check, uint16_t limit,
+                                       double precision, uint8_t ends, uint8_t method, double place[4], size_t whole[3]);
 
 /* Where one segment of four knots is at y: limit 32, precision 1e-10. Refusals: 255, 1, 2, 5, 4, 11. */
-uint8_t simmerstoat_spline_inverse_segment(uint8_t basis, double y, const double *cv, size_t n, double place[4],
-                                           size_t whole[3]);
+uint32_t simmerstoat_spline_inverse_segment(uint8_t basis, double y, const double *cv, size_t n, double place[4],
+                                            size_t whole[3]);
 
 /* The same, with at most limit rounds, to the given precision. Refusals: 255, 1, 2, 5, 6, 7, 4, 11. */
-uint8_t simmerstoat_spline_inverse_segment_with(uint8_t basis, double y, const double *cv, size_t n, uint16_t limit,
-                                                double precision, double place[4], size_t whole[3]);
+uint32_t simmerstoat_spline_inverse_segment_with(uint8_t basis, double y, const double *cv, size_t n, uint16_t limit,
+                                                 double precision, double place[4], size_t whole[3]);
 
-/* The four knots of one segment in another basis, to the first four places of out. Refusals: 255, 1, 2, 8, 9, 4. */
-uint8_t simmerstoat_convert_segment(uint8_t from, uint8_t to, const double *cv, size_t n, double *out, size_t room);
+/* The same, with a method. Refusals: 255, 1, 2, 5, 6, 7, 4, 11. */
+uint32_t simmerstoat_spline_inverse_segment_by(uint8_t basis, double y, const double *cv, size_t n, uint16_t limit,
+                                               double precision, uint8_t method, double place[4], size_t whole[3]);
 
-/* The knots of a curve of k segments in another basis: 4 + (k - 1) * step places of out, and their number to written;
- * further places keep what they hold. Refusals: 255, 1, 2, 3, 8, 9, 4. */
-uint8_t simmerstoat_convert_spline(uint8_t from, uint8_t to, const double *knots, size_t n, double *out, size_t room,
-                                   size_t *written);
+/* The four knots of one segment in another basis, to the first four places of out, of which there are room; further
+ * places keep what they hold. Refusals: 255, 1, 2, 8, 9, 4. */
+uint32_t simmerstoat_convert_segment(uint8_t from, uint8_t to, const double *cv, size_t n, double *out, size_t room);
+
+/* The knots of a curve in another basis: simmerstoat_room(from, to, n) places of out, and their number to written; further
+ * places keep what they hold. Refusals: 255, 1, 2, 3, 8, 9, 4. */
+uint32_t simmerstoat_convert_spline(uint8_t from, uint8_t to, const double *knots, size_t n, double *out, size_t room,
+                                    size_t *written);
+
+/* ---- what follows is written in C over the calls above, and proved of nothing */
+
+/* Whether n knots suit the basis; no number that is no basis suits any. */
+static inline bool simmerstoat_suits(uint8_t basis, size_t n) { return simmerstoat_is_len_ok(basis, n) == 1; }
+
+/* The places that a conversion of n knots fills, 16,372 at most; 0 where no curve has n knots, or a number is no basis. */
+static inline size_t simmerstoat_room(uint8_t from, uint8_t to, size_t n) {
+    static const uint8_t step[] = {1, 3, 1, 2, 1, 4};
+    if (from > 5 || to > 5 || n > SIMMERSTOAT_MOST_KNOTS || !simmerstoat_suits(from, n)) return 0;
+    return 4 + (n - 4) / step[from] * step[to];
+}
+
+/* What a reply says, without its place. */
+static inline const char *simmerstoat_text(uint32_t reply) {
+    switch (SIMMERSTOAT_NUMBER(reply)) {
+    case SIMMERSTOAT_DONE: return "done";
+    case SIMMERSTOAT_NO_BASIS: return "no such basis, rule of the ends or method";
+    case SIMMERSTOAT_TOO_FEW: return "fewer than 4 knots";
+    case SIMMERSTOAT_BAD_PATTERN: return "this many knots do not suit the basis";
+    case SIMMERSTOAT_TOO_MANY: return "more than 4096 knots";
+    case SIMMERSTOAT_BAD_SPAN: return "the span is missing or not in 1 to 86400";
+    case SIMMERSTOAT_NOT_A_NUMBER: return "the parameter or target is NaN or outside its range";
+    case SIMMERSTOAT_BAD_PRECISION: return "the precision is not finite or not above 0";
+    case SIMMERSTOAT_NO_ROUNDS: return "the limit of rounds is 0";
+    case SIMMERSTOAT_LINEAR_OUTPUT: return "Linear is no output basis";
+    case SIMMERSTOAT_BAD_ALLOWANCE: return "the allowance is not finite or negative";
+    case SIMMERSTOAT_SHORT_BUFFER: return "the output buffer is too short";
+    case SIMMERSTOAT_BAD_STEP: return "the step is above 256";
+    case SIMMERSTOAT_NO_SEGMENT: return "there is no such segment";
+    case SIMMERSTOAT_BAD_KNOT: return "a knot is not finite or exceeds 2^40";
+    case SIMMERSTOAT_TURNS_BACK: return "a knot goes against the direction";
+    case SIMMERSTOAT_UNEQUAL_SEGMENTS: return "the tables have different counts of segments";
+    case SIMMERSTOAT_OFF_CURVE: return "the target is not on the curve";
+    case SIMMERSTOAT_BAD_LINE: return "a bad line";
+    case SIMMERSTOAT_BAD_SHEET: return "a bad sheet";
+    case SIMMERSTOAT_NO_COMPARISON: return "nothing to compare with";
+    case SIMMERSTOAT_LOST_SEAM: return "a seam would be lost";
+    default: return "no reply of this library";
+    }
+}
+
+/* What an inversion tells. On a refusal only count is written, with SIMMERSTOAT_OFF_CURVE. */
+struct simmerstoat_place {
+    double parameter, local, lower, upper;
+    size_t ground, segment, count;
+};
+
+/* What it may be told. */
+struct simmerstoat_options {
+    bool check;
+    uint16_t limit;
+    double precision;
+    uint8_t ends, method;
+};
+
+/* The order check, 32 rounds, 1e-10, ends and method as the crate has them. */
+static inline struct simmerstoat_options simmerstoat_defaults(void) {
+    struct simmerstoat_options o = {true, 32, 1e-10, SIMMERSTOAT_ENDS_KNOTS, SIMMERSTOAT_AS_CRATE};
+    return o;
+}
+
+static inline uint32_t simmerstoat_placed(uint32_t reply, const double place[4], const size_t whole[3],
+                                          struct simmerstoat_place *p) {
+    if (reply == SIMMERSTOAT_DONE) {
+        p->parameter = place[SIMMERSTOAT_PARAMETER];
+        p->local = place[SIMMERSTOAT_LOCAL];
+        p->lower = place[SIMMERSTOAT_LOWER];
+        p->upper = place[SIMMERSTOAT_UPPER];
+        p->ground = whole[SIMMERSTOAT_GROUND];
+        p->segment = whole[SIMMERSTOAT_SEGMENT];
+    }
+    if (reply == SIMMERSTOAT_DONE || reply == SIMMERSTOAT_OFF_CURVE) p->count = whole[SIMMERSTOAT_COUNT];
+    return reply;
+}
+
+/* simmerstoat_spline_inverse_by and simmerstoat_spline_inverse_segment_by over the two structs. */
+static inline uint32_t simmerstoat_find(uint8_t basis, double y, const double *knots, size_t n,
+                                        struct simmerstoat_options o, struct simmerstoat_place *p) {
+    double place[4];
+    size_t whole[3];
+    uint32_t reply = simmerstoat_spline_inverse_by(basis, y, knots, n, o.check, o.limit, o.precision, o.ends, o.method,
+                                                   place, whole);
+    return simmerstoat_placed(reply, place, whole, p);
+}
+
+static inline uint32_t simmerstoat_find_in_segment(uint8_t basis, double y, const double *cv, size_t n,
+                                                   struct simmerstoat_options o, struct simmerstoat_place *p) {
+    double place[4];
+    size_t whole[3];
+    uint32_t reply = simmerstoat_spline_inverse_segment_by(basis, y, cv, n, o.limit, o.precision, o.method, place, whole);
+    return simmerstoat_placed(reply, place, whole, p);
+}
 
 #ifdef __cplusplus
 }

@@ -1,5 +1,6 @@
 /* How deep each call goes: it runs on a painted stack of its own, and the lowest byte that lost its paint is told.
- * What the switch of stacks itself takes is measured with an empty call and taken off. */
+ * What the switch of stacks itself takes is measured with an empty call and taken off. Exits with 1 where a call goes
+ * deeper than c/simmerstoat.h says. */
 #include "simmerstoat.h"
 
 #include <stdio.h>
@@ -8,6 +9,9 @@
 #include <ucontext.h>
 
 enum { SIZE = 1 << 15, PAINT = 0xA5, KNOTS = 4096 };
+
+/* The limits that the header tells, in bytes. */
+enum { EVALUATION = 96, INVERSION = 512, CONVERSION = 400 };
 
 static unsigned char *stack;
 static ucontext_t back, there;
@@ -34,6 +38,12 @@ static void spline_inverse_segment(void) {
 static void spline_inverse_segment_with(void) {
     reply = simmerstoat_spline_inverse_segment_with(basis, 0.991 + at * 0.02, knots + 99, 4, 300, 1e-300, place, whole);
 }
+static void spline_inverse_by(void) {
+    reply = simmerstoat_spline_inverse_by(basis, at * 40, knots, length, false, 300, 1e-300, other % 2, other / 2, place, whole);
+}
+static void spline_inverse_segment_by(void) {
+    reply = simmerstoat_spline_inverse_segment_by(basis, 0.991 + at * 0.02, knots + 99, 4, 300, 1e-300, other % 3, place, whole);
+}
 static void convert_segment(void) { reply = simmerstoat_convert_segment(basis, other, knots, 4, out, 4); }
 static void convert_spline(void) {
     reply = simmerstoat_convert_spline(basis, other, knots, length, out, 4 * KNOTS, &written);
@@ -56,20 +66,24 @@ int main(void) {
     static const struct {
         const char *name;
         void (*call)(void);
-    } calls[] = {{"is_len_ok", is_len_ok},
-                 {"spline", spline},
-                 {"spline_segment", spline_segment},
-                 {"spline_inverse", spline_inverse},
-                 {"spline_inverse_with", spline_inverse_with},
-                 {"spline_inverse_segment", spline_inverse_segment},
-                 {"spline_inverse_segment_with", spline_inverse_segment_with},
-                 {"convert_segment", convert_segment},
-                 {"convert_spline", convert_spline}};
+        size_t most;
+    } calls[] = {{"is_len_ok", is_len_ok, EVALUATION},
+                 {"spline", spline, EVALUATION},
+                 {"spline_segment", spline_segment, EVALUATION},
+                 {"spline_inverse", spline_inverse, INVERSION},
+                 {"spline_inverse_with", spline_inverse_with, INVERSION},
+                 {"spline_inverse_by", spline_inverse_by, INVERSION},
+                 {"spline_inverse_segment", spline_inverse_segment, INVERSION},
+                 {"spline_inverse_segment_with", spline_inverse_segment_with, INVERSION},
+                 {"spline_inverse_segment_by", spline_inverse_segment_by, INVERSION},
+                 {"convert_segment", convert_segment, CONVERSION},
+                 {"convert_spline", convert_spline, CONVERSION}};
     static const size_t lengths[] = {4, 16, 28, 100, 1024, 4096};
     stack = malloc(SIZE);
     for (int i = 0; i < KNOTS; i++) knots[i] = 0.01 * i;
     size_t empty = depth(nothing);
-    printf("| call | bytes of stack |\n|---|---:|\n");
+    int deep = 0;
+    printf("| call | bytes of stack | at most |\n|---|---:|---:|\n");
     for (size_t c = 0; c < sizeof calls / sizeof *calls; c++) {
         size_t deepest = 0;
         for (basis = 0; basis < 7; basis++)
@@ -82,7 +96,9 @@ int main(void) {
                         if (d > deepest) deepest = d;
                     }
         /* the caller's own return address is the call's, so nothing is taken off for it */
-        printf("| simmerstoat_%s | %zu |\n", calls[c].name, deepest - empty);
+        printf("| simmerstoat_%s | %zu | %zu |\n", calls[c].name, deepest - empty, calls[c].most);
+        if (deepest - empty > calls[c].most) deep++;
     }
-    return 0;
+    if (deep) printf("%d calls go deeper than they may\n", deep);
+    return deep != 0;
 }

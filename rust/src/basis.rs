@@ -3,7 +3,7 @@
 use crate::raw;
 
 /// A cubic spline basis: one of the six types of this module, and no other.
-pub trait Basis: sealed::Sealed {
+pub trait Basis<T = f64>: sealed::Sealed {
     const NAME: &'static str;
     /// The knots from the start of one segment to the start of the next.
     const STEP: usize;
@@ -13,7 +13,7 @@ pub trait Basis: sealed::Sealed {
     /// Whether so many knots suit the basis: at least 4, and 4 less than them a multiple of STEP.
     ///
     /// ```
-    /// use simmerstoat::basis::{Basis, Bezier, Linear};
+    /// use simmerstoat::{Basis, Bezier, Linear};
     ///
     /// assert!(Bezier::is_len_ok(4) && Bezier::is_len_ok(7));
     /// assert!(!Bezier::is_len_ok(3) && !Bezier::is_len_ok(5) && !Bezier::is_len_ok(11));
@@ -37,7 +37,7 @@ macro_rules! basis {
 
         impl sealed::Sealed for $name {}
 
-        impl Basis for $name {
+        impl Basis<f64> for $name {
             const NAME: &'static str = $called;
             const STEP: usize = $step;
             const NUMBER: u8 = $number;

@@ -1,6 +1,6 @@
 //! Conversion of knots from one basis to another.
 
-use crate::{done, raw, Basis, Refusal};
+use crate::{done, raw, Basis, Double, Refusal};
 
 /// The four knots in `Out` whose segment is the cubic that `cv` give in `In`, up to rounding.
 ///
@@ -10,21 +10,22 @@ use crate::{done, raw, Basis, Refusal};
 /// use simmerstoat::{basis::{Bezier, CatmullRom, Linear}, convert::convert_segment, spline_segment, Refusal};
 ///
 /// let cv = [0.0, 1.0, 2.0, 1.5];
-/// let bezier = convert_segment::<CatmullRom, Bezier>(&cv)?;
-/// let there = spline_segment::<Bezier>(0.37, &bezier)?;
-/// let here = spline_segment::<CatmullRom>(0.37, &cv)?;
+/// let bezier = convert_segment::<CatmullRom, Bezier, _>(&cv)?;
+/// let there = spline_segment::<Bezier, _, _>(0.37, &bezier)?;
+/// let here = spline_segment::<CatmullRom, _, _>(0.37, &cv)?;
 /// assert!((there - here).abs() < 1e-12);
 ///
-/// assert_eq!(convert_segment::<CatmullRom, Linear>(&cv), Err(Refusal::LinearOutput));
+/// assert_eq!(convert_segment::<CatmullRom, Linear, _>(&cv), Err(Refusal::LinearOutput));
 /// # Ok::<(), Refusal>(())
 /// ```
-pub fn convert_segment<In: Basis, Out: Basis>(cv: &[f64; 4]) -> Result<[f64; 4], Refusal> {
+pub fn convert_segment<In: Basis, Out: Basis, T: Double>(cv: &[T; 4]) -> Result<[T; 4], Refusal> {
+    let cv = T::doubles(cv);
     let mut out = [0.0; 4];
     // SAFETY: both pointers are to four doubles.
     let reply = unsafe {
         raw::simmerstoat_convert_segment(In::NUMBER, Out::NUMBER, cv.as_ptr(), 4, out.as_mut_ptr(), out.len())
     };
-    done(reply, out)
+    done(reply, out.map(T::of))
 }
 
 /// The knots in `Out` of a curve whose knots in `In` are `cv`.
@@ -32,33 +33,35 @@ pub fn convert_segment<In: Basis, Out: Basis>(cv: &[f64; 4]) -> Result<[f64; 4],
 /// Refusals: `TooFew`, `BadPattern`, `TooMany`, `LinearOutput`, `BadKnot`.
 ///
 /// ```
-/// use simmerstoat::{basis::{Basis, Bezier, CatmullRom}, convert::convert_spline, Refusal};
+/// use simmerstoat::{convert::convert_spline, Basis, Bezier, CatmullRom, Refusal};
 ///
-/// let out = convert_spline::<CatmullRom, Bezier>(&[0.0, 1.0, 2.0, 1.5, 0.5, 0.0])?;
+/// let out = convert_spline::<CatmullRom, Bezier, _>(&[0.0, 1.0, 2.0, 1.5, 0.5, 0.0])?;
 /// assert_eq!(out.len(), 10);
 /// assert!(Bezier::is_len_ok(out.len()));
 /// # Ok::<(), Refusal>(())
 /// ```
-pub fn convert_spline<In: Basis, Out: Basis>(cv: &[f64]) -> Result<Vec<f64>, Refusal> {
-    let mut out = vec![0.0; needed::<In, Out>(cv.len())];
-    convert_spline_into::<In, Out>(cv, &mut out)?;
+#[cfg(feature = "alloc")]
+pub fn convert_spline<In: Basis, Out: Basis, T: Double>(cv: &[T]) -> Result<alloc::vec::Vec<T>, Refusal> {
+    let mut out = alloc::vec![T::of(0.0); room::<In, Out>(cv.len())];
+    convert_spline_into::<In, Out, T>(cv, &mut out)?;
     Ok(out)
 }
 
-/// The same into a lent buffer, whose further places keep what they hold; answers the length written.
-/// On a refusal, `ShortBuffer` among them, the buffer keeps all.
+/// The same into a lent buffer of at least [`room`] places, whose further places keep what they hold; answers the length
+/// written. On a refusal, `ShortBuffer` among them, the buffer keeps all.
 ///
 /// ```
 /// use simmerstoat::{basis::{Bezier, CatmullRom}, convert::convert_spline_into, Refusal};
 ///
 /// let mut out = [7.0; 11];
 /// let cv = [0.0, 1.0, 2.0, 1.5, 0.5, 0.0];
-/// assert_eq!(convert_spline_into::<CatmullRom, Bezier>(&cv, &mut out[..9]), Err(Refusal::ShortBuffer));
+/// assert_eq!(convert_spline_into::<CatmullRom, Bezier, _>(&cv, &mut out[..9]), Err(Refusal::ShortBuffer));
 /// assert_eq!(out, [7.0; 11]);
-/// assert_eq!(convert_spline_into::<CatmullRom, Bezier>(&cv, &mut out), Ok(10));
+/// assert_eq!(convert_spline_into::<CatmullRom, Bezier, _>(&cv, &mut out), Ok(10));
 /// assert_eq!(out[10], 7.0);
 /// ```
-pub fn convert_spline_into<In: Basis, Out: Basis>(cv: &[f64], out: &mut [f64]) -> Result<usize, Refusal> {
+pub fn convert_spline_into<In: Basis, Out: Basis, T: Double>(cv: &[T], out: &mut [T]) -> Result<usize, Refusal> {
+    let (cv, out) = (T::doubles(cv), T::doubles_mut(out));
     let mut written = 0;
     // SAFETY: each pointer and length are a slice's, and `written` is a local.
     let reply = unsafe {
@@ -75,8 +78,8 @@ pub fn convert_spline_into<In: Basis, Out: Basis>(cv: &[f64], out: &mut [f64]) -
     done(reply, written)
 }
 
-/// How many knots in `Out` a curve of `n` knots in `In` has; 0 where no curve has `n`.
-fn needed<In: Basis, Out: Basis>(n: usize) -> usize {
+/// How many knots in `Out` a curve of `n` knots in `In` has, 16,372 at most; 0 where no curve has `n`.
+pub fn room<In: Basis, Out: Basis>(n: usize) -> usize {
     if n > crate::MOST_KNOTS || !In::is_len_ok(n) {
         return 0;
     }

@@ -1,17 +1,17 @@
 //! The exports as they stand in the archive. `c/simmerstoat.h` says what each one means.
 //!
-//! Each pointer with a length must be good for that many doubles, and each other pointer for one
+//! A reply is 0, or a refusal's number with its place above the lowest eight bits. Each pointer with a length must be good for that many doubles, and each other pointer for one
 //! record; a null pointer is fine where its length is 0.
 
-/// The reply to a number that names no basis.
-pub const NO_BASIS: u8 = 255;
+/// The reply to a number that names no basis, no rule of the ends or no method; `simmerstoat_is_len_ok` answers it as a `u8`.
+pub const NO_BASIS: u32 = 255;
 
 extern "C" {
     pub fn simmerstoat_is_len_ok(basis: u8, n: usize) -> u8;
 
-    pub fn simmerstoat_spline(basis: u8, x: f64, knots: *const f64, n: usize, value: *mut f64) -> u8;
+    pub fn simmerstoat_spline(basis: u8, x: f64, knots: *const f64, n: usize, value: *mut f64) -> u32;
 
-    pub fn simmerstoat_spline_segment(basis: u8, x: f64, cv: *const f64, n: usize, value: *mut f64) -> u8;
+    pub fn simmerstoat_spline_segment(basis: u8, x: f64, cv: *const f64, n: usize, value: *mut f64) -> u32;
 
     pub fn simmerstoat_spline_inverse(
         basis: u8,
@@ -21,7 +21,7 @@ extern "C" {
         check: bool,
         place: *mut [f64; 4],
         whole: *mut [usize; 3],
-    ) -> u8;
+    ) -> u32;
 
     pub fn simmerstoat_spline_inverse_with(
         basis: u8,
@@ -33,7 +33,21 @@ extern "C" {
         precision: f64,
         place: *mut [f64; 4],
         whole: *mut [usize; 3],
-    ) -> u8;
+    ) -> u32;
+
+    pub fn simmerstoat_spline_inverse_by(
+        basis: u8,
+        y: f64,
+        knots: *const f64,
+        n: usize,
+        check: bool,
+        limit: u16,
+        precision: f64,
+        ends: u8,
+        method: u8,
+        place: *mut [f64; 4],
+        whole: *mut [usize; 3],
+    ) -> u32;
 
     pub fn simmerstoat_spline_inverse_segment(
         basis: u8,
@@ -42,7 +56,7 @@ extern "C" {
         n: usize,
         place: *mut [f64; 4],
         whole: *mut [usize; 3],
-    ) -> u8;
+    ) -> u32;
 
     pub fn simmerstoat_spline_inverse_segment_with(
         basis: u8,
@@ -53,9 +67,21 @@ extern "C" {
         precision: f64,
         place: *mut [f64; 4],
         whole: *mut [usize; 3],
-    ) -> u8;
+    ) -> u32;
 
-    pub fn simmerstoat_convert_segment(from: u8, to: u8, cv: *const f64, n: usize, out: *mut f64, room: usize) -> u8;
+    pub fn simmerstoat_spline_inverse_segment_by(
+        basis: u8,
+        y: f64,
+        cv: *const f64,
+        n: usize,
+        limit: u16,
+        precision: f64,
+        method: u8,
+        place: *mut [f64; 4],
+        whole: *mut [usize; 3],
+    ) -> u32;
+
+    pub fn simmerstoat_convert_segment(from: u8, to: u8, cv: *const f64, n: usize, out: *mut f64, room: usize) -> u32;
 
     pub fn simmerstoat_convert_spline(
         from: u8,
@@ -65,5 +91,5 @@ extern "C" {
         out: *mut f64,
         room: usize,
         written: *mut usize,
-    ) -> u8;
+    ) -> u32;
 }
