@@ -3,6 +3,7 @@ pub mod Refusing
 pub mod Inverting
 pub mod Exports
 pub mod Orders
+pub mod Options
 pub mod Searching
 pub mod Spending
 pub mod Ending

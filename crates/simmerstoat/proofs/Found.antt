@@ -1,9 +1,14 @@
--- What a call answers for the basis that was found is what it answers for the number that was asked. Assumes nothing.
+-- What a call answers for the basis, and the way, that was found is what it answers for the numbers that were asked. Assumes nothing.
 use mathlib.Core.Path.{_≡_, sym, ap, _∙_}
 use Rattle.basis.specs.declared.Basis.{Basis}
 use Rattle.simmerstoat.specs.declared.Chosen.{Chosen}
 use Rattle.simmerstoat.specs.declared.Chosen.the-variants.{Known, Unknown}
+use Rattle.steady.specs.declared.Method.{Method}
+use Rattle.inverse.specs.declared.EndsBy.{EndsBy}
+use Rattle.simmerstoat.specs.declared.options.Way.{Way}
+use Rattle.simmerstoat.specs.declared.options.Way.the-variants as W
 use Rattle.simmerstoat.specs.Replies.{chosen}
+use Rattle.simmerstoat.specs.Options.{way}
 
 pub found : {A : Type 0} {c k : Chosen} {b : Basis} {r : A} (d : A) (f : Basis → A) → c ≡ k → c ≡ Known b → r ≡ f b → r ≡ chosen k d f
 found d f asked known answered = answered ∙ sym (ap (λ x. chosen x d f) (sym asked ∙ known))
@@ -11,3 +16,10 @@ found d f asked known answered = answered ∙ sym (ap (λ x. chosen x d f) (sym 
 -- and where the number is no basis, all stays
 pub unfound : {A : Type 0} {c k : Chosen} (d : A) (f : Basis → A) → c ≡ k → c ≡ Unknown → d ≡ chosen k d f
 unfound d f asked unknown = sym (ap (λ x. chosen x d f) (sym asked ∙ unknown))
+
+-- ---- the same of a way
+pub way-found : {A : Type 0} {c k : Way} {e : EndsBy} {m : Method} {r : A} (d : A) (f : EndsBy → Method → A) → c ≡ k → c ≡ W.Known e m → r ≡ f e m → r ≡ way k d f
+way-found d f asked known answered = answered ∙ sym (ap (λ x. way x d f) (sym asked ∙ known))
+
+pub way-unfound : {A : Type 0} {c k : Way} (d : A) (f : EndsBy → Method → A) → c ≡ k → c ≡ W.Unknown → d ≡ way k d f
+way-unfound d f asked unknown = sym (ap (λ x. way x d f) (sym asked ∙ unknown))

@@ -29,6 +29,7 @@ use invert::Ground;
 use invert::Inverted;
 use spline::Evaluated;
 
+pub mod options;
 pub mod seams;
 
 pub enum Chosen {
