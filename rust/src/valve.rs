@@ -11,8 +11,8 @@
 //! assert_eq!(mix(0, &[5, 5, 1_000_001, 5]), Err(Refusal::BadKnot(2)));
 //! ```
 
-use std::error::Error;
-use std::fmt;
+use core::error::Error;
+use core::fmt;
 
 /// What the four weights of every step come to: 6 · 256³. A sum divided by it is the B-spline at step/256.
 pub const WHOLE: i64 = 100_663_296;
