@@ -12,3 +12,4 @@ pub mod Numbers
 pub mod Values
 pub mod Valve
 pub mod Strict
+pub mod Seconds

@@ -1,0 +1,148 @@
+-- With a good span a call on a table is the base's, plus the second; without one it is refused by its length, or by 14. Assumes nothing.
+use mathlib.Core.Path.{_≡_, refl, sym, ap, _∙_}
+use mathlib.Core.Bool.{Bool, true, false, not}
+use mathlib.Core.List.{List, [], _∷_, _++_}
+use Prim.Native.Nat.{ℕ, _≤_}
+use native.Mathlib.Omega.{arith}
+use borrow.Author.Tests.{leb-true, leb-false, le-leb, lt-leb}
+use lib.Dec.{leb, ltb}
+use lib.ListN.{length}
+use lib.Ieee.{Float}
+use Rattle.basis.specs.declared.Basis.{Basis}
+use Rattle.basis.specs.Basis.{regular}
+use Rattle.convert.specs.Conversion.{Conversion, gives, refuses, unless, convertUses, convertedOf}
+use Rattle.convert.specs.Buffer.{answerOf, bufferOf}
+use Rattle.error.specs.declared.Refusal.{Refusal}
+use Rattle.error.specs.declared.Refusal.the-variants.{TooFew, BadPattern, TooMany, BadSpan}
+use Rattle.error.specs.declared.Verdict.{Verdict}
+use Rattle.error.specs.declared.Verdict.the-variants.{Passed, Failed}
+use Rattle.error.specs.Refusals.{Uses, applies, first}
+use Rattle.error.proofs.First.{never}
+use Rattle.error.proofs.Orders.{orderOf}
+use Rattle.inverse.specs.declared.EndsBy.{EndsBy}
+use Rattle.inverse.specs.Inverse.{inverseUses, inverseBy}
+use Rattle.invert.specs.Answer.{inverted}
+use Rattle.invert.specs.declared.Inverted.{Inverted}
+use Rattle.steady.specs.declared.Method.{Method}
+use Rattle.spline.specs.Evaluation.{evaluated, splineUses, splineOf}
+use Rattle.spline.specs.Rows.{curveLength}
+use Rattle.spline.specs.declared.Evaluated.the-variants as E
+use Rattle.table.specs.declared.Table.{Table}
+use Rattle.table.specs.declared.Timed.the-variants as T
+use Rattle.table.specs.Second.{day, goodSpan, badSpan}
+use Rattle.table.specs.Calls.{verdictOf, valueUnless, tableSplineOf, timedOf, timedUnless, tableInverseBy, conversionUnless, tableConvertedOf}
+
+-- ---- a good span
+pub good-least : (s : ℕ) → goodSpan s ≡ true → (1 ≤ s) × (s ≤ day)
+good-least s e = go (leb 1 s) refl (leb s day) refl e
+  where
+    go : (p : Bool) → leb 1 s ≡ p → (q : Bool) → leb s day ≡ q → goodSpan s ≡ true → (1 ≤ s) × (s ≤ day)
+    go true e true f h = (leb-true 1 s e, leb-true s day f)
+    go true e false f h = let z : false ≡ true = rw (e, f) at h in never (cc)
+    go false e q f h = let z : false ≡ true = rw e at h in never (cc)
+
+pub least-good : (s : ℕ) → 1 ≤ s → s ≤ day → goodSpan s ≡ true
+least-good s h k = rw (le-leb 1 s h, le-leb s day k) refl
+
+pub short-bad : (s : ℕ) → s ≤ 0 → goodSpan s ≡ false
+short-bad s h = rw (lt-leb 1 s (omega arith)) refl
+
+-- ---- 14 beside the rows of a call that has no other use for it
+same-rows : (us : Uses) → applies 14 us ≡ false → first ((BadSpan, false) ∷ us) ≡ first us
+same-rows us h = rw h refl
+
+pub good-verdict : (t : Table) (us : Uses) → applies 14 us ≡ false → goodSpan (t .span) ≡ true → verdictOf t us ≡ first us
+good-verdict t us h g = rw g (same-rows us h)
+
+-- without a span every row after the lengths is out of reach
+length-first : (b : Basis) (n : ℕ) (us : Uses) → first ((BadSpan, true) ∷ (curveLength b n ++ us)) ≡ first ((BadSpan, true) ∷ curveLength b n)
+length-first b n us = go (ltb n 4) (regular b n) (ltb 4096 n)
+  where
+    go : (few whole many : Bool)
+        → first ((BadSpan, true) ∷ (TooFew, few) ∷ (BadPattern, not whole) ∷ (TooMany, many) ∷ us)
+        ≡ first ((BadSpan, true) ∷ (TooFew, few) ∷ (BadPattern, not whole) ∷ (TooMany, many) ∷ [])
+    go true whole many = refl
+    go false false many = refl
+    go false true true = refl
+    go false true false = refl
+
+module _ (t : Table) (n : ℕ) (us : Uses) (r : Refusal) (g : goodSpan (t .span) ≡ false) (e : Failed r ≡ first ((BadSpan, true) ∷ curveLength (t .basis) n)) where
+  pub bad-verdict : verdictOf t (curveLength (t .basis) n ++ us) ≡ Failed r
+  bad-verdict = rw g (length-first (t .basis) n us ∙ sym e)
+
+-- what `without_span` answers
+module _ (b : Basis) (n : ℕ) where
+  pub by-length : {v : Verdict} (r : Refusal) → v ≡ first (curveLength b n) → v ≡ Failed r → Failed r ≡ first ((BadSpan, true) ∷ curveLength b n)
+  by-length {v} r p q = go (ltb n 4) (regular b n) (ltb 4096 n) (sym q ∙ p)
+    where
+      go : (few whole many : Bool) → Failed r ≡ first ((TooFew, few) ∷ (BadPattern, not whole) ∷ (TooMany, many) ∷ [])
+          → Failed r ≡ first ((BadSpan, true) ∷ (TooFew, few) ∷ (BadPattern, not whole) ∷ (TooMany, many) ∷ [])
+      go true whole many h = h
+      go false false many h = h
+      go false true true h = h
+      go false true false h = never (cc)
+
+  pub by-span : {v : Verdict} → v ≡ first (curveLength b n) → v ≡ Passed → Failed BadSpan ≡ first ((BadSpan, true) ∷ curveLength b n)
+  by-span {v} p q = go (ltb n 4) (regular b n) (ltb 4096 n) (sym q ∙ p)
+    where
+      go : (few whole many : Bool) → Passed ≡ first ((TooFew, few) ∷ (BadPattern, not whole) ∷ (TooMany, many) ∷ [])
+          → Failed BadSpan ≡ first ((BadSpan, true) ∷ (TooFew, few) ∷ (BadPattern, not whole) ∷ (TooMany, many) ∷ [])
+      go true whole many h = never (cc)
+      go false false many h = never (cc)
+      go false true true h = never (cc)
+      go false true false h = refl
+
+-- ---- evaluation
+value-again : (v : Verdict) (x : Float) → valueUnless v (evaluated v x) ≡ evaluated v x
+value-again Passed x = refl
+value-again (Failed r) x = refl
+
+pub spline-base : (t : Table) (x : Float) (ks : List Float) → goodSpan (t .span) ≡ true → tableSplineOf t x ks ≡ splineOf (t .basis) x ks
+unfolding tableSplineOf splineOf
+spline-base t x ks g = rw (good-verdict t (splineUses (t .basis) x ks) refl g) (value-again (first (splineUses (t .basis) x ks)) _)
+
+pub spline-spanless : (t : Table) (x : Float) (ks : List Float) (r : Refusal) → goodSpan (t .span) ≡ false
+    → Failed r ≡ first ((BadSpan, true) ∷ curveLength (t .basis) (length ks)) → E.Refused r ≡ tableSplineOf t x ks
+unfolding tableSplineOf
+spline-spanless t x ks r g e = rw (bad-verdict t (length ks) _ r g e) refl
+
+-- ---- inversion
+timed-again : (v : Verdict) (s : ℕ) (a : Inverted) → timedUnless v (timedOf s (inverted v a)) ≡ timedOf s (inverted v a)
+timed-again Passed s a = refl
+timed-again (Failed r) s a = refl
+
+module _ (m : EndsBy) (how : Method) (t : Table) (y : Float) (ks : List Float) (check : Bool) (limit : ℕ) (ε : Float) where
+  pub inverse-base : goodSpan (t .span) ≡ true → tableInverseBy m how t y ks check limit ε ≡ timedOf (t .span) (inverseBy m how (t .basis) y ks check limit ε)
+  unfolding tableInverseBy inverseBy
+  inverse-base g = rw (good-verdict t (inverseUses (t .basis) y ks check limit ε) refl g) (timed-again (first (inverseUses (t .basis) y ks check limit ε)) (t .span) _)
+
+  pub inverse-spanless : (r : Refusal) → goodSpan (t .span) ≡ false → Failed r ≡ first ((BadSpan, true) ∷ curveLength (t .basis) (length ks))
+      → T.Refused r ≡ tableInverseBy m how t y ks check limit ε
+  unfolding tableInverseBy
+  inverse-spanless r g e = rw (bad-verdict t (length ks) _ r g e) refl
+
+-- ---- conversion
+conversion-again : (v : Verdict) (l : List Float) → conversionUnless v (unless v l) ≡ unless v l
+conversion-again Passed l = refl
+conversion-again (Failed r) l = refl
+
+module _ (t : Table) (to : Basis) (ks : List Float) (room : ℕ) where
+  pub converted-base : goodSpan (t .span) ≡ true → tableConvertedOf t to ks room ≡ convertedOf (t .basis) to ks room
+  unfolding tableConvertedOf convertedOf
+  converted-base g = rw (good-verdict t (convertUses (t .basis) to ks room) refl g) (conversion-again (first (convertUses (t .basis) to ks room)) _)
+
+  pub converted-spanless : (r : Refusal) → goodSpan (t .span) ≡ false → Failed r ≡ first ((BadSpan, true) ∷ curveLength (t .basis) (length ks))
+      → tableConvertedOf t to ks room ≡ refuses r
+  unfolding tableConvertedOf
+  converted-spanless r g e = rw (bad-verdict t (length ks) _ r g e) refl
+
+-- ---- the rows of each call, in the order in which they are told
+pub spline-order : (t : Table) (x : Float) (ks : List Float) → orderOf (badSpan (t .span) ∷ splineUses (t .basis) x ks) ≡ 1 ∷ 2 ∷ 3 ∷ 14 ∷ 5 ∷ 4 ∷ []
+spline-order t x ks = refl
+
+pub inverse-order : (t : Table) (y : Float) (ks : List Float) (check : Bool) (limit : ℕ) (ε : Float)
+    → orderOf (badSpan (t .span) ∷ inverseUses (t .basis) y ks check limit ε) ≡ 1 ∷ 2 ∷ 3 ∷ 14 ∷ 5 ∷ 6 ∷ 7 ∷ 4 ∷ 10 ∷ []
+inverse-order t y ks check limit ε = refl
+
+pub convert-order : (t : Table) (to : Basis) (ks : List Float) (room : ℕ) → orderOf (badSpan (t .span) ∷ convertUses (t .basis) to ks room) ≡ 1 ∷ 2 ∷ 3 ∷ 14 ∷ 8 ∷ 9 ∷ 4 ∷ []
+convert-order t to ks room = refl

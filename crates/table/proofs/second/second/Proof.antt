@@ -1,0 +1,65 @@
+use borrow.Author.Needs.{needs}
+use Prim.Native.Nat.{_+_, _-_, _/_}
+use native.Mathlib.Omega.{arith}
+use Rattle.doubles.proofs.WholePart.{Halving, begun, raised, lowered, met}
+use Rattle.table.specs.Second.{elapsed}
+use Rattle.table.proofs.Largest.{told}
+use Rattle.table.proofs.second.second.Statement.{statement}
+use Rattle.table.proofs.second.second.Tie as tie
+
+abbrev Inv-loop : tie.InvT-loop
+Inv-loop span parameter y low₀ high₀ low high = Halving span (elapsed span parameter) low high
+
+abbrev μ-loop : tie.MeasureT-loop
+μ-loop span parameter y low₀ high₀ low high = high - low
+
+int-to-float-y : tie.Need-int-to-float-y Inv-loop μ-loop
+int-to-float-y c = tt
+
+loop-holds : tie.Need-loop-holds Inv-loop μ-loop
+loop-holds c = begun _ _
+
+add-mid : tie.Need-add-mid Inv-loop μ-loop
+add-mid c = search needs
+
+add-mid-2 : tie.Need-add-mid-2 Inv-loop μ-loop
+add-mid-2 c = search needs
+
+int-to-float-if1 : tie.Need-int-to-float-if1 Inv-loop μ-loop
+int-to-float-if1 c = tt
+
+loop-less : tie.Need-loop-less Inv-loop μ-loop
+loop-less c = search needs
+
+loop-again : tie.Need-loop-again Inv-loop μ-loop
+loop-again c = raised ((c .before .before .before .loop .low + c .before .before .before .loop .high + 1) / 2) (omega arith) (c .before .before .before .loop .inv) (c .if1 .taken)
+
+sub-high : tie.Need-sub-high Inv-loop μ-loop
+sub-high c = search needs
+
+loop-less-2 : tie.Need-loop-less-2 Inv-loop μ-loop
+loop-less-2 c = search needs
+
+loop-again-2 : tie.Need-loop-again-2 Inv-loop μ-loop
+loop-again-2 c = lowered ((c .before .before .before .loop .low + c .before .before .before .loop .high + 1) / 2) (omega arith) (omega arith) (c .before .before .before .loop .inv) (c .if1 .left)
+
+returns : tie.Need-returns Inv-loop μ-loop
+returns c = told _ _ (met (c .before .loop .inv) (omega arith))
+
+pub second-spec : {M : Type 1} → statement M
+second-spec =
+    tie.close
+    (tie.spec
+    Inv-loop
+    μ-loop
+    int-to-float-y
+    loop-holds
+    add-mid
+    add-mid-2
+    int-to-float-if1
+    loop-less
+    loop-again
+    sub-high
+    loop-less-2
+    loop-again-2
+    returns)

@@ -1,0 +1,20 @@
+use mathlib.Core.Path.{_≡_, refl, sym, ap, _∙_}
+use Rattle.table.proofs.Spans.{good-least}
+use borrow.Author.Needs.{needs}
+use Rattle.table.proofs.seconds_of.Statement.{statement}
+use Rattle.table.proofs.seconds_of.Tie as tie
+
+is-span-requires : tie.Need-is-span-requires
+is-span-requires c κs = search needs
+
+second-requires : tie.Need-second-requires
+second-requires c κs = good-least (c .before .before .args .span) (sym (c .before .is-span .ensures) ∙ c .if1 .taken) .1
+
+returns : tie.Need-returns
+returns c = simp ((sym (c .before .before .is-span .ensures) ∙ c .before .if1 .taken), c .second .ensures .0)
+
+returns-2 : tie.Need-returns-2
+returns-2 c = simp (sym (c .before .is-span .ensures) ∙ c .if1 .left)
+
+pub seconds-of-spec : {M : Type 1} → statement M
+seconds-of-spec = tie.close (tie.spec is-span-requires second-requires returns returns-2)

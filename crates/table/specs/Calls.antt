@@ -1,0 +1,66 @@
+-- The three calls on a table with its span: the rows of the base's call and 14; where none applies, what the base's call answers, with the second beside a place and the span handed on. Definitions only.
+use mathlib.Core.Bool.{Bool}
+use mathlib.Core.List.{List, _∷_}
+use Prim.Native.Nat.{ℕ}
+use lib.Ieee.{Float}
+use Rattle.basis.specs.declared.Basis.{Basis}
+use Rattle.convert.specs.declared.Converted.{Converted}
+use Rattle.convert.specs.declared.Converted.the-variants as C
+use Rattle.convert.specs.Conversion.{Conversion, refuses, convertUses, convertedOf}
+use Rattle.error.specs.declared.Verdict.{Verdict}
+use Rattle.error.specs.declared.Verdict.the-variants.{Passed, Failed}
+use Rattle.error.specs.Refusals.{Uses, first}
+use Rattle.inverse.specs.declared.EndsBy.{EndsBy}
+use Rattle.inverse.specs.Inverse.{inverseUses, inverseBy}
+use Rattle.invert.specs.declared.Inverted.{Inverted}
+use Rattle.invert.specs.declared.Inverted.the-variants as I
+use Rattle.steady.specs.declared.Method.{Method}
+use Rattle.spline.specs.Evaluation.{splineUses, splineOf}
+use Rattle.spline.specs.declared.Evaluated.{Evaluated}
+use Rattle.spline.specs.declared.Evaluated.the-variants as E
+use Rattle.table.specs.declared.Table.{Table}
+use Rattle.table.specs.declared.Timed.{Timed}
+use Rattle.table.specs.declared.Timed.the-variants as T
+use Rattle.table.specs.declared.Handed.{Handed}
+use Rattle.table.specs.declared.Handed.the-variants as H
+use Rattle.table.specs.Second.{badSpan, secondOf}
+
+-- whether a row applies to a call on a table
+abbrev pub verdictOf : Table → Uses → Verdict
+verdictOf t us = first (badSpan (t .span) ∷ us)
+
+-- ---- evaluation
+abbrev pub valueUnless : Verdict → Evaluated → Evaluated
+valueUnless Passed a = a
+valueUnless (Failed r) a = E.Refused r
+
+unfoldable pub tableSplineOf : Table → Float → List Float → Evaluated
+tableSplineOf t x ks = valueUnless (verdictOf t (splineUses (t .basis) x ks)) (splineOf (t .basis) x ks)
+
+-- ---- inversion
+-- the answer of the base's call, with the second of its place
+abbrev pub timedOf : ℕ → Inverted → Timed
+timedOf span (I.Refused r) = T.Refused r
+timedOf span (I.OffCurve n) = T.OffCurve n
+timedOf span (I.At p) = T.At p (secondOf span (p .parameter))
+
+abbrev pub timedUnless : Verdict → Timed → Timed
+timedUnless Passed a = a
+timedUnless (Failed r) a = T.Refused r
+
+unfoldable pub tableInverseBy : EndsBy → Method → Table → Float → List Float → Bool → ℕ → Float → Timed
+tableInverseBy m how t y ks check limit ε =
+    timedUnless (verdictOf t (inverseUses (t .basis) y ks check limit ε)) (timedOf (t .span) (inverseBy m how (t .basis) y ks check limit ε))
+
+-- ---- conversion
+abbrev pub conversionUnless : Verdict → Conversion → Conversion
+conversionUnless Passed c = c
+conversionUnless (Failed r) c = refuses r
+
+unfoldable pub tableConvertedOf : Table → Basis → List Float → ℕ → Conversion
+tableConvertedOf t to ks room = conversionUnless (verdictOf t (convertUses (t .basis) to ks room)) (convertedOf (t .basis) to ks room)
+
+-- the new table has the old one's span
+abbrev pub handedOf : ℕ → Basis → Converted → Handed
+handedOf span to (C.Written n) = H.On (record { basis = to; span = span }) n
+handedOf span to (C.Refused r) = H.Refused r

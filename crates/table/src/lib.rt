@@ -1,0 +1,157 @@
+// A table of depths with its span in seconds from dusk, and the three calls on it.
+ghost use mathlib.Core.Path.{_≡_};
+ghost use mathlib.Core.Bool.{true};
+ghost use mathlib.Core.List.{_∷_};
+ghost use lib.ListN.{length};
+ghost use Rattle.convert.specs.Buffer.{answerOf, bufferOf};
+ghost use Rattle.error.specs.declared.Refusal.the-variants.{BadSpan};
+ghost use Rattle.error.specs.declared.Verdict.the-variants.{Failed};
+ghost use Rattle.error.specs.Refusals.{first};
+ghost use Rattle.inverse.specs.declared.EndsBy.the-variants.{Knots};
+ghost use Rattle.invert.specs.Answer.{defaultLimit, defaultPrecision};
+ghost use Rattle.steady.specs.declared.Method.the-variants.{AsCrate};
+ghost use Rattle.spline.specs.Rows.{curveLength};
+ghost use Rattle.table.specs.Second.{goodSpan, secondsOf, secondsIn};
+ghost use Rattle.table.specs.Calls.{timedOf, tableSplineOf, tableInverseBy, tableConvertedOf, handedOf};
+use basis::Basis;
+use convert::Converted;
+use error::Refusal;
+use error::Verdict;
+use inverse::EndsBy;
+use inverse::Options;
+use invert::Inverted;
+use invert::Place;
+use spline::Evaluated;
+use steady::Method;
+
+pub mod second;
+
+// The knots are lent beside it. A span of 0 stands for none.
+pub struct Table {
+    pub basis: Basis,
+    pub span: u32,
+}
+
+// The second of a place, where the span is good.
+pub enum Seconds {
+    Nothing,
+    At(u32),
+}
+
+// An inversion's answer; a place comes with its second.
+pub enum Timed {
+    Refused(Refusal),
+    OffCurve(usize),
+    At(Place, u32),
+}
+
+// A conversion's answer: the new table, and how many knots it has.
+pub enum Handed {
+    Refused(Refusal),
+    On(Table, usize),
+}
+
+// 1 to 86,400 seconds.
+pub fn is_span(span: u32) -> bool
+    ensures { λ r. ⌜ r ≡ goodSpan span ⌝ }
+{
+    if 1 <= span { span <= 86400 } else { false }
+}
+
+pub fn seconds_of(span: u32, parameter: f64) -> Seconds
+    ensures { λ r. ⌜ secondsIn r ≡ secondsOf span parameter ⌝ }
+{
+    if is_span(span) {
+        return Seconds::At(second::second(span, parameter));
+    }
+    Seconds::Nothing
+}
+
+// Why a table without a good span is refused: its length comes first.
+fn without_span(b: Basis, n: usize) -> Refusal
+    ensures { λ r. ⌜ Failed r ≡ first ((BadSpan, true) ∷ curveLength b n) ⌝ }
+{
+    let l = spline::rows::curve_length(b, n);
+    match l {
+        Verdict::Failed(r) => r,
+        Verdict::Passed => Refusal::BadSpan,
+    }
+}
+
+// The curve at x.
+pub fn table_spline(t: Table, x: f64, knots: &[f64]) -> Evaluated
+    ensures { λ r. ⌜ r ≡ tableSplineOf t x (now (knots .entry)) ⌝ }
+{
+    let b = t.basis;
+    let span = t.span;
+    if is_span(span) {
+        return spline::spline(b, x, knots);
+    }
+    Evaluated::Refused(without_span(b, knots.len()))
+}
+
+// An inversion's answer with the second of its place.
+fn with_second(span: u32, i: Inverted) -> Timed
+    requires { ⌜ goodSpan span ≡ true ⌝ }
+    ensures { λ r. ⌜ r ≡ timedOf span i ⌝ }
+{
+    match i {
+        Inverted::Refused(r) => Timed::Refused(r),
+        Inverted::OffCurve(n) => Timed::OffCurve(n),
+        Inverted::At(p) => Timed::At(p, second::second(span, p.parameter)),
+    }
+}
+
+// The place of y and its second, by these options.
+pub fn table_spline_inverse_by(o: Options, t: Table, y: f64, knots: &[f64]) -> Timed
+    ensures { λ r. ⌜ r ≡ tableInverseBy (o .ends) (o .method) t y (now (knots .entry)) (o .check) (o .limit) (o .precision) ⌝ }
+{
+    let b = t.basis;
+    let span = t.span;
+    if is_span(span) {
+        return with_second(span, inverse::spline_inverse_by(o, b, y, knots));
+    }
+    Timed::Refused(without_span(b, knots.len()))
+}
+
+// As the crate inverts, with limit 32 and precision 1e-10.
+pub fn table_spline_inverse(t: Table, y: f64, knots: &[f64], check: bool) -> Timed
+    ensures { λ r. ⌜ r ≡ tableInverseBy Knots AsCrate t y (now (knots .entry)) check defaultLimit defaultPrecision ⌝ }
+{
+    let o = Options {
+        check: check,
+        limit: 32,
+        precision: 1e-10,
+        ends: EndsBy::Knots,
+        method: Method::AsCrate,
+    };
+    table_spline_inverse_by(o, t, y, knots)
+}
+
+fn handed_on(span: u32, to: Basis, c: Converted) -> Handed
+    ensures { λ r. ⌜ r ≡ handedOf span to c ⌝ }
+{
+    match c {
+        Converted::Refused(r) => Handed::Refused(r),
+        Converted::Written(n) => Handed::On(
+            Table {
+                basis: to,
+                span: span,
+            },
+            n,
+        ),
+    }
+}
+
+// The curve over another basis, into the lent buffer; the new table has the old one's span.
+pub fn table_convert_spline(t: Table, to: Basis, knots: &[f64], out: &mut [f64]) -> Handed
+    ensures answer { λ r. ⌜ r ≡ handedOf (t .span) to (answerOf (tableConvertedOf t to (now (knots .entry)) (length (now (out .entry))))) ⌝ }
+    ensures buffer { λ r. ⌜ now (out .exit) ≡ bufferOf (tableConvertedOf t to (now (knots .entry)) (length (now (out .entry)))) (now (out .entry)) ⌝ }
+{
+    let b = t.basis;
+    let span = t.span;
+    if is_span(span) {
+        return handed_on(span, to, convert::convert_spline(b, to, knots, out));
+    }
+    Handed::Refused(without_span(b, knots.len()))
+}
