@@ -31,26 +31,19 @@ use Rattle.inverse.proofs.Facts.{AtPlace}
 use Rattle.invert.specs.Round.{Rule}
 use Rattle.invert.proofs.Rules.{Lawful}
 use Rattle.steady.specs.Steady.{paced}
-use Rattle.steady.proofs.Ending.{isSpent, paced-ends}
+use Rattle.steady.proofs.Ending.{isSpent}
+use Rattle.steady.proofs.Timely as S
 
 -- with a precision of h units above 2^(5 - N) + 7·2^-53
 module _ (R : Rule) (lawful : Lawful R) (y ε : Float) (limit N K h : ℕ) (e-N : N + K ≡ low binary64 + 5) (v : HasValue ε false h (2 ^ low binary64)) (small : 2 ^ K + 7 * 2 ^ 1021 < h) where
-  -- at most N evaluations after `base`; and not spent, where the limit is above N
-  abbrev pub InTime : ℕ → ℕ → Placed → Type 0
-  InTime s base p = (length (p .made) ≤ base + N) × (N < limit → T (not (isSpent (p .ground))))
-
-  module _ (f : Float → Float) (s : ℕ) (ev : Evaluations) where
-    entered-in-time : (v0 v1 : Float) → InTime s (length ev) (entered (paced R) f s y ε limit v0 v1 ev)
-    unfolding entered
-    entered-in-time v0 v1 =
-        branch (InTime s (length ev)) (near y v0 ε) (λ _. (omega arith, λ _. tt))
-        (λ _. branch (InTime s (length ev)) (near y v1 ε) (λ _. (omega arith, λ _. tt)) (λ _. paced-ends R lawful f s y ε (lt v0 v1) limit v0 v1 ev N K h e-N v small))
+  abbrev InTime : ℕ → ℕ → Placed → Type 0
+  InTime s base p = S.InTime limit N base p
 
   module _ (g : ℕ → Float → Float) (k : ℕ) where
     trial-in-time : (s : ℕ) (ev : Evaluations) → s < k → Tried g y k InTime s ev (trial (paced R) g y ε limit s ev)
     unfolding enter
     trial-in-time s ev l =
-        let q = entered-in-time (g s) s (both s ev) (g s nought) (g s one) in
+        let q = S.entered-in-time R lawful y ε limit N K h e-N v small (g s) s (both s ev) (g s nought) (g s one) in
         branch (Tried g y k InTime s ev) (encloses (g s nought) (g s one) y) (λ h. hit h (omega (arith, q .0), q .1)) (λ h. shut h)
 
     module _ (some : 0 < k) (fits : k ≤ 4093) (numbers : (s : ℕ) → s < k → Numbers (g s) y) (e : Ends) (ev : Evaluations) where

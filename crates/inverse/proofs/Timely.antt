@@ -4,16 +4,16 @@ use mathlib.Core.Path.{_≡_, refl}
 use mathlib.Core.List.{List, []}
 use mathlib.Core.Bool.{Bool, false, not}
 use Prim.Native.Nat.{ℕ, _+_, _*_, _^_, _≤_, _<_}
-use native.Mathlib.Nat.{le-trans, lt-of-lt-of-le}
+use native.Mathlib.Nat.{le-trans}
 use native.Mathlib.Omega.{arith}
 use lib.IntN.{negsuc}
-use lib.Dec.{T, lit<}
+use lib.Dec.{T}
 use lib.ListN.{length}
-use lib.Ieee.{Float, fin, binary64, low, ofBits, le, fits}
+use lib.Ieee.{Float, fin, binary64, low, le, fits}
 use lib.Ieee.Exact.{HasValue}
 use Rattle.basis.specs.declared.Basis.{Basis}
 use Rattle.basis.specs.Basis.{segmentsOf}
-use Rattle.doubles.proofs.Units.{clear, units-of, in-order}
+use Rattle.doubles.proofs.Units.{clear}
 use Rattle.spline.specs.Segment.{segmentOf}
 use Rattle.invert.specs.declared.Inverted.{Inverted}
 use Rattle.invert.specs.Answer.{countTold, defaultPrecision}
@@ -22,6 +22,7 @@ use Rattle.steady.specs.declared.Method.the-variants.{Steady}
 use Rattle.steady.specs.Steady.{secant}
 use Rattle.steady.proofs.Lawful.{secant-lawful}
 use Rattle.steady.proofs.Ending.{isSpent}
+use Rattle.steady.proofs.Timely.{default-at, default-above, units-above}
 use Rattle.inverse.specs.declared.EndsBy.{EndsBy}
 use Rattle.inverse.specs.EndRule.{endRuleOf, own}
 use Rattle.inverse.specs.Inverse.{inverseBy}
@@ -43,16 +44,10 @@ module _ (m : EndsBy) (b : Basis) (y : Float) (ks : List Float) (check : Bool) (
       let r = located-timely secant secant-lawful y ε limit N K h e v small (segmentOf b ks) (segmentsOf b (length ks)) (kept.some m Steady b y ks check limit ε) (kept.fits m Steady b y ks check limit ε a) (kept.numbers m Steady b y ks check limit ε a) (rule .ends) (rule .made) in
       (r .0, le-trans (r .1) (omega (arith, rule-made m b ks (segmentOf b ks)))))
 
-  default-at : HasValue defaultPrecision false (0x1b_7cdf_d9d7_bdbb * 2 ^ 988) (2 ^ low binary64)
-  unfolding ofBits
-  default-at = (refl, refl)
-
   -- with the default precision
   pub default-timely : Within 39 (inverseBy m Steady b y ks check limit defaultPrecision)
-  default-timely = timely defaultPrecision 39 1040 (0x1b_7cdf_d9d7_bdbb * 2 ^ 988) refl default-at (lit< tt)
+  default-timely = timely defaultPrecision 39 1040 (0x1b_7cdf_d9d7_bdbb * 2 ^ 988) refl default-at default-above
 
   -- with any of 2^-50 at least
   pub any-timely : (ε : Float) → T (fits binary64 ε) → T (clear ε) → T (le (fin false 1 (negsuc 49)) ε) → Within 59 (inverseBy m Steady b y ks check limit ε)
-  any-timely ε g c l =
-      let U = units-of binary64 ε g c in
-      timely ε 59 1020 (U .h) refl (U .is) (lt-of-lt-of-le (lit< {n = 2 ^ 1024} tt) (in-order binary64 (fin false 1 (negsuc 49)) ε (2 ^ 1024) (U .h) (refl, refl) (U .is) l))
+  any-timely ε g c l = let u = units-above ε g c l in timely ε 59 1020 (u .0) refl (u .1) (u .2)

@@ -13,3 +13,5 @@ pub mod Values
 pub mod Valve
 pub mod Strict
 pub mod Seconds
+pub mod Fewer
+pub mod Knots

@@ -13,6 +13,7 @@ use Rattle.spline.proofs.spline.Reads as spline
 use Rattle.spline.proofs.spline_segment.Reads as spline_segment
 use Rattle.invert.proofs.spline_inverse_segment_with.Reads as spline_inverse_segment_with
 use Rattle.invert.proofs.spline_inverse_segment.Reads as spline_inverse_segment
+use Rattle.steady.proofs.spline_inverse_segment_by.Reads as spline_inverse_segment_by
 use Rattle.inverse.proofs.spline_inverse_by.Reads as spline_inverse_by
 use Rattle.inverse.proofs.spline_inverse_with.Reads as spline_inverse_with
 use Rattle.inverse.proofs.spline_inverse.Reads as spline_inverse
@@ -63,6 +64,9 @@ spline-inverse-segment-with-one-reply κs a z z′ e e′ p q = one p q
 
 pub spline-inverse-segment-one-reply : OneReply spline_inverse_segment.Learnt (λ κs z e z′ e′. z ≡ z′)
 spline-inverse-segment-one-reply κs a z z′ e e′ p q = one p q
+
+pub spline-inverse-segment-by-one-reply : OneReply spline_inverse_segment_by.Learnt (λ κs z e z′ e′. z ≡ z′)
+spline-inverse-segment-by-one-reply κs a z z′ e e′ p q = one p q
 
 pub spline-inverse-by-one-reply : OneReply spline_inverse_by.Learnt (λ κs z e z′ e′. z ≡ z′)
 spline-inverse-by-one-reply κs a z z′ e e′ p q = one p q

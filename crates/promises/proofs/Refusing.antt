@@ -34,6 +34,8 @@ use Rattle.invert.proofs.spline_inverse_segment_with.Reads as spline_inverse_se
 use Rattle.invert.proofs.spline_inverse_segment.Reads as spline_inverse_segment
 use Rattle.inverse.specs.Inverse.{inverseUses, inverseOf}
 use Rattle.inverse.proofs.Refusals.{inverse-refused-only, inverse-refused-where}
+use Rattle.steady.specs.Method.{ruleOf}
+use Rattle.steady.proofs.spline_inverse_segment_by.Reads as spline_inverse_segment_by
 use Rattle.inverse.proofs.spline_inverse_by.Reads as spline_inverse_by
 use Rattle.inverse.proofs.spline_inverse_with.Reads as spline_inverse_with
 use Rattle.inverse.proofs.spline_inverse.Reads as spline_inverse
@@ -144,6 +146,10 @@ spline-inverse-segment-with-refuses κs a z e p r = carried p (segment-place-ref
 pub spline-inverse-segment-refuses : Keeps spline_inverse_segment.Learnt
     (λ κs a z e. (r : Refusal) → Exactly (z ≡ I.Refused r) (First (inverseSegmentUses (a .1 .0) (now (a .1 .1 .0)) defaultLimit defaultPrecision) rows r))
 spline-inverse-segment-refuses κs a z e p r = carried p (segment-place-refused asCrate (a .0) (a .1 .0) (now (a .1 .1 .0)) defaultLimit defaultPrecision r)
+
+pub spline-inverse-segment-by-refuses : Keeps spline_inverse_segment_by.Learnt
+    (λ κs a z e. (r : Refusal) → Exactly (z ≡ I.Refused r) (First (inverseSegmentUses (a .1 .0) (now (a .1 .1 .0)) (a .1 .1 .1 .0) (a .1 .1 .1 .1 .0)) rows r))
+spline-inverse-segment-by-refuses κs a z e p r = carried p (segment-place-refused (ruleOf (a .1 .1 .1 .1 .1 .0)) (a .0) (a .1 .0) (now (a .1 .1 .0)) (a .1 .1 .1 .0) (a .1 .1 .1 .1 .0) r)
 
 pub spline-inverse-by-refuses : Keeps spline_inverse_by.Learnt
     (λ κs a z e. (r : Refusal) → Exactly (z ≡ I.Refused r) (First (inverseUses (a .1 .0) (a .1 .1 .0) (now (a .1 .1 .1 .0)) (a .0 .check) (a .0 .limit) (a .0 .precision)) rows r))

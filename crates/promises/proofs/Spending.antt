@@ -1,5 +1,5 @@
--- `spent` says that every round was made: the latest evaluations of the list, as many as the limit, are of the segment that is told. Assumes nothing.
-use mathlib.Core.Path.{_≡_, sym, subst}
+-- `spent` says that every round was made: the list of evaluations ends with those of the two ends of the segment that is told, and after them as many of it as the limit says. Assumes nothing.
+use mathlib.Core.Path.{_≡_, refl, sym, subst}
 use mathlib.Core.Bool.{Bool, true, false, cond}
 use mathlib.Core.List.{List, [], _∷_}
 use Prim.Native.Nat.{ℕ, zero, suc, _+_, _-_, _/_, min}
@@ -23,8 +23,8 @@ use Rattle.invert.specs.declared.State.{State}
 use Rattle.invert.specs.Evaluations.{Evaluations}
 use Rattle.invert.specs.Round.{Rule, narrow, Turn, found, on, turn, probed, settled}
 use Rattle.invert.specs.Rounds.{Placed, rounds}
-use Rattle.invert.specs.Segment.{encloses, near, start, opening, entered, Entry, outside, inside, enter, Outcome, off, placed, orElse, evaluationsOf}
-use Rattle.invert.specs.Answer.{answered, inverted, unlessRefused, defaultLimit, defaultPrecision}
+use Rattle.invert.specs.Segment.{encloses, near, start, opening, entered, Entry, outside, inside, enter, Outcome, off, placed, orElse, outcomeOf, evaluationsOf}
+use Rattle.invert.specs.Answer.{answered, alone, inverted, unlessRefused, inverseSegmentUses, inverseSegmentBy, segmentEvaluationsBy, defaultLimit, defaultPrecision}
 use Rattle.invert.proofs.Ends.{both}
 use Rattle.search.specs.Bound.{bitsOf}
 use Rattle.search.specs.Search.{before, Trial, tries, last, halve, find}
@@ -38,6 +38,9 @@ use Rattle.inverse.specs.EndRule.{atLow, atHigh, EndRule, endRuleOf}
 use Rattle.inverse.specs.Curve.{parameterOf, ended, located, evaluations}
 use Rattle.inverse.specs.Inverse.{inverseUses, inverseBy, evaluationsBy}
 use Rattle.inverse.proofs.Facts.{AtPlace}
+use Rattle.invert.proofs.spline_inverse_segment_with.Reads as spline_inverse_segment_with
+use Rattle.invert.proofs.spline_inverse_segment.Reads as spline_inverse_segment
+use Rattle.steady.proofs.spline_inverse_segment_by.Reads as spline_inverse_segment_by
 use Rattle.inverse.proofs.spline_inverse_by.Reads as spline_inverse_by
 use Rattle.inverse.proofs.spline_inverse_with.Reads as spline_inverse_with
 use Rattle.inverse.proofs.spline_inverse.Reads as spline_inverse
@@ -55,48 +58,59 @@ pub data Then (s : ℕ) (ev : Evaluations) : ℕ → Evaluations → Type 0 wher
   none : Then s ev 0 ev
   more : {n : ℕ} {l : Evaluations} (x : Float) → Then s ev n l → Then s ev (suc n) ((s, x) ∷ l)
 
+-- p is in segment s, whose ends were evaluated after ev, and then n evaluations more were made of it
+abbrev pub SpentIn : ℕ → Evaluations → ℕ → Placed → Type 0
+SpentIn s ev n p = (p .segment ≡ s) × Then s (both s ev) n (p .made)
+
 -- ---- a segment
 module _ (R : Rule) (f : Float → Float) (s : ℕ) (y ε : Float) (rising : Bool) (limit : ℕ) (ev : Evaluations) where
   -- what a round leaves, m having been made
   abbrev Left : ℕ → Turn → Type 0
   Left m (found g x b l) = IsSpent g → ⊥
-  Left m (on st l) = Then s ev m l
+  Left m (on st l) = Then s (both s ev) m l
 
-  turn-left : (m i : ℕ) (st : State) (l : Evaluations) → Then s ev m l → Left (suc m) (turn R f s y ε rising limit i st l)
+  turn-left : (m i : ℕ) (st : State) (l : Evaluations) → Then s (both s ev) m l → Left (suc m) (turn R f s y ε rising limit i st l)
   unfolding turn probed settled
   turn-left m i st l t =
       let x = R limit i y st .place in
       branch (Left (suc m)) (narrow ε (st .bracket)) (λ _ q. q) (λ _. branch (Left (suc m)) (lt (magnitudeOf (sub binary64 (f x) y)) ε) (λ _ q. q) (λ _. more x t))
 
-  rounds-spent : (n i m j : ℕ) (t : Turn) → m + n ≡ j → Left m t → let p = rounds R f s y ε rising limit n i t in IsSpent (p .ground) → Then (p .segment) ev j (p .made)
+  rounds-spent : (n i m j : ℕ) (t : Turn) → m + n ≡ j → Left m t → let p = rounds R f s y ε rising limit n i t in IsSpent (p .ground) → SpentIn s ev j p
   unfolding rounds
   rounds-spent zero i m j (found g x b l) e h q = absurd (h q)
-  rounds-spent zero i m j (on st l) e h q = let e : m ≡ j = omega arith in subst (λ (j : ℕ). Then s ev j l) e h
+  rounds-spent zero i m j (on st l) e h q = let e : m ≡ j = omega arith in (refl, subst (λ (j : ℕ). Then s (both s ev) j l) e h)
   rounds-spent (suc n) i m j (found g x b l) e h q = absurd (h q)
   rounds-spent (suc n) i m j (on st l) e h q = rounds-spent n (suc i) (suc m) j (turn R f s y ε rising limit i st l) (omega arith) (turn-left m i st l h) q
 
--- so of an outcome
-abbrev pub Rounded : ℕ → Outcome → Type 0
-Rounded limit (off l) = Unit
-Rounded limit (placed p) = IsSpent (p .ground) → (ev : Evaluations) × Then (p .segment) ev limit (p .made)
+-- so of a trial after ev
+abbrev pub SpentTrial : ℕ → Evaluations → ℕ → Entry → Type 0
+SpentTrial s ev limit (outside v l) = Unit
+SpentTrial s ev limit (inside p) = IsSpent (p .ground) → SpentIn s ev limit p
 
--- and of a trial
-abbrev RoundedIn : ℕ → Entry → Type 0
-RoundedIn limit (outside v l) = Unit
-RoundedIn limit (inside p) = IsSpent (p .ground) → (ev : Evaluations) × Then (p .segment) ev limit (p .made)
-
-enter-rounded : (R : Rule) (f : Float → Float) (s : ℕ) (y ε : Float) (limit : ℕ) (ev : Evaluations) → RoundedIn limit (enter R f s y ε limit ev)
+enter-spent : (R : Rule) (f : Float → Float) (s : ℕ) (y ε : Float) (limit : ℕ) (ev : Evaluations) → SpentTrial s ev limit (enter R f s y ε limit ev)
 unfolding enter entered
-enter-rounded R f s y ε limit ev =
-    let l = both s ev in
+enter-spent R f s y ε limit ev =
     let rising = lt (f nought) (f one) in
-    let t = on (start (opening (f nought) (f one))) l in
-    let P : Placed → Type 0 = λ p. IsSpent (p .ground) → (e : Evaluations) × Then (p .segment) e limit (p .made) in
-    branch (RoundedIn limit) (encloses (f nought) (f one) y)
+    let t = on (start (opening (f nought) (f one))) (both s ev) in
+    let P : Placed → Type 0 = λ p. IsSpent (p .ground) → SpentIn s ev limit p in
+    branch (SpentTrial s ev limit) (encloses (f nought) (f one) y)
     (λ _. branch P (near y (f nought) ε) (λ _ q. absurd q)
     (λ _. branch P (near y (f one) ε) (λ _ q. absurd q)
-    (λ _ q. (l, rounds-spent R f s y ε rising limit l limit 0 0 limit t (omega arith) none q))))
+    (λ _ q. rounds-spent R f s y ε rising limit ev limit 0 0 limit t (omega arith) none q)))
     (λ _. tt)
+
+-- and of what a search comes to, whatever it evaluated before
+abbrev pub Rounded : ℕ → Outcome → Type 0
+Rounded limit (off l) = Unit
+Rounded limit (placed p) = IsSpent (p .ground) → (ev : Evaluations) × Then (p .segment) (both (p .segment) ev) limit (p .made)
+
+abbrev RoundedIn : ℕ → Entry → Type 0
+RoundedIn limit (outside v l) = Unit
+RoundedIn limit (inside p) = IsSpent (p .ground) → (ev : Evaluations) × Then (p .segment) (both (p .segment) ev) limit (p .made)
+
+told-of : (s : ℕ) (ev : Evaluations) (limit : ℕ) (e : Entry) → SpentTrial s ev limit e → RoundedIn limit e
+told-of s ev limit (outside v l) h = tt
+told-of s ev limit (inside p) h = λ q. let r = h q in (ev, subst (λ (i : ℕ). Then i (both i ev) limit (p .made)) (sym (r .0)) (r .1))
 
 -- ---- a search
 goes : (limit : ℕ) (e : Entry) (f : Float → Evaluations → Outcome) → RoundedIn limit e → ((v : Float) (t : Evaluations) → Rounded limit (f v t)) → Rounded limit (orElse e f)
@@ -128,15 +142,15 @@ module _ (limit : ℕ) (E : Trial) (trials : (s : ℕ) (ev : Evaluations) → Ro
     find-all ev = branch (Rounded limit) (leb k 12) (λ _. tries-rounded k 0 ev) (λ _. halve-rounded (bitsOf k) 0 k ev)
 
 find-rounded : (R : Rule) (g : ℕ → Float → Float) (y ε : Float) (limit : ℕ) (rising : Bool) (k : ℕ) (ev : Evaluations) → Rounded limit (find (trial R g y ε limit) y rising k ev)
-find-rounded R g y ε limit rising k ev = find-all limit (trial R g y ε limit) (λ s ev. enter-rounded R (g s) s y ε limit ev) y rising k ev
+find-rounded R g y ε limit rising k ev = find-all limit (trial R g y ε limit) (λ s ev. told-of s ev limit (enter R (g s) s y ε limit ev) (enter-spent R (g s) s y ε limit ev)) y rising k ev
 
--- ---- the call
+-- ---- a curve's call
 module _ (m : EndsBy) (how : Method) (b : Basis) (y : Float) (ks : List Float) (check : Bool) (limit : ℕ) (ε : Float) where
   abbrev rule : EndRule
   rule = endRuleOf m b ks (segmentOf b ks)
 
   abbrev pub AllRounds : Inverted → Type 0
-  AllRounds r = AtPlace (λ p. IsSpent (p .ground) → (ev : Evaluations) × Then (p .segment) ev limit (evaluationsBy m how b y ks check limit ε)) r
+  AllRounds r = AtPlace (λ p. IsSpent (p .ground) → (ev : Evaluations) × Then (p .segment) (both (p .segment) ev) limit (evaluationsBy m how b y ks check limit ε)) r
 
   pub inverse-spent : AllRounds (inverseBy m how b y ks check limit ε)
   unfolding inverseBy evaluationsBy located evaluations
@@ -148,7 +162,7 @@ module _ (m : EndsBy) (how : Method) (b : Basis) (y : Float) (ks : List Float) (
       k = segmentsOf b (length ks)
 
       go : (v : Verdict) (a c : Bool) (o : Outcome) → Rounded limit o
-          → AtPlace (λ p. IsSpent (p .ground) → (ev : Evaluations) × Then (p .segment) ev limit (unlessRefused v (cond a (rule .made) (cond c (rule .made) (evaluationsOf o)))))
+          → AtPlace (λ p. IsSpent (p .ground) → (ev : Evaluations) × Then (p .segment) (both (p .segment) ev) limit (unlessRefused v (cond a (rule .made) (cond c (rule .made) (evaluationsOf o)))))
           (inverted v (cond a (ended (rule .made) 0 nought) (cond c (ended (rule .made) (segmentsOf b (length ks) - 1) one) (answered (parameterOf (segmentsOf b (length ks))) o))))
       go Passed true c o h = λ q. absurd q
       go Passed false true o h = λ q. absurd q
@@ -167,3 +181,29 @@ spline-inverse-with-spent κs a z e p = reply-spent Knots AsCrate (a .0) (a .1 .
 
 pub spline-inverse-spent : Keeps spline_inverse.Learnt (λ κs a z e. AllRounds Knots AsCrate (a .0) (a .1 .0) (now (a .1 .1 .0)) (a .1 .1 .1 .0) defaultLimit defaultPrecision z)
 spline-inverse-spent κs a z e p = reply-spent Knots AsCrate (a .0) (a .1 .0) (now (a .1 .1 .0)) (a .1 .1 .1 .0) defaultLimit defaultPrecision z p
+
+-- ---- one segment's call: those of its two ends, then as many as the limit says, and no other
+module _ (how : Method) (b : Basis) (y : Float) (cv : List Float) (limit : ℕ) (ε : Float) where
+  abbrev pub SegmentAllRounds : Inverted → Type 0
+  SegmentAllRounds r = AtPlace (λ p. IsSpent (p .ground) → Then 0 (both 0 []) limit (segmentEvaluationsBy (ruleOf how) b y cv limit ε)) r
+
+  segment-spent : SegmentAllRounds (inverseSegmentBy (ruleOf how) b y cv limit ε)
+  unfolding inverseSegmentBy segmentEvaluationsBy
+  segment-spent = go (first (inverseSegmentUses y cv limit ε)) (enter (ruleOf how) (segmentOf b cv 0) 0 y ε limit []) (enter-spent (ruleOf how) (segmentOf b cv 0) 0 y ε limit [])
+    where
+      go : (v : Verdict) (e : Entry) → SpentTrial 0 [] limit e → AtPlace (λ p. IsSpent (p .ground) → Then 0 (both 0 []) limit (unlessRefused v (evaluationsOf (outcomeOf e)))) (inverted v (answered alone (outcomeOf e)))
+      go Passed (outside v l) h = tt
+      go Passed (inside p) h = λ q. h q .1
+      go (Failed r) e h = tt
+
+  segment-reply-spent : (r : Inverted) → r ≡ inverseSegmentBy (ruleOf how) b y cv limit ε → SegmentAllRounds r
+  segment-reply-spent r e = subst SegmentAllRounds (sym e) segment-spent
+
+pub spline-inverse-segment-by-spent : Keeps spline_inverse_segment_by.Learnt (λ κs a z e. SegmentAllRounds (a .1 .1 .1 .1 .1 .0) (a .0) (a .1 .0) (now (a .1 .1 .0)) (a .1 .1 .1 .0) (a .1 .1 .1 .1 .0) z)
+spline-inverse-segment-by-spent κs a z e p = segment-reply-spent (a .1 .1 .1 .1 .1 .0) (a .0) (a .1 .0) (now (a .1 .1 .0)) (a .1 .1 .1 .0) (a .1 .1 .1 .1 .0) z p
+
+pub spline-inverse-segment-with-spent : Keeps spline_inverse_segment_with.Learnt (λ κs a z e. SegmentAllRounds AsCrate (a .0) (a .1 .0) (now (a .1 .1 .0)) (a .1 .1 .1 .0) (a .1 .1 .1 .1 .0) z)
+spline-inverse-segment-with-spent κs a z e p = segment-reply-spent AsCrate (a .0) (a .1 .0) (now (a .1 .1 .0)) (a .1 .1 .1 .0) (a .1 .1 .1 .1 .0) z p
+
+pub spline-inverse-segment-spent : Keeps spline_inverse_segment.Learnt (λ κs a z e. SegmentAllRounds AsCrate (a .0) (a .1 .0) (now (a .1 .1 .0)) defaultLimit defaultPrecision z)
+spline-inverse-segment-spent κs a z e p = segment-reply-spent AsCrate (a .0) (a .1 .0) (now (a .1 .1 .0)) defaultLimit defaultPrecision z p

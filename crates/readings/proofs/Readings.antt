@@ -11,17 +11,18 @@ use Rattle.doubles.specs.Whole.{wholeUpTo}
 use Rattle.spline.specs.Rows.{inRange, allInRange, firstBad}
 use Rattle.spline.specs.Curve.{curveValue}
 use Rattle.spline.specs.Evaluation.{splineOf}
-use Rattle.invert.specs.Answer.{precise}
-use Rattle.invert.specs.Round.{narrow, halving, weighed, chord, kept, fraction, moved, settled, probed, turn}
+use Rattle.invert.specs.Answer.{precise, inverseSegmentBy}
+use Rattle.invert.specs.Round.{narrow, halving, toward, weighed, chord, kept, fraction, moved, settled, probed, turn}
 use Rattle.invert.specs.Rounds.{rounds}
 use Rattle.invert.specs.Segment.{entered, enter}
+use Rattle.steady.specs.Steady.{allowed, inner, secant, paced}
 use Rattle.search.specs.Bound.{bitsOf}
 use Rattle.search.specs.Search.{tries, last, halve, find}
 use Rattle.inverse.specs.Order.{ordered, turnsAt}
 use Rattle.inverse.specs.Curve.{parameterOf, located, evaluations}
 use Rattle.inverse.specs.Inverse.{inverseBy, evaluationsBy}
 use Rattle.convert.specs.Conversion.{convertedOf}
-use Rattle.readings.specs.Readings.{minusFourTenths, fourTenths, nineTenths, nineteenTenths, Reading, tells, Hold, lengths, values, longest, places, halvings, conversions, table}
+use Rattle.readings.specs.Readings.{minusFourTenths, fourTenths, nineTenths, nineteenTenths, Reading, tells, Hold, lengths, values, longest, places, halvings, brackets, conversions, table}
 
 -- each is the double nearest to its decimal
 pub decimals : (minusFourTenths ≡ round binary64 true 4 10) × (fourTenths ≡ round binary64 false 4 10) × (nineTenths ≡ round binary64 false 9 10) × (nineteenTenths ≡ round binary64 false 19 10)
@@ -49,6 +50,10 @@ halvings-hold : Hold halvings
 unfolding halvings inverseBy evaluationsBy located evaluations find tries last halve bitsOf enter entered rounds turn probed settled moved fraction kept weighed halving chord narrow ordered turnsAt precise parameterOf inRange allInRange firstBad magnitudeOf lerpOf matrixOf ofBits ofInt round add sub mul div lt le eq neg isNan leadingZeros
 halvings-hold = (refl, (refl, (refl, (refl, tt))))
 
+brackets-hold : Hold brackets
+unfolding brackets inverseSegmentBy enter entered rounds turn probed settled moved fraction kept weighed halving toward chord narrow allowed inner secant paced precise inRange allInRange firstBad magnitudeOf lerpOf matrixOf ofBits ofInt round add sub mul div lt le eq neg isNan
+brackets-hold = (refl, (refl, (refl, tt)))
+
 conversions-hold : Hold conversions
 unfolding conversions convertedOf inRange allInRange firstBad matrixOf ofBits ofInt round add sub mul div lt le eq neg isNan
 conversions-hold = (refl, (refl, (refl, tt)))
@@ -58,4 +63,4 @@ both [] qs h k = k
 both (tells a t ∷ rs) qs h k = (h .0, both rs qs (h .1) k)
 
 pub readings : Hold table
-readings = both lengths _ lengths-hold (both values _ values-hold (both longest _ longest-hold (both places _ places-hold (both halvings _ halvings-hold conversions-hold))))
+readings = both lengths _ lengths-hold (both values _ values-hold (both longest _ longest-hold (both places _ places-hold (both halvings _ halvings-hold (both brackets _ brackets-hold conversions-hold)))))

@@ -17,19 +17,23 @@ use Rattle.spline.specs.declared.Evaluated.the-variants as E
 use Rattle.spline.specs.Rows.{curveLength}
 use Rattle.spline.specs.Evaluation.{splineOf}
 use Rattle.invert.specs.declared.Ground.{Ground}
-use Rattle.invert.specs.declared.Ground.the-variants.{End, Edge, Value}
+use Rattle.invert.specs.declared.Ground.the-variants.{End, Edge, Value, Spent}
 use Rattle.invert.specs.declared.Inverted.{Inverted}
 use Rattle.invert.specs.declared.Inverted.the-variants as I
-use Rattle.invert.specs.Answer.{defaultLimit, defaultPrecision}
+use Rattle.invert.specs.Answer.{inverseSegmentBy, defaultLimit, defaultPrecision}
 use Rattle.inverse.specs.Inverse.{inverseBy, inverseOf, inverseEvaluations}
 use Rattle.inverse.specs.declared.EndsBy.the-variants.{Curve}
-use Rattle.steady.specs.declared.Method.the-variants.{AsCrate}
+use Rattle.steady.specs.declared.Method.{Method}
+use Rattle.steady.specs.declared.Method.the-variants.{AsCrate, Taught, Steady}
+use Rattle.steady.specs.Method.{ruleOf}
 use Rattle.convert.specs.Conversion.{Conversion, gives, refuses, convertedOf}
 
--- ---- what a reading tells: a value or the knots, a place by its parameter, ground and count, or a refusal's number, 11 with its count; that a length is accepted; segments
+-- ---- what a reading tells: a value or the knots, a place by its parameter, ground and count, a bracket, or a refusal's number, 11 with its count; that a length is accepted; segments
 pub data Told : Type 0 where
   value : Float → Told
   place : Float → Ground → ℕ → Told
+  -- the bracket's two ends, the ground and the count
+  bracket : Float → Float → Ground → ℕ → Told
   knots : List Float → Told
   refused : ℕ → Told
   -- with the knot's number
@@ -54,6 +58,11 @@ ofInverted (I.Refused r) = ofRefusal r
 ofInverted (I.OffCurve n) = off n
 ofInverted (I.At p) = place (p .parameter) (p .ground) (p .count)
 
+abbrev pub ofBracket : Inverted → Told
+ofBracket (I.Refused r) = ofRefusal r
+ofBracket (I.OffCurve n) = off n
+ofBracket (I.At p) = bracket (p .lower) (p .upper) (p .ground) (p .count)
+
 abbrev pub ofConversion : Conversion → Told
 ofConversion (gives l) = knots l
 ofConversion (refuses r) = ofRefusal r
@@ -72,6 +81,8 @@ pub data Asked : Type 0 where
   place-of : Basis → List Float → Float → Bool → Float → Asked
   -- the same by the curve's own ends
   own-place-of : Basis → List Float → Float → Bool → Float → Asked
+  -- the bracket that an inversion of one segment leaves, by a method, with a limit
+  bracket-of : Method → Basis → List Float → Float → ℕ → Asked
   -- the segments that are evaluated for it, the first one first
   visited : Basis → List Float → Float → Asked
   -- a knot vector in another basis
@@ -85,6 +96,7 @@ answer (knots-of b n) = ofVerdict (first (curveLength b n))
 answer (at b ks x) = ofEvaluated (splineOf b x ks)
 answer (place-of b ks y check ε) = ofInverted (inverseOf b y ks check defaultLimit ε)
 answer (own-place-of b ks y check ε) = ofInverted (inverseBy Curve AsCrate b y ks check defaultLimit ε)
+answer (bracket-of how b cv y limit) = ofBracket (inverseSegmentBy (ruleOf how) b y cv limit defaultPrecision)
 answer (visited b ks y) = segments (reverse (map (λ e. e .0) (inverseEvaluations b y ks true defaultLimit defaultPrecision)))
 answer (turned from to ks) = ofConversion (convertedOf from to ks 4096)
 
@@ -188,6 +200,14 @@ halvings =
     ∷ tells (place-of Bspline (nought ∷ sixes 0 14) half true defaultPrecision) (off 24)
     ∷ []
 
+-- the square of the local place, at 1/4, after four rounds: three methods, three brackets
+unfoldable pub brackets : List Reading
+brackets =
+    tells (bracket-of AsCrate Power (nought ∷ one ∷ nought ∷ nought ∷ []) quarter 4) (bracket (ofBits binary64 0x3fdd_25d7_ee30_f953) (ofBits binary64 0x3fe0_590b_2164_2c86) Spent 6)
+    ∷ tells (bracket-of Taught Power (nought ∷ one ∷ nought ∷ nought ∷ []) quarter 4) (bracket (ofBits binary64 0x3fdd_50ed_d50e_dd51) (ofBits binary64 0x3fe0_8421_0842_1084) Spent 6)
+    ∷ tells (bracket-of Steady Power (nought ∷ one ∷ nought ∷ nought ∷ []) quarter 4) (bracket (ofBits binary64 0x3fdf_e327_a976_fc65) (ofBits binary64 0x3fe0_8421_0842_1084) Spent 6)
+    ∷ []
+
 -- conversions; the last loses a slope at its seam
 unfoldable pub conversions : List Reading
 conversions =
@@ -197,4 +217,4 @@ conversions =
     ∷ []
 
 abbrev pub table : List Reading
-table = lengths ++ (values ++ (longest ++ (places ++ (halvings ++ conversions))))
+table = lengths ++ (values ++ (longest ++ (places ++ (halvings ++ (brackets ++ conversions)))))

@@ -2,9 +2,12 @@
 use basis::Basis;
 use convert::Converted;
 use error::Refusal;
+use inverse::EndsBy;
+use inverse::Options;
 use invert::Ground;
 use invert::Inverted;
 use spline::Evaluated;
+use steady::Method;
 
 fn say(w: &[u8]) {
     io::write_all(1, w);
@@ -22,9 +25,16 @@ fn say_all(out: &[f64]) {
     }
 }
 
+// The number; 4 and 10 tell the knot too.
 fn say_refused(r: Refusal) {
+    let reply = error::reply(r);
+    let number = reply % 256;
     say(b"refused ");
-    io::print_decimal(1, error::number(r) as u64);
+    io::print_decimal(1, number as u64);
+    if number == 4 || number == 10 {
+        say(b" at ");
+        io::print_decimal(1, (reply / 256) as u64);
+    }
     say(b"\n");
 }
 
@@ -50,8 +60,7 @@ fn say_ground(g: Ground) {
     }
 }
 
-fn place(b: Basis, knots: &[f64], y: f64, check: bool, precision: f64) {
-    let a = inverse::spline_inverse_with(b, y, knots, check, 32, precision);
+fn say_place(a: Inverted) {
     match a {
         Inverted::At(p) => {
             say(b"place");
@@ -68,6 +77,37 @@ fn place(b: Basis, knots: &[f64], y: f64, check: bool, precision: f64) {
         }
         Inverted::Refused(r) => say_refused(r),
     }
+}
+
+fn place(b: Basis, knots: &[f64], y: f64, check: bool, precision: f64) {
+    say_place(inverse::spline_inverse_with(b, y, knots, check, 32, precision));
+}
+
+// By the curve's own ends.
+fn own_place(b: Basis, knots: &[f64], y: f64) {
+    let o = Options {
+        check: true,
+        limit: 32,
+        precision: 1e-10,
+        ends: EndsBy::Curve,
+        method: Method::AsCrate,
+    };
+    say_place(inverse::spline_inverse_by(o, b, y, knots));
+}
+
+// The bracket that four rounds leave.
+fn bracket(b: Basis, cv: &[f64], y: f64, how: Method) {
+    let a = steady::spline_inverse_segment_by(b, y, cv, 4, 1e-10, how);
+    let Inverted::At(p) = a else {
+        return;
+    };
+    say(b"bracket");
+    say_double(p.lower);
+    say_double(p.upper);
+    let g = p.ground;
+    say_ground(g);
+    io::print_decimal(1, p.count as u64);
+    say(b"\n");
 }
 
 fn turned(from: Basis, to: Basis, knots: &[f64], out: &mut [f64]) {
@@ -130,7 +170,15 @@ fn places() {
         84.0,
     ];
     place(Basis::Bspline, &six, 0.5, true, 1e-10);
+    own_place(Basis::Bspline, &six, 0.5);
     place(Basis::Bspline, &six[0..15], 0.5, true, 1e-10);
+}
+
+fn brackets() {
+    let square = [0.0, 1.0, 0.0, 0.0];
+    bracket(Basis::Power, &square, 0.25, Method::AsCrate);
+    bracket(Basis::Power, &square, 0.25, Method::Taught);
+    bracket(Basis::Power, &square, 0.25, Method::Steady);
 }
 
 fn conversions() {
@@ -158,6 +206,7 @@ fn others() {
 fn main() {
     values();
     places();
+    brackets();
     conversions();
     others();
 }

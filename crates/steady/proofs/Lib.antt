@@ -5,3 +5,4 @@ pub mod Times
 pub mod Choosing
 pub mod Turning
 pub mod Examples
+pub mod Timely
