@@ -22,7 +22,7 @@
  *     call is re-entrant, and may run in any thread or signal handler.
  *   - Stack: at most 96 bytes for an evaluation, 512 for an inversion, 400 for a conversion (c/stack.c measures them;
  *     a first call of memcpy through lazy binding takes the dynamic linker's some 3 KB besides).
- *   - An inversion makes at most limit + 26 evaluations on up to 12 segments and at most limit + 2 b + 6 above, where b
+ *   - An inversion makes at most limit + 24 evaluations on up to 12 segments and at most limit + 2 b + 4 above, where b
  *     is the number of binary digits of the segment count: 12 at most. In SIMMERSTOAT_ENDS_CURVE there are 2 more.
  */
 #ifndef SIMMERSTOAT_H
