@@ -106,7 +106,7 @@ fn is_default(o: &Options) -> bool {
 pub fn spline_inverse(t: &mut Tally, b: usize, y: f64, knots: &[f64], o: &Options) {
     let input = Input { call: Call::curve_inversion(o), bases: &[b], at: y, knots, more: o };
     let expected = model::spline_inverse(b, y, knots, o);
-    let ours = port::spline_inverse_with(b as u8, y, knots, o);
+    let ours = port::spline_inverse_by(b as u8, y, knots, o);
     hold("the model", &input, inverted(&expected), ours);
     hold("a broken promise", &input, promised::broken_by_curve(b, y, knots, o, &ours, expected.rounds), None);
     let comparable = o.is_the_crates() && matches!(ours.reply & 255, 0 | 1 | 2 | 10 | 11);
@@ -117,6 +117,9 @@ pub fn spline_inverse(t: &mut Tally, b: usize, y: f64, knots: &[f64], o: &Option
             hold("the crate by default", &input, theirs, parameter(&ours));
         }
     }
+    if o.is_the_crates() {
+        hold("the call with options", &input, ours, port::spline_inverse_with(b as u8, y, knots, o));
+    }
     if is_default(o) {
         hold("the call with options", &input, ours, port::spline_inverse_default(b as u8, y, knots, o.check));
     }
@@ -125,7 +128,7 @@ pub fn spline_inverse(t: &mut Tally, b: usize, y: f64, knots: &[f64], o: &Option
 pub fn spline_inverse_segment(t: &mut Tally, b: usize, y: f64, cv: &[f64], o: &Options) {
     let input = Input { call: Call::segment_inversion(o), bases: &[b], at: y, knots: cv, more: o };
     let expected = model::spline_inverse_segment(b, y, cv, o);
-    let ours = port::spline_inverse_segment_with(b as u8, y, cv, o);
+    let ours = port::spline_inverse_segment_by(b as u8, y, cv, o);
     hold("the model", &input, inverted(&expected), ours);
     hold("a broken promise", &input, promised::broken_by_segment(b, y, cv, o, &ours, expected.rounds), None);
     let comparable = o.is_the_crates() && matches!(ours.reply, 0 | 11);
@@ -136,6 +139,9 @@ pub fn spline_inverse_segment(t: &mut Tally, b: usize, y: f64, cv: &[f64], o: &O
             let theirs = crates::spline_inverse_segment_default(b, y, cv).map(f64::to_bits);
             hold("the crate by default", &input, theirs, parameter(&ours));
         }
+    }
+    if o.is_the_crates() {
+        hold("the call with options", &input, ours, port::spline_inverse_segment_with(b as u8, y, cv, o));
     }
     if is_default(o) {
         hold("the call with options", &input, ours, port::spline_inverse_segment_default(b as u8, y, cv));

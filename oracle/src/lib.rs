@@ -3,6 +3,7 @@ pub mod compare;
 pub mod crates;
 pub mod inputs;
 pub mod model;
+pub mod modes;
 pub mod parts;
 pub mod port;
 pub mod promised;

@@ -11,9 +11,9 @@ pub struct Refused {
 }
 
 impl Refused {
-    /// As the exports give it: the number alone.
+    /// As the exports give it.
     pub fn reply(self) -> u32 {
-        u32::from(self.no)
+        self.no as u32 + 256 * self.place as u32
     }
 }
 

@@ -8,11 +8,6 @@ use crate::model::Options;
 pub const UNTOUCHED: u64 = 0x7FF8_DEAD_BEEF_0001;
 pub const UNTOUCHED_WHOLE: usize = 0xDEAD_BEEF;
 
-/// A reply in the width that the comparison has.
-fn told(reply: impl Into<u32>) -> u32 {
-    reply.into()
-}
-
 fn untouched() -> f64 {
     f64::from_bits(UNTOUCHED)
 }
@@ -46,13 +41,13 @@ pub fn is_len_ok(b: u8, n: usize) -> u8 {
 
 pub fn spline(b: u8, x: f64, knots: &[f64]) -> Valued {
     let mut value = untouched();
-    let reply = unsafe { told(raw::simmerstoat_spline(b, x, knots.as_ptr(), knots.len(), &mut value)) };
+    let reply = unsafe { raw::simmerstoat_spline(b, x, knots.as_ptr(), knots.len(), &mut value) };
     Valued { reply, value: value.to_bits() }
 }
 
 pub fn spline_segment(b: u8, x: f64, cv: &[f64]) -> Valued {
     let mut value = untouched();
-    let reply = unsafe { told(raw::simmerstoat_spline_segment(b, x, cv.as_ptr(), cv.len(), &mut value)) };
+    let reply = unsafe { raw::simmerstoat_spline_segment(b, x, cv.as_ptr(), cv.len(), &mut value) };
     Valued { reply, value: value.to_bits() }
 }
 
@@ -62,31 +57,64 @@ fn inverted(call: impl FnOnce(&mut [f64; 4], &mut [usize; 3]) -> u32) -> Inverte
     Inverted { reply, place: place.map(f64::to_bits), whole }
 }
 
+/// The rule of the ends and the method by their numbers.
+#[allow(clippy::too_many_arguments)]
+pub fn spline_inverse_numbered(
+    b: u8,
+    y: f64,
+    knots: &[f64],
+    check: bool,
+    limit: u16,
+    precision: f64,
+    ends: u8,
+    method: u8,
+) -> Inverted {
+    inverted(|place, whole| unsafe {
+        let (at, n) = (knots.as_ptr(), knots.len());
+        raw::simmerstoat_spline_inverse_by(b, y, at, n, check, limit, precision, ends, method, place, whole)
+    })
+}
+
+pub fn spline_inverse_by(b: u8, y: f64, knots: &[f64], o: &Options) -> Inverted {
+    spline_inverse_numbered(b, y, knots, o.check, o.limit, o.precision, o.ends as u8, o.method as u8)
+}
+
 /// By the crate's rule of the ends and its method.
 pub fn spline_inverse_with(b: u8, y: f64, knots: &[f64], o: &Options) -> Inverted {
     inverted(|place, whole| unsafe {
         let (at, n) = (knots.as_ptr(), knots.len());
-        told(raw::simmerstoat_spline_inverse_with(b, y, at, n, o.check, o.limit, o.precision, place, whole))
+        raw::simmerstoat_spline_inverse_with(b, y, at, n, o.check, o.limit, o.precision, place, whole)
     })
 }
 
 pub fn spline_inverse_default(b: u8, y: f64, knots: &[f64], check: bool) -> Inverted {
     inverted(|place, whole| unsafe {
-        told(raw::simmerstoat_spline_inverse(b, y, knots.as_ptr(), knots.len(), check, place, whole))
+        raw::simmerstoat_spline_inverse(b, y, knots.as_ptr(), knots.len(), check, place, whole)
     })
+}
+
+pub fn spline_inverse_segment_numbered(b: u8, y: f64, cv: &[f64], limit: u16, precision: f64, method: u8) -> Inverted {
+    inverted(|place, whole| unsafe {
+        let (at, n) = (cv.as_ptr(), cv.len());
+        raw::simmerstoat_spline_inverse_segment_by(b, y, at, n, limit, precision, method, place, whole)
+    })
+}
+
+pub fn spline_inverse_segment_by(b: u8, y: f64, cv: &[f64], o: &Options) -> Inverted {
+    spline_inverse_segment_numbered(b, y, cv, o.limit, o.precision, o.method as u8)
 }
 
 /// By the crate's method.
 pub fn spline_inverse_segment_with(b: u8, y: f64, cv: &[f64], o: &Options) -> Inverted {
     inverted(|place, whole| unsafe {
         let (at, n) = (cv.as_ptr(), cv.len());
-        told(raw::simmerstoat_spline_inverse_segment_with(b, y, at, n, o.limit, o.precision, place, whole))
+        raw::simmerstoat_spline_inverse_segment_with(b, y, at, n, o.limit, o.precision, place, whole)
     })
 }
 
 pub fn spline_inverse_segment_default(b: u8, y: f64, cv: &[f64]) -> Inverted {
     inverted(|place, whole| unsafe {
-        told(raw::simmerstoat_spline_inverse_segment(b, y, cv.as_ptr(), cv.len(), place, whole))
+        raw::simmerstoat_spline_inverse_segment(b, y, cv.as_ptr(), cv.len(), place, whole)
     })
 }
 
@@ -100,12 +128,12 @@ fn converted(room: usize, call: impl FnOnce(&mut [f64], &mut usize) -> u32) -> C
 
 pub fn convert_segment(from: u8, to: u8, cv: &[f64], room: usize) -> Converted {
     converted(room, |out, _| unsafe {
-        told(raw::simmerstoat_convert_segment(from, to, cv.as_ptr(), cv.len(), out.as_mut_ptr(), out.len()))
+        raw::simmerstoat_convert_segment(from, to, cv.as_ptr(), cv.len(), out.as_mut_ptr(), out.len())
     })
 }
 
 pub fn convert_spline(from: u8, to: u8, knots: &[f64], room: usize) -> Converted {
     converted(room, |out, written| unsafe {
-        told(raw::simmerstoat_convert_spline(from, to, knots.as_ptr(), knots.len(), out.as_mut_ptr(), out.len(), written))
+        raw::simmerstoat_convert_spline(from, to, knots.as_ptr(), knots.len(), out.as_mut_ptr(), out.len(), written)
     })
 }

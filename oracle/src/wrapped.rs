@@ -1,6 +1,7 @@
 //! The crate in the shape of the exports, for the speed table: bare, and behind the refusals of the port.
 //!
-//! The scans fold a flag and have no early exit, which is the quickest that we know of in Rust.
+//! The scans fold a flag and have no early exit, which is the quickest that we know of in Rust; the knot at fault is looked
+//! for only where there is one. A reply is the refusal's number, and 256 times that knot's place.
 
 use crate::crates;
 use crate::model::STEP;
@@ -21,7 +22,21 @@ fn in_order(knots: &[f64]) -> bool {
     }
 }
 
-fn length(b: u8, n: usize) -> u8 {
+/// The reply where some knot is out of range.
+#[cold]
+fn bad_knot(knots: &[f64]) -> u32 {
+    4 + 256 * knots.iter().position(|k| !in_range(&[*k])).unwrap_or(0) as u32
+}
+
+/// The reply where the knots turn back.
+#[cold]
+fn turns_back(knots: &[f64]) -> u32 {
+    let rising = knots[1] < knots[knots.len() - 2];
+    let against = |i: &usize| if rising { knots[*i] > knots[*i + 1] } else { knots[*i] < knots[*i + 1] };
+    10 + 256 * (1..knots.len() - 1).find(against).unwrap_or(0) as u32
+}
+
+fn length(b: u8, n: usize) -> u32 {
     let Some(&step) = STEP.get(b as usize) else { return 255 };
     if n < 4 {
         return 1;
@@ -43,13 +58,13 @@ fn length(b: u8, n: usize) -> u8 {
 }
 
 #[inline(never)]
-pub fn bare_segment(b: u8, x: f64, cv: &[f64], value: &mut f64) -> u8 {
+pub fn bare_segment(b: u8, x: f64, cv: &[f64], value: &mut f64) -> u32 {
     *value = crates::spline_segment(b as usize, x, cv);
     0
 }
 
 #[inline(never)]
-pub fn segment(b: u8, x: f64, cv: &[f64], value: &mut f64) -> u8 {
+pub fn segment(b: u8, x: f64, cv: &[f64], value: &mut f64) -> u32 {
     if b > 5 {
         return 255;
     }
@@ -60,25 +75,25 @@ pub fn segment(b: u8, x: f64, cv: &[f64], value: &mut f64) -> u8 {
         return 5;
     }
     if !in_range(cv) {
-        return 4;
+        return bad_knot(cv);
     }
     *value = crates::spline_segment(b as usize, x, cv);
     0
 }
 
 #[inline(never)]
-pub fn bare_spline(b: u8, x: f64, knots: &[f64], value: &mut f64) -> u8 {
+pub fn bare_spline(b: u8, x: f64, knots: &[f64], value: &mut f64) -> u32 {
     match crates::spline(b as usize, x, knots) {
         Ok(v) => {
             *value = v;
             0
         }
-        Err(no) => no,
+        Err(no) => no as u32,
     }
 }
 
 #[inline(never)]
-pub fn spline(b: u8, x: f64, knots: &[f64], value: &mut f64) -> u8 {
+pub fn spline(b: u8, x: f64, knots: &[f64], value: &mut f64) -> u32 {
     let no = length(b, knots.len());
     if no != 0 {
         return no;
@@ -87,23 +102,23 @@ pub fn spline(b: u8, x: f64, knots: &[f64], value: &mut f64) -> u8 {
         return 5;
     }
     if !in_range(knots) {
-        return 4;
+        return bad_knot(knots);
     }
     bare_inlined(b, x, knots, value)
 }
 
 #[inline(always)]
-fn bare_inlined(b: u8, x: f64, knots: &[f64], value: &mut f64) -> u8 {
+fn bare_inlined(b: u8, x: f64, knots: &[f64], value: &mut f64) -> u32 {
     match crates::spline(b as usize, x, knots) {
         Ok(v) => {
             *value = v;
             0
         }
-        Err(no) => no,
+        Err(no) => no as u32,
     }
 }
 
-fn told(answer: Option<f64>, parameter: &mut f64) -> u8 {
+fn told(answer: Option<f64>, parameter: &mut f64) -> u32 {
     match answer {
         Some(x) => {
             *parameter = x;
@@ -114,12 +129,12 @@ fn told(answer: Option<f64>, parameter: &mut f64) -> u8 {
 }
 
 #[inline(never)]
-pub fn bare_inverse_segment(b: u8, y: f64, cv: &[f64], parameter: &mut f64) -> u8 {
+pub fn bare_inverse_segment(b: u8, y: f64, cv: &[f64], parameter: &mut f64) -> u32 {
     told(crates::spline_inverse_segment_default(b as usize, y, cv), parameter)
 }
 
 #[inline(never)]
-pub fn inverse_segment(b: u8, y: f64, cv: &[f64], parameter: &mut f64) -> u8 {
+pub fn inverse_segment(b: u8, y: f64, cv: &[f64], parameter: &mut f64) -> u32 {
     if b > 5 {
         return 255;
     }
@@ -130,36 +145,36 @@ pub fn inverse_segment(b: u8, y: f64, cv: &[f64], parameter: &mut f64) -> u8 {
         return 5;
     }
     if !in_range(cv) {
-        return 4;
+        return bad_knot(cv);
     }
     told(crates::spline_inverse_segment_default(b as usize, y, cv), parameter)
 }
 
 #[inline(never)]
-pub fn bare_inverse(b: u8, y: f64, knots: &[f64], check: bool, parameter: &mut f64) -> u8 {
+pub fn bare_inverse(b: u8, y: f64, knots: &[f64], check: bool, parameter: &mut f64) -> u32 {
     told(crates::spline_inverse_default(b as usize, y, knots, check), parameter)
 }
 
 /// 4 or 10, or 0. With the order check one pass is enough where nothing is wrong: knots in order lie between
 /// the second and the last.
-fn knots_refusal(knots: &[f64], check: bool) -> u8 {
+fn knots_refusal(knots: &[f64], check: bool) -> u32 {
     if !check {
-        return if in_range(knots) { 0 } else { 4 };
+        return if in_range(knots) { 0 } else { bad_knot(knots) };
     }
     let n = knots.len();
     if in_order(knots) && in_range(&[knots[0], knots[1], knots[n - 1]]) {
         return 0;
     }
     if in_range(knots) {
-        10
+        turns_back(knots)
     } else {
-        4
+        bad_knot(knots)
     }
 }
 
 /// Its own order check, folded; then the crate without one.
 #[inline(never)]
-pub fn inverse(b: u8, y: f64, knots: &[f64], check: bool, parameter: &mut f64) -> u8 {
+pub fn inverse(b: u8, y: f64, knots: &[f64], check: bool, parameter: &mut f64) -> u32 {
     let no = length(b, knots.len());
     if no != 0 {
         return no;
@@ -175,13 +190,13 @@ pub fn inverse(b: u8, y: f64, knots: &[f64], check: bool, parameter: &mut f64) -
 }
 
 #[inline(never)]
-pub fn bare_convert_segment(from: u8, to: u8, cv: &[f64], out: &mut [f64; 4]) -> u8 {
+pub fn bare_convert_segment(from: u8, to: u8, cv: &[f64], out: &mut [f64; 4]) -> u32 {
     *out = crates::convert_segment(from as usize, to as usize, cv.try_into().unwrap());
     0
 }
 
 #[inline(never)]
-pub fn convert_segment(from: u8, to: u8, cv: &[f64], out: &mut [f64]) -> u8 {
+pub fn convert_segment(from: u8, to: u8, cv: &[f64], out: &mut [f64]) -> u32 {
     if from > 5 || to > 5 {
         return 255;
     }
@@ -195,14 +210,14 @@ pub fn convert_segment(from: u8, to: u8, cv: &[f64], out: &mut [f64]) -> u8 {
         return 9;
     }
     if !in_range(cv) {
-        return 4;
+        return bad_knot(cv);
     }
     out[..4].copy_from_slice(&crates::convert_segment(from as usize, to as usize, cv.try_into().unwrap()));
     0
 }
 
 #[inline(never)]
-pub fn convert(from: u8, to: u8, knots: &[f64], out: &mut [f64]) -> u8 {
+pub fn convert(from: u8, to: u8, knots: &[f64], out: &mut [f64]) -> u32 {
     let no = length(from, knots.len());
     if no != 0 {
         return no;
@@ -217,7 +232,7 @@ pub fn convert(from: u8, to: u8, knots: &[f64], out: &mut [f64]) -> u8 {
         return 9;
     }
     if !in_range(knots) {
-        return 4;
+        return bad_knot(knots);
     }
     let made = crates::convert_spline(from as usize, to as usize, knots);
     out[..made.len()].copy_from_slice(&made);

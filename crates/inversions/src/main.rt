@@ -1,22 +1,23 @@
-// Many inversions, of curves and of single segments, each answer judged by evaluating again. Prints how many answers there were
-// of each kind, and how many of them broke a promise.
+// Many inversions, of curves and of single segments, by either rule of the ends and by each method, every answer judged by evaluating again.
+// Prints how many answers there were of each kind, and how many of them broke a promise.
 ghost use mathlib.Core.Path.{_≡_};
 ghost use Prim.Native.Nat.{_≤_, _<_};
 ghost use lib.ListN.{length};
 use basis::Basis;
+use inverse::EndsBy;
+use inverse::Options;
 use invert::Ground;
 use invert::Inverted;
 use invert::Place;
 use spline::Evaluated;
+use steady::Method;
 
 // What is asked of a curve of k segments, each `step` knots after the one before.
 struct Asked {
     b: Basis,
     step: usize,
     k: usize,
-    check: bool,
-    limit: u16,
-    precision: f64,
+    o: Options,
 }
 
 // Places of the tally: the five grounds, refusal 11, the other refusals, what broke a promise; and the greatest count.
@@ -80,23 +81,43 @@ fn places_kept(p: Place) -> bool {
     parameter && bracket && local
 }
 
-// The end rule: nothing was evaluated, and all places are the curve's start or its end.
-fn end_kept(p: Place, k: usize) -> bool {
+// What the rule of the ends evaluates.
+fn for_ends(e: EndsBy) -> u32 {
+    match e {
+        EndsBy::Knots => 0,
+        EndsBy::Curve => 2,
+    }
+}
+
+// The end rule: nothing else was evaluated, and all places are the curve's start or its end.
+fn end_kept(p: Place, e: EndsBy, k: usize) -> bool {
     let same = p.lower == p.local && p.upper == p.local && p.parameter == p.local;
     let start = p.segment == 0 && p.local == 0.0;
     let end = p.segment < k && k - p.segment == 1 && p.local == 1.0;
-    p.count == 0 && same && (start || end)
+    p.count == for_ends(e) && same && (start || end)
+}
+
+// The steady method is spent only by fewer than 40 rounds, or by a precision below 1e-10.
+fn may_be_spent(o: Options) -> bool {
+    let how = o.method;
+    match how {
+        Method::AsCrate => true,
+        Method::Taught => true,
+        Method::Steady => o.limit < 40 || o.precision < 1e-10,
+    }
 }
 
 fn ground_kept(a: Asked, y: f64, p: Place, v: f64) -> bool {
     let apart = doubles::magnitude(v - y);
     let ground = p.ground;
+    let o = a.o;
+    let ends = o.ends;
     match ground {
-        Ground::End => end_kept(p, a.k),
-        Ground::Edge => apart < 2.0 * a.precision && (p.local == 0.0 || p.local == 1.0),
-        Ground::Value => apart < a.precision,
-        Ground::Width => p.upper - p.lower < a.precision,
-        Ground::Spent => (a.limit as u32) + 2 <= p.count,
+        Ground::End => end_kept(p, ends, a.k),
+        Ground::Edge => apart < 2.0 * o.precision && (p.local == 0.0 || p.local == 1.0),
+        Ground::Value => apart < o.precision,
+        Ground::Width => p.upper - p.lower < o.precision,
+        Ground::Spent => (o.limit as u32) + 2 <= p.count && may_be_spent(o),
     }
 }
 
@@ -139,20 +160,17 @@ fn judge_answer(a: Asked, y: f64, r: Inverted, bound: u32, knots: &[f64], tally:
 // The whole curve, and its first segment alone.
 fn ask(a: Asked, y: f64, knots: &[f64], tally: &mut [u32; 9]) {
     let b = a.b;
-    let r = inverse::spline_inverse_with(b, y, knots, a.check, a.limit, a.precision);
-    judge_answer(
-        a,
-        y,
-        r,
-        search::most_evaluations(a.k, a.limit),
-        knots,
-        tally,
-    );
+    let o = a.o;
+    let ends = o.ends;
+    let how = o.method;
+    let r = inverse::spline_inverse_by(o, b, y, knots);
+    let most = std::num::wrapping_add_u32(search::most_evaluations(a.k, o.limit), for_ends(ends));
+    judge_answer(a, y, r, most, knots, tally);
     if knots.len() < 4 {
         return;
     }
-    let one = invert::spline_inverse_segment_with(b, y, &knots[0..4], a.limit, a.precision);
-    judge_answer(a, y, one, (a.limit as u32) + 2, knots, tally);
+    let one = steady::spline_inverse_segment_by(b, y, &knots[0..4], o.limit, o.precision, how);
+    judge_answer(a, y, one, (o.limit as u32) + 2, knots, tally);
 }
 
 fn target(j: u32, low: f64, high: f64) -> f64 {
@@ -183,70 +201,73 @@ fn over_targets(a: Asked, knots: &[f64], tally: &mut [u32; 9])
     }
 }
 
-// With and without the order check, few rounds, and the greatest limit with a precision that few values reach.
-fn over_settings(b: Basis, step: usize, k: usize, knots: &[f64], tally: &mut [u32; 9])
+// By one rule of the ends and one method: with and without the order check, and few rounds.
+fn over_usual(a: Asked, ends: EndsBy, method: Method, knots: &[f64], tally: &mut [u32; 9])
     requires { ⌜ 4 ≤ length (now knots) ⌝ }
 {
-    over_targets(
-        Asked {
-            b: b,
-            step: step,
-            k: k,
+    over_targets(with(a, false, 32, 1e-10, ends, method), knots, tally);
+    over_targets(with(a, true, 40, 1e-10, ends, method), knots, tally);
+    over_targets(with(a, false, 3, 0.001, ends, method), knots, tally);
+}
+
+// Many rounds, with precisions that few values reach.
+fn over_long(a: Asked, ends: EndsBy, method: Method, knots: &[f64], tally: &mut [u32; 9])
+    requires { ⌜ 4 ≤ length (now knots) ⌝ }
+{
+    over_targets(with(a, false, 200, 1e-16, ends, method), knots, tally);
+    over_targets(with(a, false, 65535, 1e-300, ends, method), knots, tally);
+}
+
+fn over_settings(a: Asked, ends: EndsBy, method: Method, knots: &[f64], tally: &mut [u32; 9])
+    requires { ⌜ 4 ≤ length (now knots) ⌝ }
+{
+    over_usual(a, ends, method, knots, tally);
+    over_long(a, ends, method, knots, tally);
+}
+
+fn with(a: Asked, check: bool, limit: u16, precision: f64, ends: EndsBy, method: Method) -> Asked {
+    let b = a.b;
+    Asked {
+        b: b,
+        step: a.step,
+        k: a.k,
+        o: Options {
+            check: check,
+            limit: limit,
+            precision: precision,
+            ends: ends,
+            method: method,
+        },
+    }
+}
+
+// Every method.
+fn over_methods(a: Asked, ends: EndsBy, knots: &[f64], tally: &mut [u32; 9])
+    requires { ⌜ 4 ≤ length (now knots) ⌝ }
+{
+    over_settings(a, ends, Method::AsCrate, knots, tally);
+    over_settings(a, ends, Method::Taught, knots, tally);
+    over_settings(a, ends, Method::Steady, knots, tally);
+}
+
+// Every rule of the ends.
+fn over_modes(b: Basis, step: usize, k: usize, knots: &[f64], tally: &mut [u32; 9])
+    requires { ⌜ 4 ≤ length (now knots) ⌝ }
+{
+    let a = Asked {
+        b: b,
+        step: step,
+        k: k,
+        o: Options {
             check: false,
             limit: 32,
             precision: 1e-10,
+            ends: EndsBy::Knots,
+            method: Method::AsCrate,
         },
-        knots,
-        tally,
-    );
-    over_targets(
-        Asked {
-            b: b,
-            step: step,
-            k: k,
-            check: true,
-            limit: 32,
-            precision: 1e-10,
-        },
-        knots,
-        tally,
-    );
-    over_targets(
-        Asked {
-            b: b,
-            step: step,
-            k: k,
-            check: false,
-            limit: 3,
-            precision: 0.001,
-        },
-        knots,
-        tally,
-    );
-    over_targets(
-        Asked {
-            b: b,
-            step: step,
-            k: k,
-            check: false,
-            limit: 200,
-            precision: 1e-16,
-        },
-        knots,
-        tally,
-    );
-    over_targets(
-        Asked {
-            b: b,
-            step: step,
-            k: k,
-            check: false,
-            limit: 65535,
-            precision: 1e-300,
-        },
-        knots,
-        tally,
-    );
+    };
+    over_methods(a, EndsBy::Knots, knots, tally);
+    over_methods(a, EndsBy::Curve, knots, tally);
 }
 
 // Rising, falling, flat, uneven, unordered.
@@ -290,14 +311,14 @@ fn over_sizes(b: Basis, knots: &[f64], tally: &mut [u32; 9])
     requires { ⌜ 4096 ≤ length (now knots) ⌝ }
 {
     let step = basis::step(b);
-    over_settings(b, step, 1, &knots[0..4], tally);
+    over_modes(b, step, 1, &knots[0..4], tally);
     let few = 11 * step + 4;
-    over_settings(b, step, 12, &knots[0..few], tally);
+    over_modes(b, step, 12, &knots[0..few], tally);
     let above = 12 * step + 4;
-    over_settings(b, step, 13, &knots[0..above], tally);
+    over_modes(b, step, 13, &knots[0..above], tally);
     let many = 99 * step + 4;
-    over_settings(b, step, 100, &knots[0..many], tally);
-    over_settings(b, step, longest(b), &knots[0..4096], tally);
+    over_modes(b, step, 100, &knots[0..many], tally);
+    over_modes(b, step, longest(b), &knots[0..4096], tally);
 }
 
 fn over_bases(knots: &[f64], tally: &mut [u32; 9])

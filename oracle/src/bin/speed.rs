@@ -18,13 +18,8 @@ const NAMES: [&str; 6] = ["Bspline", "Bezier", "CatmullRom", "Hermite", "Linear"
 const SEGMENTS: [usize; 6] = [1, 12, 13, 100, 1000, 4093];
 const LINEAR: usize = 4;
 const POWER: usize = 5;
-
-/// What a row may cost beside which of the two.
-#[derive(Clone, Copy)]
-enum Target {
-    Bare(f64),
-    Refusing(f64),
-}
+const EVALUATION: f64 = 1.05;
+const CONVERSION: f64 = 0.5;
 
 struct Row {
     call: &'static str,
@@ -32,39 +27,29 @@ struct Row {
     k: usize,
     /// nanoseconds: the port, the crate, the crate behind the same refusals
     ns: [f64; 3],
-    target: Target,
+    /// what the port may cost beside the crate behind the same refusals
+    target: f64,
 }
 
 impl Row {
-    fn ratio(&self) -> (f64, f64) {
-        match self.target {
-            Target::Bare(most) => (self.ns[0] / self.ns[1], most),
-            Target::Refusing(most) => (self.ns[0] / self.ns[2], most),
-        }
-    }
-
     fn misses(&self) -> bool {
-        let (ratio, most) = self.ratio();
-        ratio > most
+        self.ns[0] / self.ns[2] > self.target
     }
 }
 
 impl fmt::Display for Row {
     fn fmt(&self, f: &mut fmt::Formatter) -> fmt::Result {
         let [port, bare, refusing] = self.ns;
-        let of = match self.target {
-            Target::Bare(most) => format!("{most:.2} of the bare"),
-            Target::Refusing(most) => format!("{most:.2} of the refusing"),
-        };
         let star = if self.misses() { " **missed**" } else { "" };
         write!(
             f,
-            "| {} | {} | {} | {port:.1} | {bare:.1} | {:.2} | {refusing:.1} | {:.2} | {of}{star} |",
+            "| {} | {} | {} | {port:.1} | {bare:.1} | {:.2} | {refusing:.1} | {:.2} | {:.2}{star} |",
             self.call,
             self.bases,
             self.k,
             port / bare,
-            port / refusing
+            port / refusing,
+            self.target
         )
     }
 }
@@ -111,7 +96,7 @@ fn spline_segment(r: &mut Rng, b: usize) -> Row {
             &mut || xs.iter().for_each(|&x| { black_box(wrapped::segment(number, x, &cv, o2)); }),
         ],
     );
-    Row { call: "spline_segment", bases: NAMES[b].into(), k: 1, ns, target: Target::Bare(1.05) }
+    Row { call: "spline_segment", bases: NAMES[b].into(), k: 1, ns, target: EVALUATION }
 }
 
 fn spline(r: &mut Rng, b: usize, k: usize) -> Row {
@@ -128,7 +113,7 @@ fn spline(r: &mut Rng, b: usize, k: usize) -> Row {
             &mut || xs.iter().for_each(|&x| { black_box(wrapped::spline(number, x, &knots, o2)); }),
         ],
     );
-    Row { call: "spline", bases: NAMES[b].into(), k, ns, target: Target::Refusing(1.15) }
+    Row { call: "spline", bases: NAMES[b].into(), k, ns, target: EVALUATION }
 }
 
 /// Fewer calls a pass where each is long.
@@ -151,8 +136,8 @@ fn targets(r: &mut Rng, b: usize, knots: &[f64], n: usize) -> Vec<f64> {
     ys
 }
 
-fn inversion_target(b: usize) -> Target {
-    Target::Refusing(if b == LINEAR { 1.5 } else { 1.1 })
+fn inversion_target(b: usize) -> f64 {
+    if b == LINEAR { 1.25 } else { 1.05 }
 }
 
 fn spline_inverse_segment(r: &mut Rng, b: usize) -> Row {
@@ -217,7 +202,7 @@ fn convert_segment(r: &mut Rng, from: usize, to: usize) -> Row {
         ],
     );
     let bases = format!("{} to {}", NAMES[from], NAMES[to]);
-    Row { call: "convert_segment", bases, k: 1, ns, target: Target::Refusing(2.0) }
+    Row { call: "convert_segment", bases, k: 1, ns, target: CONVERSION }
 }
 
 fn convert_spline(r: &mut Rng, from: usize, to: usize, k: usize) -> Row {
@@ -240,7 +225,7 @@ fn convert_spline(r: &mut Rng, from: usize, to: usize, k: usize) -> Row {
         ],
     );
     let bases = format!("{} to {}", NAMES[from], NAMES[to]);
-    Row { call: "convert_spline", bases, k, ns, target: Target::Refusing(if k < 100 { 2.0 } else { 1.0 }) }
+    Row { call: "convert_spline", bases, k, ns, target: CONVERSION }
 }
 
 fn main() {

@@ -1,13 +1,21 @@
 //! `store` prints a list of the judge's answers for crates/replay, which that crate's README.md describes.
 //!
-//! Only calls that the crate answers are stored. Values, parameters, conversions and the crate's own refusals are
-//! its answers; the rest of an inversion's record is the model's.
+//! Values, parameters, conversions and the crate's own refusals are its answers. The rest of an inversion's record is
+//! the model's, and so is what the crate does not have: the place of a refusal, other ends and methods, a bad knot.
 
 use judge::crates;
 use judge::inputs::{self, Rng};
-use judge::model::{self, Fate, Options, STEP};
+use judge::model::{self, Ends, Fate, Method, Options, STEP};
 
 const CURVES: usize = 360;
+const BAD: usize = 36;
+const OTHERS: [(Ends, Method); 5] = [
+    (Ends::Knots, Method::Taught),
+    (Ends::Knots, Method::Steady),
+    (Ends::Curve, Method::AsCrate),
+    (Ends::Curve, Method::Taught),
+    (Ends::Curve, Method::Steady),
+];
 
 fn main() {
     let mut r = Rng(2026);
@@ -27,6 +35,53 @@ fn main() {
         words('k', &knots[..4].iter().map(|d| d.to_bits()).collect::<Vec<_>>());
         segment(&mut r, b, &knots[..4]);
     }
+    // a generator of its own, so that the list above stays as it is
+    let mut r = Rng(2027);
+    for i in 0..CURVES {
+        let b = i % 6;
+        let k = 1 + r.below(15.min((59 - 4) / STEP[b] + 1));
+        let mut knots = Vec::new();
+        inputs::fill(&mut r, 4 + (k - 1) * STEP[b], &mut knots);
+        if knots.iter().any(|d| d.abs() > 1e12) {
+            continue;
+        }
+        if i < BAD {
+            let at = r.below(knots.len());
+            knots[at] = r.one_of(&[f64::INFINITY, -2e12, 1_099_511_627_777.0]);
+        }
+        words('k', &knots.iter().map(|d| d.to_bits()).collect::<Vec<_>>());
+        others(&mut r, b, &knots);
+        words('k', &knots[..4].iter().map(|d| d.to_bits()).collect::<Vec<_>>());
+        others_of_segment(&mut r, b, &knots[..4]);
+    }
+}
+
+/// An inversion by every other rule of the ends and method.
+fn others(r: &mut Rng, b: usize, knots: &[f64]) {
+    let y = inputs::target(r, b, knots);
+    let o = inputs::options(r);
+    for (ends, method) in OTHERS {
+        let o = Options { ends, method, ..o };
+        by('m', b, y, &o, &model::spline_inverse(b, y, knots, &o));
+    }
+    if let Err(why) = model::spline(b, 0.5, knots) {
+        words('v', &[b as u64, 0.5f64.to_bits(), why.reply() as u64, 0]);
+    }
+}
+
+fn others_of_segment(r: &mut Rng, b: usize, cv: &[f64]) {
+    let y = inputs::target(r, b, cv);
+    let o = inputs::options(r);
+    for method in [Method::Taught, Method::Steady] {
+        let o = Options { method, ..o };
+        by('n', b, y, &o, &model::spline_inverse_segment(b, y, cv, &o));
+    }
+}
+
+/// The line of an inversion, all of it the model's; then the rule of the ends and the method.
+fn by(letter: char, b: usize, y: f64, o: &Options, i: &model::Inversion) {
+    let record = record(i.answer.ok().map(|p| p.parameter), i);
+    words(letter, &[&asked(b, y, o)[..], &record, &[o.ends as u64, o.method as u64]].concat());
 }
 
 /// A letter, then numbers in hexadecimal.
@@ -79,15 +134,22 @@ fn segment(r: &mut Rng, b: usize, cv: &[f64]) {
 }
 
 fn inversion(letter: char, b: usize, y: f64, o: &Options, theirs: Option<f64>, expected: &model::Inversion) {
-    let asked = [b as u64, y.to_bits(), o.check as u64, o.limit as u64, o.precision.to_bits()];
-    let record = match (theirs, expected.answer) {
+    words(letter, &[&asked(b, y, o)[..], &record(theirs, expected)].concat());
+}
+
+fn asked(b: usize, y: f64, o: &Options) -> [u64; 5] {
+    [b as u64, y.to_bits(), o.check as u64, o.limit as u64, o.precision.to_bits()]
+}
+
+/// Reply, places and whole numbers, with this parameter.
+fn record(parameter: Option<f64>, i: &model::Inversion) -> Vec<u64> {
+    match (parameter, i.answer) {
         (Some(x), Ok(p)) => {
             let places = [x, p.local, p.lower, p.upper].map(f64::to_bits);
-            let wholes = [p.ground as u64, p.segment as u64, expected.count as u64];
+            let wholes = [p.ground as u64, p.segment as u64, i.count as u64];
             [[0].as_slice(), &places, &wholes].concat()
         }
-        (None, Err(why)) => vec![why.reply() as u64, 0, 0, 0, 0, 0, 0, expected.count as u64],
+        (None, Err(why)) => vec![why.reply() as u64, 0, 0, 0, 0, 0, 0, i.count as u64],
         _ => panic!("the crate and the model differ: run the judge"),
-    };
-    words(letter, &[asked.as_slice(), &record].concat());
+    }
 }

@@ -1,0 +1,163 @@
+//! `evaluations` counts the evaluations of one segment's inversion by each of the three methods, on the same curves
+//! and targets, and prints the tables of docs/SPEED.md; `evaluations time` times the three as well.
+//!
+//! Precision 1e-10; 32 rounds for the crate's rule and the taught weighting, 40 for the steady rule, which is then
+//! never spent. A miss is an answer by `spent`.
+
+use std::env;
+use std::hint::black_box;
+use std::time::{Duration, Instant};
+
+use judge::inputs::Rng;
+use judge::model::{self, Ends, Method, Options, STEP};
+use judge::port;
+
+const METHODS: [Method; 3] = [Method::AsCrate, Method::Taught, Method::Steady];
+const TARGETS: usize = 20_000;
+const SPENT: usize = 4;
+const END: usize = 0;
+
+const BEZIER: usize = 1;
+const CATMULL_ROM: usize = 2;
+const POWER: usize = 5;
+
+/// A kind of curve: its name, and one segment of it with the share of it in which targets lie.
+type Set = (&'static str, fn(&mut Rng) -> (usize, [f64; 4], [f64; 2]));
+
+const WHOLE: [f64; 2] = [0.0, 1.0];
+
+const SETS: [Set; 7] = [
+    // level at both ends, steep between
+    ("S-shaped", |r| (BEZIER, [0.0, 0.1 * r.unit(), 1.0 - 0.1 * r.unit(), 1.0], WHOLE)),
+    // rising knots, half of them a rest
+    ("plateaus", |r| (CATMULL_ROM, climb(r, |r| if r.below(2) == 0 { 0.0 } else { r.unit() }), WHOLE)),
+    // rests, and jumps by 1
+    ("steps", |r| (CATMULL_ROM, climb(r, |r| r.below(2) as f64), WHOLE)),
+    ("random monotone", |r| (CATMULL_ROM, climb(r, |r| r.unit()), WHOLE)),
+    ("unordered", |r| (CATMULL_ROM, std::array::from_fn(|_| r.unit()), WHOLE)),
+    // hardly rising at first, where the targets lie
+    ("nearly flat", |r| (BEZIER, [0.0, 1e-4 * r.unit(), 1e-4 * r.unit(), 1.0], [0.0, 0.2])),
+    // a cubic about its own inflection, where it stands still
+    ("inflection", |r| {
+        let a = 0.3 + 0.4 * r.unit();
+        (POWER, [1.0, -3.0 * a, 3.0 * a * a, -a * a * a], [a - 0.05, a + 0.05])
+    }),
+];
+
+fn climb(r: &mut Rng, step: fn(&mut Rng) -> f64) -> [f64; 4] {
+    let mut at = r.unit();
+    std::array::from_fn(|_| {
+        at += step(r);
+        at
+    })
+}
+
+fn options(method: Method) -> Options {
+    let limit = if method == Method::Steady { 40 } else { 32 };
+    Options { limit, method, ..Options::DEFAULT }
+}
+
+/// A segment and a target on it.
+struct Case {
+    b: usize,
+    cv: [f64; 4],
+    y: f64,
+}
+
+/// Cases that every method enters, so that all are told of the same.
+fn cases(r: &mut Rng, set: &Set) -> Vec<Case> {
+    let mut cases = Vec::new();
+    while cases.len() < TARGETS {
+        let (b, cv, [low, high]) = (set.1)(r);
+        let y = model::value(b, low + (high - low) * r.unit(), &cv);
+        // a flat segment is left at its edge, by every method, after two evaluations
+        let rounds = |m: &Method| model::spline_inverse_segment(b, y, &cv, &options(*m)).rounds > 0;
+        if METHODS.iter().all(rounds) {
+            cases.push(Case { b, cv, y });
+        }
+    }
+    cases
+}
+
+/// Mean, 99th percentile and most evaluations, and misses in a hundred.
+fn counted(cases: &[Case], method: Method) -> String {
+    let o = options(method);
+    let mut counts = Vec::new();
+    let mut misses = 0;
+    for c in cases {
+        let told = port::spline_inverse_segment_by(c.b as u8, c.y, &c.cv, &o);
+        assert_eq!(told.reply, 0);
+        counts.push(told.whole[2]);
+        misses += (told.whole[0] == SPENT) as usize;
+    }
+    counts.sort_unstable();
+    let mean = counts.iter().sum::<usize>() as f64 / counts.len() as f64;
+    let (most, nearly) = (counts[counts.len() - 1], counts[counts.len() * 99 / 100]);
+    format!("{mean:.1} / {nearly} / {most}, {:.1} %", 100.0 * misses as f64 / cases.len() as f64)
+}
+
+/// The times of the taught weighting and of the steady rule over the crate's rule: least of many turns.
+fn timed(cases: &[Case]) -> [f64; 2] {
+    let mut least = [Duration::MAX; 3];
+    for _ in 0..20 {
+        for (method, least) in METHODS.into_iter().zip(&mut least) {
+            let o = options(method);
+            let begun = Instant::now();
+            for c in cases {
+                black_box(port::spline_inverse_segment_by(c.b as u8, c.y, &c.cv, &o));
+            }
+            *least = (*least).min(begun.elapsed());
+        }
+    }
+    [1, 2].map(|i| least[i].as_secs_f64() / least[0].as_secs_f64())
+}
+
+/// A rising curve's inversions, end rule apart: the mean of evaluations by each method, the search's among them.
+fn of_curve(r: &mut Rng, k: usize, ends: Ends) -> [f64; 3] {
+    let knots: Vec<f64> = (0..4 + (k - 1) * STEP[CATMULL_ROM]).map(|i| (i as f64 + 0.5 * r.unit()) * 0.01).collect();
+    let mut sums = [0; 3];
+    let mut asked = 0;
+    while asked < 2_000 {
+        let s = r.below(k);
+        let y = model::value(CATMULL_ROM, 0.02 + 0.96 * r.unit(), &knots[s..s + 4]);
+        let told = METHODS.map(|m| port::spline_inverse_by(CATMULL_ROM as u8, y, &knots, &Options { ends, ..options(m) }));
+        if told.iter().all(|t| t.reply == 0 && t.whole[0] != END) {
+            asked += 1;
+            (0..3).for_each(|i| sums[i] += told[i].whole[2]);
+        }
+    }
+    sums.map(|sum| sum as f64 / asked as f64)
+}
+
+fn row(name: &str, cases: &[Case], time: bool) {
+    let [crates, taught, steady] = METHODS.map(|m| counted(cases, m));
+    print!("| {name} | {crates} | {taught} | {steady} |");
+    if time {
+        let [taught, steady] = timed(cases);
+        print!(" {taught:.2} | {steady:.2} |");
+    }
+    println!();
+}
+
+fn main() {
+    let time = env::args().nth(1).is_some_and(|word| word == "time");
+    let mut r = Rng(41);
+    println!("Evaluations in the entered segment: mean / 99th percentile / most, misses.\n");
+    println!("| set | the crate's rule | taught | steady |{}", if time { " time: taught | steady |" } else { "" });
+    println!("|---|---|---|---|{}", if time { "---:|---:|" } else { "" });
+    let mut all = Vec::new();
+    for set in &SETS {
+        let cases = cases(&mut r, set);
+        row(set.0, &cases, time);
+        all.extend(cases);
+    }
+    row("all", &all, time);
+    println!("\nEvaluations of a whole inversion of a rising CatmullRom curve of k segments: mean.\n");
+    println!("| k | ends by | the crate's rule | taught | steady |\n|---:|---|---:|---:|---:|");
+    for k in [1, 12, 13, 100, 1000] {
+        for (ends, name) in [(Ends::Knots, "knots"), (Ends::Curve, "curve")] {
+            let [crates, taught, steady] = of_curve(&mut Rng(k as u64), k, ends);
+            println!("| {k} | {name} | {crates:.1} | {taught:.1} | {steady:.1} |");
+        }
+    }
+}
