@@ -1,4 +1,4 @@
-// Runs conversions and prints what each leaves: readings, all pairs at the ends of the range, boundaries, and a curve that is not kept.
+// Runs conversions and prints what each leaves: readings, all pairs at the ends of the range, boundaries, a curve that is not kept, and the elimination beside its constants.
 use basis::Basis;
 use convert::Converted;
 use spline::Evaluated;
@@ -186,10 +186,49 @@ fn kink() {
     say_value(spline::spline(Basis::Hermite, 0.75, &out));
 }
 
+fn same(a: f64, b: f64) -> bool {
+    text::to_bits(a) == text::to_bits(b)
+}
+
+fn same_row(a: [f64; 4], b: [f64; 4]) -> bool {
+    same(a[0], b[0]) & same(a[1], b[1]) & same(a[2], b[2]) & same(a[3], b[3])
+}
+
+// The elimination is run, and what it gives is held to the constants, bit for bit.
+fn eliminated(i: usize) {
+    let e = matrix::invert_4x4(basis::basis_macros::matrix(basis_at(i)));
+    let c = matrix::inverse_of(basis_at(i));
+    let r0 = e.r0;
+    let r1 = e.r1;
+    let r2 = e.r2;
+    let r3 = e.r3;
+    if e.exists {
+        say(b"inverse");
+    } else {
+        say(b"none");
+    }
+    if same_row(r0, c[0]) & same_row(r1, c[1]) & same_row(r2, c[2]) & same_row(r3, c[3]) {
+        say(b", the same bits\n");
+    } else {
+        say(b", other bits\n");
+    }
+}
+
+fn inverses() {
+    say(b"the six inverses by elimination, beside the constants\n");
+    eliminated(0);
+    eliminated(1);
+    eliminated(2);
+    eliminated(3);
+    eliminated(4);
+    eliminated(5);
+}
+
 fn main() {
     readings();
     pairs();
     order();
     lengths();
     kink();
+    inverses();
 }
