@@ -15,3 +15,4 @@ pub mod Strict
 pub mod Seconds
 pub mod Fewer
 pub mod Knots
+pub mod Premise
