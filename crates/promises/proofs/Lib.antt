@@ -16,3 +16,4 @@ pub mod Seconds
 pub mod Fewer
 pub mod Knots
 pub mod Premise
+pub mod Eleven

@@ -24,6 +24,7 @@ use Rattle.invert.specs.Answer.{numberTold, inverseSegmentUses, defaultLimit, d
 use Rattle.invert.proofs.spline_inverse_segment_with.Reads as spline_inverse_segment_with
 use Rattle.invert.proofs.spline_inverse_segment.Reads as spline_inverse_segment
 use Rattle.inverse.specs.Inverse.{inverseUses}
+use Rattle.inverse.proofs.spline_inverse_by.Reads as spline_inverse_by
 use Rattle.inverse.proofs.spline_inverse_with.Reads as spline_inverse_with
 use Rattle.inverse.proofs.spline_inverse.Reads as spline_inverse
 use Rattle.convert.specs.declared.Converted.{Converted}
@@ -34,7 +35,7 @@ use Rattle.convert.proofs.convert_segment.Reads as convert_segment
 use Rattle.convert.proofs.convert_spline.Reads as convert_spline
 use Rattle.promises.specs.Calls.{Keeps, Exactly}
 use Rattle.promises.specs.Numbers.{numberIn, numberBy}
-use Rattle.promises.proofs.Refusing.{spline-refuses, spline-segment-refuses, spline-inverse-segment-with-refuses, spline-inverse-segment-refuses, spline-inverse-with-refuses, spline-inverse-refuses, convert-segment-refuses, convert-spline-refuses}
+use Rattle.promises.proofs.Refusing.{spline-refuses, spline-segment-refuses, spline-inverse-segment-with-refuses, spline-inverse-segment-refuses, spline-inverse-by-refuses, spline-inverse-with-refuses, spline-inverse-refuses, convert-segment-refuses, convert-spline-refuses}
 
 -- ---- what is said of a number
 -- of a call that has no use for 11: the first row's, and neither 11 nor 12
@@ -104,6 +105,9 @@ spline-inverse-segment-with-number κs a z e p = place-number _ z refl refl (spl
 
 pub spline-inverse-segment-number : Keeps spline_inverse_segment.Learnt (λ κs a z e. PlaceNumber (inverseSegmentUses (a .1 .0) (now (a .1 .1 .0)) defaultLimit defaultPrecision) z)
 spline-inverse-segment-number κs a z e p = place-number _ z refl refl (spline-inverse-segment-refuses κs a z e p)
+
+pub spline-inverse-by-number : Keeps spline_inverse_by.Learnt (λ κs a z e. PlaceNumber (inverseUses (a .1 .0) (a .1 .1 .0) (now (a .1 .1 .1 .0)) (a .0 .check) (a .0 .limit) (a .0 .precision)) z)
+spline-inverse-by-number κs a z e p = place-number _ z refl refl (spline-inverse-by-refuses κs a z e p)
 
 pub spline-inverse-with-number : Keeps spline_inverse_with.Learnt
     (λ κs a z e. PlaceNumber (inverseUses (a .0) (a .1 .0) (now (a .1 .1 .0)) (a .1 .1 .1 .0) (a .1 .1 .1 .1 .0) (a .1 .1 .1 .1 .1 .0)) z)
