@@ -56,18 +56,18 @@ module _ (a k : ℤ) (w : ℕ) (e : a ≡ pos w) (h : w ≤ 67108864) (b : natAb
   weight-back : held a ≡ pos w
   weight-back = back a 67108864 (subst (λ (x : ℤ). natAbs x ≤ 67108864) (sym e) h) (lit< tt) ∙ e
 
-  both-back : held a *ℤ k ≡ pos w *ℤ k
-  both-back = ap (λ (x : ℤ). x *ℤ k) weight-back
+  both-back : held a *ℤ held k ≡ pos w *ℤ k
+  both-back = ap (λ (x : ℤ). x *ℤ held k) weight-back ∙ ap (λ (x : ℤ). pos w *ℤ x) (back k 1000000 b (lit< tt))
 
-  pub times-fit : SFits w64 (held a *ℤ k)
+  pub times-fit : SFits w64 (held a *ℤ held k)
   times-fit = subst (λ (x : ℤ). SFits w64 x) (sym both-back) (sfits-of (fits (pos w *ℤ k) 67108864000000 (term-size w k h b) (lit< tt)))
 
-  pub term-is : (r : ℤ) (v : ℕ) → r ≡ held a *ℤ k → w ≡ v → (held r ≡ pos v *ℤ k) × (natAbs (held r) ≤ 67108864000000)
-  term-is r v p q =
+  pub term-is : (r : ℤ) → r ≡ held a *ℤ held k → (held r ≡ pos w *ℤ k) × (natAbs (held r) ≤ 67108864000000)
+  term-is r p =
       let i : r ≡ pos w *ℤ k = p ∙ both-back in
       let n : natAbs r ≤ 67108864000000 = subst (λ (x : ℤ). natAbs x ≤ 67108864000000) (sym i) (term-size w k h b) in
       let j : held r ≡ r = back r 67108864000000 n (lit< tt) in
-      (j ∙ i ∙ ap (λ (x : ℕ). pos x *ℤ k) q, subst (λ (x : ℤ). natAbs x ≤ 67108864000000) (sym j) n)
+      (j ∙ i, subst (λ (x : ℤ). natAbs x ≤ 67108864000000) (sym j) n)
 
 -- ---- a sum
 module _ (a b : ℤ) (m n : ℕ) (h : natAbs a ≤ m) (k : natAbs b ≤ n) (l : m + n < 2 ^ 63) where

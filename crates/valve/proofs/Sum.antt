@@ -2,13 +2,17 @@
 use mathlib.Core.Path.{_≡_, ap, _∙_}
 use mathlib.Core.List.{List}
 use Prim.Native.Nat.{ℕ, _≤_}
-use lib.IntN.{ℤ, natAbs, _+ℤ_}
+use lib.IntN.{ℤ, pos, natAbs, _+ℤ_, _*ℤ_}
 use lib.Dec.{lit<}
-use Rattle.valve.specs.Mix.{held, termOf, mixOf}
+use Rattle.valve.specs.Mix.{weightOf, held, knotOf, termOf, mixOf}
 use Rattle.valve.proofs.Sizes.{back, plus-is}
 
-abbrev Term : List ℤ → ℕ → ℕ → ℤ → Type 0
+abbrev pub Term : List ℤ → ℕ → ℕ → ℤ → Type 0
 Term ks j i t = (t ≡ termOf ks j i) × (natAbs t ≤ 67108864000000)
+
+-- a weight times a knot is a term, where the weight is the step's
+pub term-of : (ks : List ℤ) (j i w : ℕ) (t : ℤ) → (t ≡ pos w *ℤ knotOf ks i) × (natAbs t ≤ 67108864000000) → w ≡ weightOf j i → Term ks j i t
+term-of ks j i w t p e = (p .0 ∙ ap (λ (n : ℕ). pos n *ℤ knotOf ks i) e, p .1)
 
 pub summed : (ks : List ℤ) (j : ℕ) (a b c d p q r : ℤ) → Term ks j 0 a → Term ks j 1 b → Term ks j 2 c → Term ks j 3 d → p ≡ held a +ℤ held b → q ≡ held p +ℤ held c → r ≡ held q +ℤ held d → held r ≡ mixOf ks j
 unfolding mixOf

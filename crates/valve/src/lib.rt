@@ -1,12 +1,12 @@
 // Valves that count in whole steps: four whole knots, mixed by stored weights. No floating point.
 ghost use mathlib.Core.Path.{_≡_};
-ghost use Prim.Native.Nat.{_≤_, _<_};
+ghost use Prim.Native.Nat.{_≤_};
 ghost use lib.ListN.{length};
 ghost use lib.IntN.{pos, natAbs, _+ℤ_, _*ℤ_};
 ghost use mir.Syntax.{w64};
 ghost use mir.Val.{SFits};
 ghost use Rattle.error.specs.Refusals.{first};
-ghost use Rattle.valve.specs.Mix.{termOf, mixOf, small, firstLarge, mixUses, mixtureOf, mixtureReply, sumLeft};
+ghost use Rattle.valve.specs.Mix.{mixOf, small, firstLarge, mixUses, mixtureOf, mixtureReply, sumLeft};
 ghost use Rattle.valve.specs.Shown.{SmallKnots};
 use error::Refusal;
 use error::Verdict;
@@ -40,11 +40,11 @@ fn plus(a: i64, b: i64) -> i64
 }
 
 // A weight times a knot.
-fn term(knots: &[i64], step: usize, i: usize) -> i64
-    requires { ⌜ (step ≤ 256) × (i < 4) × (4 ≤ length (now knots)) × SmallKnots (now knots) ⌝ }
-    ensures { λ r. ⌜ (r ≡ termOf (now (knots .entry)) step i) × (natAbs r ≤ 67108864000000) ⌝ }
+fn term(w: u32, k: i64) -> i64
+    requires { ⌜ (w ≤ 67108864) × (natAbs k ≤ 1000000) ⌝ }
+    ensures { λ r. ⌜ (r ≡ pos w *ℤ k) × (natAbs r ≤ 67108864000000) ⌝ }
 {
-    times(wide(weights::weight(step, i)), knots[i])
+    times(wide(w), k)
 }
 
 // The weighted sum, undivided.
@@ -52,9 +52,12 @@ fn weighted_sum(knots: &[i64], step: usize) -> i64
     requires { ⌜ (step ≤ 256) × (4 ≤ length (now knots)) × SmallKnots (now knots) ⌝ }
     ensures { λ r. ⌜ r ≡ mixOf (now (knots .entry)) step ⌝ }
 {
-    let a = plus(term(knots, step, 0), term(knots, step, 1));
-    let b = plus(a, term(knots, step, 2));
-    plus(b, term(knots, step, 3))
+    let w = weights::row(step);
+    let a = term(w.w0, knots[0]);
+    let b = term(w.w1, knots[1]);
+    let c = term(w.w2, knots[2]);
+    let d = term(w.w3, knots[3]);
+    plus(plus(plus(a, b), c), d)
 }
 
 // Two comparisons: the least i64 has no magnitude.

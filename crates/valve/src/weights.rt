@@ -1,7 +1,6 @@
 // The weights of the valves, four to each of 257 steps: the B-spline's at step/256, times 6 × 256³.
-ghost use mathlib.Core.Path.{_≡_};
-ghost use Prim.Native.Nat.{_≤_, _<_};
-ghost use Rattle.valve.specs.Mix.{weightOf};
+ghost use Prim.Native.Nat.{_≤_};
+ghost use Rattle.valve.specs.Shown.{FourOf};
 
 const WEIGHTS: [u32; 1028] = [
     16777216, // step 0
@@ -1034,9 +1033,25 @@ const WEIGHTS: [u32; 1028] = [
     16777216,
 ];
 
-pub fn weight(step: usize, i: usize) -> u32
-    requires { ⌜ (step ≤ 256) × (i < 4) ⌝ }
-    ensures { λ r. ⌜ (r ≡ weightOf step i) × (r ≤ 67108864) ⌝ }
+// The weights of one step.
+pub struct Four {
+    pub w0: u32,
+    pub w1: u32,
+    pub w2: u32,
+    pub w3: u32,
+}
+
+// All four at once: wherever the table is named it is laid out anew, so it is named once.
+pub fn row(step: usize) -> Four
+    requires { ⌜ step ≤ 256 ⌝ }
+    ensures { λ r. ⌜ FourOf step (r .w0) (r .w1) (r .w2) (r .w3) ⌝ }
 {
-    WEIGHTS[4 * step + i]
+    let t = WEIGHTS;
+    let n = 4 * step;
+    Four {
+        w0: t[n],
+        w1: t[n + 1],
+        w2: t[n + 2],
+        w3: t[n + 3],
+    }
 }

@@ -1,51 +1,97 @@
+-- `valve::weighted_sum` meets its contract: each term is small, so the sums fit, and they are added left to right. Assumes nothing.
 use lib.Dec.{lit<}
 use Rattle.valve.proofs.Sizes.{plus-fit, plus-is}
-use Rattle.valve.proofs.Sum.{summed}
+use Rattle.valve.proofs.Sum.{term-of, summed}
 use borrow.Author.Needs.{needs}
 use Rattle.valve.proofs.weighted_sum.Statement.{statement}
 use Rattle.valve.proofs.weighted_sum.Tie as tie
 
+row-requires : tie.Need-row-requires
+row-requires c κs = search needs
+
+shared-slice-copy-out-term : tie.Need-shared-slice-copy-out-term
+shared-slice-copy-out-term c = search needs
+
 term-requires : tie.Need-term-requires
-term-requires c κs = search needs
+term-requires c κs = (c .before .row .ensures .few0, c .before .before .pre .2 .each 0 (lit< tt))
+
+shared-slice-copy-out-term-2 : tie.Need-shared-slice-copy-out-term-2
+shared-slice-copy-out-term-2 c = search needs
 
 term-requires-2 : tie.Need-term-requires-2
-term-requires-2 c κs = search needs
+term-requires-2 c κs = let s = c .before .before .before in (s .row .ensures .few1, s .before .pre .2 .each 1 (lit< tt))
 
-plus-requires : tie.Need-plus-requires
-plus-requires c κs = plus-fit (c .before .term .result) (c .term2 .result) 67108864000000 67108864000000 (c .before .term .ensures .1) (c .term2 .ensures .1) (lit< tt)
+shared-slice-copy-out-term-3 : tie.Need-shared-slice-copy-out-term-3
+shared-slice-copy-out-term-3 c = search needs
 
 term-requires-3 : tie.Need-term-requires-3
-term-requires-3 c κs = search needs
+term-requires-3 c κs = let s = c .before .before .before .before .before in (s .row .ensures .few2, s .before .pre .2 .each 2 (lit< tt))
+
+shared-slice-copy-out-term-4 : tie.Need-shared-slice-copy-out-term-4
+shared-slice-copy-out-term-4 c = search needs
+
+term-requires-4 : tie.Need-term-requires-4
+term-requires-4 c κs = let s = c .before .before .before .before .before .before .before in (s .row .ensures .few3, s .before .pre .2 .each 3 (lit< tt))
+
+plus-requires : tie.Need-plus-requires
+plus-requires c κs =
+    let b = c .before .before .before .before in
+    let a = b .before .before in
+    plus-fit (a .term .result) (b .term2 .result) 67108864000000 67108864000000 (a .term .ensures .1) (b .term2 .ensures .1) (lit< tt)
 
 plus-requires-2 : tie.Need-plus-requires-2
 plus-requires-2 c κs =
-    let p = plus-is (c .before .before .before .term .result) (c .before .before .term2 .result) 67108864000000 67108864000000 (c .before .before .before .term .ensures .1) (c .before .before .term2 .ensures .1) (lit< tt) (c .before .plus .result) (c .before .plus .ensures) in
-    plus-fit (c .before .plus .result) (c .term3 .result) 134217728000000 67108864000000 (p .1) (c .term3 .ensures .1) (lit< tt)
-
-term-requires-4 : tie.Need-term-requires-4
-term-requires-4 c κs = search needs
+    let third = c .before .before .before in
+    let b = third .before .before in
+    let a = b .before .before in
+    let p = plus-is (a .term .result) (b .term2 .result) 67108864000000 67108864000000 (a .term .ensures .1) (b .term2 .ensures .1) (lit< tt) (c .plus .result) (c .plus .ensures) in
+    plus-fit (c .plus .result) (third .term3 .result) 134217728000000 67108864000000 (p .1) (third .term3 .ensures .1) (lit< tt)
 
 plus-requires-3 : tie.Need-plus-requires-3
 plus-requires-3 c κs =
-    let p = plus-is (c .before .before .before .before .before .term .result) (c .before .before .before .before .term2 .result) 67108864000000 67108864000000 (c .before .before .before .before .before .term .ensures .1) (c .before .before .before .before .term2 .ensures .1) (lit< tt) (c .before .before .before .plus .result) (c .before .before .before .plus .ensures) in
-    let q = plus-is (c .before .before .before .plus .result) (c .before .before .term3 .result) 134217728000000 67108864000000 (p .1) (c .before .before .term3 .ensures .1) (lit< tt) (c .before .plus2 .result) (c .before .plus2 .ensures) in
-    plus-fit (c .before .plus2 .result) (c .term4 .result) 201326592000000 67108864000000 (q .1) (c .term4 .ensures .1) (lit< tt)
+    let first = c .before in
+    let d = first .before in
+    let third = d .before .before in
+    let b = third .before .before in
+    let a = b .before .before in
+    let p = plus-is (a .term .result) (b .term2 .result) 67108864000000 67108864000000 (a .term .ensures .1) (b .term2 .ensures .1) (lit< tt) (first .plus .result) (first .plus .ensures) in
+    let q = plus-is (first .plus .result) (third .term3 .result) 134217728000000 67108864000000 (p .1) (third .term3 .ensures .1) (lit< tt) (c .plus2 .result) (c .plus2 .ensures) in
+    plus-fit (c .plus2 .result) (d .term4 .result) 201326592000000 67108864000000 (q .1) (d .term4 .ensures .1) (lit< tt)
 
 returns : tie.Need-returns
 returns c =
-    let a = c .before .before .before .before .before .before .before .args in
-    summed (a .knots .now) (a .step) (c .before .before .before .before .before .before .term .result) (c .before .before .before .before .before .term2 .result) (c .before .before .before .term3 .result) (c .before .term4 .result) (c .before .before .before .before .plus .result) (c .before .before .plus2 .result) (c .plus3 .result)
-    (c .before .before .before .before .before .before .term .ensures) (c .before .before .before .before .before .term2 .ensures) (c .before .before .before .term3 .ensures) (c .before .term4 .ensures) (c .before .before .before .before .plus .ensures) (c .before .before .plus2 .ensures) (c .plus3 .ensures)
+    let second = c .before in
+    let first = second .before in
+    let d = first .before in
+    let third = d .before .before in
+    let b = third .before .before in
+    let a = b .before .before in
+    let w = a .before .before in
+    let s = w .before in
+    let ks = s .args .knots .now in
+    let j = s .args .step in
+    let four = w .row .ensures in
+    summed ks j (a .term .result) (b .term2 .result) (third .term3 .result) (d .term4 .result) (first .plus .result) (second .plus2 .result) (c .plus3 .result)
+    (term-of ks j 0 (w .row .result .w0) (a .term .result) (a .term .ensures) (four .is0))
+    (term-of ks j 1 (w .row .result .w1) (b .term2 .result) (b .term2 .ensures) (four .is1))
+    (term-of ks j 2 (w .row .result .w2) (third .term3 .result) (third .term3 .ensures) (four .is2))
+    (term-of ks j 3 (w .row .result .w3) (d .term4 .result) (d .term4 .ensures) (four .is3))
+    (first .plus .ensures) (second .plus2 .ensures) (c .plus3 .ensures)
 
 pub weighted-sum-spec : {M : Type 1} → statement M
 weighted-sum-spec =
     tie.close
     (tie.spec
+    row-requires
+    shared-slice-copy-out-term
     term-requires
+    shared-slice-copy-out-term-2
     term-requires-2
-    plus-requires
+    shared-slice-copy-out-term-3
     term-requires-3
-    plus-requires-2
+    shared-slice-copy-out-term-4
     term-requires-4
+    plus-requires
+    plus-requires-2
     plus-requires-3
     returns)
