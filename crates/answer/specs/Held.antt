@@ -14,11 +14,11 @@ use Rattle.answer.specs.Answer.{places, Curve, none, on, replyTo, afterO
 -- the knots are the first ones of the table
 abbrev pub curveOf : Held → List Float → Curve
 curveOf H.Nothing table = none
-curveOf (H.Curve b n) table = on b (take n table)
+curveOf (H.Curve t m n) table = on t m (take n table)
 
 abbrev pub countOf : Held → ℕ
 countOf H.Nothing = 0
-countOf (H.Curve b n) = n
+countOf (H.Curve t m n) = n
 
 -- a record that came upon the curve c was answered
 pub record Answers (c : Curve) (r : Record) (a : Answered) (table turned : List Float) : Type 0 where

@@ -1,22 +1,27 @@
--- What `turn` tells is a listing: read again, it is the curve that was told. Assumes nothing.
+-- What `turn` tells is a listing: read again, it is the table that was told, its span included. Assumes nothing.
 use mathlib.Core.Path.{_≡_, refl, sym, ap, _∙_}
 use mathlib.Core.Bool.{Bool, true, false, cond}
 use mathlib.Core.List.{List, [], _∷_, _++_, append-assoc, append-nil}
-use Prim.Native.Nat.{ℕ, zero, suc, _+_, _/_, _%_, _≤_, _<_}
+use Prim.Native.Nat.{ℕ, zero, suc, _+_, _/_, _%_, _≤_, _<_, _^_}
 use native.Mathlib.Omega.{arith}
-use borrow.Author.Tests.{le-leb, ne-eqb, eqb-false}
-use lib.Dec.{T, ltb, eqb}
+use borrow.Author.Tests.{le-leb, leb-true, leb-false, ne-eqb, eqb-false}
+use lib.Dec.{T, leb, ltb, eqb}
 use lib.ListN.{length, length-append}
 use lib.Ieee.{Float, fits, toBits, binary64}
-use Rattle.answer.specs.Answer.{places, Curve, on, afterOf}
-use Rattle.answer.proofs.Records.{curve-silent, knot-silent}
+use Rattle.answer.specs.Answer.{places, Curve, on, bare, afterOf}
+use Rattle.answer.proofs.Records.{endsBefore, curve-silent, span-silent, knot-silent}
 use Rattle.basis.specs.declared.Basis.{Basis}
+use Rattle.error.proofs.First.{never}
 use Rattle.basis.specs.declared.Basis.the-variants.{Bspline, Bezier, CatmullRom, Hermite, Linear, Power}
+use Rattle.decimals.proofs.ReadBack.{number-back, dec-length}
+use Rattle.inverse.specs.declared.EndsBy.{EndsBy}
 use Rattle.record.specs.declared.Record.{Record}
-use Rattle.record.specs.declared.Record.the-variants.{Curve as CurveOf, Knot}
+use Rattle.record.specs.declared.Record.the-variants.{Curve as CurveOf, Span, Knot}
 use Rattle.record.specs.Record.{nameOf, wordOf, namedOf, meaningOf, ofFields, recordOf}
-use Rattle.reply.specs.Reply.{knotsText, curve, textOf}
-use Rattle.text.specs.Text.{bytes, same, LF, TAB, onto, fieldsOf, tabOf, glyphOf, hexText, doubleText}
+use Rattle.reply.specs.Reply.{spansText, knotsText, curve, textOf}
+use Rattle.table.specs.declared.Table.{Table}
+use Rattle.table.specs.Second.{day, goodSpan, spansOf}
+use Rattle.text.specs.Text.{bytes, same, LF, TAB, onto, fieldsOf, tabOf, glyphOf, hexText, decText, doubleText}
 use Rattle.text.proofs.Fields.{fields-one}
 use Rattle.text.proofs.ReadBack.{length-hex, hex-out-in}
 use Rattle.lines.specs.Program.{linesOf, widest, saysOf}
@@ -47,6 +52,16 @@ unfolding tabOf
 free-tab [] p = omega arith
 free-tab (a ∷ s) p = let z : length s ≤ tabOf s = free-tab s (p .1) in rw (ne-eqb a TAB (p .0)) (omega arith)
 
+-- nor is a decimal
+free-dec : (b k n : ℕ) → b < 48 → Free b (decText k n)
+unfolding decText
+free-dec b zero n h = ((λ e. omega arith), tt)
+free-dec b (suc k) n h = go (ltb n 10) (free-dec b k (n / 10) h)
+  where
+    go : (t : Bool) → Free b (decText k (n / 10)) → Free b (cond t ((48 + n) ∷ []) (decText k (n / 10) ++ ((48 + n % 10) ∷ [])))
+    go true ih = ((λ e. omega arith), tt)
+    go false ih = free-append b (decText k (n / 10)) ((48 + n % 10) ∷ []) ih ((λ e. omega arith), tt)
+
 -- ---- a line of each kind
 abbrev knotLine : Float → List ℕ
 knotLine x = bytes "knot\t" ++ doubleText x
@@ -59,6 +74,18 @@ says-knot x h =
     let one : fieldsOf (doubleText x) ≡ doubleText x ∷ [] = fields-one (doubleText x) (free-tab (doubleText x) (free-hex TAB 16 (toBits binary64 x) (omega arith))) in
     let back = hex-out-in x h in
     rw (le-leb (length (bytes "knot\t" ++ doubleText x)) widest short, one, back .0, back .1) refl
+
+abbrev spanLine : ℕ → List ℕ
+spanLine s = bytes "span\t" ++ decText 9 s
+
+says-span : (s : ℕ) → s ≤ day → saysOf (spanLine s) ≡ Span s
+unfolding saysOf recordOf fieldsOf onto ofFields wordOf same meaningOf
+says-span s h =
+    let small : s < 10 ^ 5 = omega arith in
+    let few : length (decText 9 s) ≤ 5 = dec-length 9 4 s small in
+    let short : length (bytes "span\t" ++ decText 9 s) ≤ widest = omega arith in
+    let one : fieldsOf (decText 9 s) ≡ decText 9 s ∷ [] = fields-one (decText 9 s) (free-tab (decText 9 s) (free-dec TAB 9 s (omega arith))) in
+    rw (le-leb (length (bytes "span\t" ++ decText 9 s)) widest short, one, number-back 9 4 s (omega arith) small) refl
 
 says-curve : (b : Basis) → saysOf (bytes "curve\t" ++ nameOf b) ≡ CurveOf b
 unfolding saysOf recordOf fieldsOf onto ofFields wordOf same meaningOf namedOf
@@ -96,6 +123,10 @@ knot-plain : (x : Float) → Free LF (knotLine x)
 unfolding freeb
 knot-plain x = free-append LF (bytes "knot\t") (doubleText x) (free-of LF (bytes "knot\t") tt) (free-hex LF 16 (toBits binary64 x) (omega arith))
 
+span-plain : (s : ℕ) → Free LF (spanLine s)
+unfolding freeb
+span-plain s = free-append LF (bytes "span\t") (decText 9 s) (free-of LF (bytes "span\t") tt) (free-dec LF 9 s (omega arith))
+
 -- doubles that the format holds, as each that the program computes
 abbrev pub Fit : List Float → Type 0
 Fit [] = Unit
@@ -105,25 +136,51 @@ Fit (x ∷ l) = T (fits binary64 x) × Fit l
 broken : (l x : List ℕ) → Free LF l → linesOf ((l ++ (LF ∷ [])) ++ x) ≡ l ∷ linesOf x
 broken l x p = ap linesOf (append-assoc l (LF ∷ []) x) ∙ line-ended l x p
 
-knots-again : (b : Basis) (l ks : List Float) → Fit l → length ks + length l ≤ places
-    → curveAfter (on b ks) (linesOf (knotsText l)) ≡ on b (ks ++ l)
+knots-again : (t : Table) (m : EndsBy) (l ks : List Float) → Fit l → length ks + length l ≤ places
+    → curveAfter (on t m ks) (linesOf (knotsText l)) ≡ on t m (ks ++ l)
 unfolding knotsText linesOf curveAfter
-knots-again b [] ks p h = ap (on b) (sym (append-nil ks))
-knots-again b (x ∷ l) ks p h =
-    let k = knot-silent b ks x (omega arith) in
+knots-again t m [] ks p h = ap (on t m) (sym (append-nil ks))
+knots-again t m (x ∷ l) ks p h =
+    let k = knot-silent t m ks x (omega arith) in
     let more : length (ks ++ (x ∷ [])) + length l ≤ places = simp length-append (omega arith) in
-    ap (curveAfter (on b ks)) (broken (knotLine x) (knotsText l) (knot-plain x))
-    ∙ ap (λ (r : Record). curveAfter (afterOf (on b ks) r) (linesOf (knotsText l))) (says-knot x (p .0))
+    ap (curveAfter (on t m ks)) (broken (knotLine x) (knotsText l) (knot-plain x))
+    ∙ ap (λ (r : Record). curveAfter (afterOf (on t m ks) r) (linesOf (knotsText l))) (says-knot x (p .0))
     ∙ ap (λ (c : Curve). curveAfter c (linesOf (knotsText l))) (k .1)
-    ∙ knots-again b l (ks ++ (x ∷ [])) (p .1) more
-    ∙ ap (on b) (append-assoc ks (x ∷ []) l)
+    ∙ knots-again t m l (ks ++ (x ∷ [])) (p .1) more
+    ∙ ap (on t m) (append-assoc ks (x ∷ []) l)
 
--- a told curve, read after whatever came before, is that curve
-pub turn-again : (c : Curve) (b : Basis) (l : List Float) → Fit l → length l ≤ places
-    → curveAfter c (linesOf (textOf (curve b l))) ≡ on b l
+-- no span in range is bad but 0
+bad-nought : (s : ℕ) → s ≤ day → goodSpan s ≡ false → s ≡ 0
+bad-nought s h e = go (leb 1 s) refl e
+  where
+    go : (p : Bool) → leb 1 s ≡ p → goodSpan s ≡ false → s ≡ 0
+    go true f k = let z : true ≡ false = rw (f, le-leb s day h) at k in never (cc)
+    go false f k = omega (arith, leb-false 1 s f)
+
+-- a told span, and the knots after it
+span-again : (b : Basis) (m : EndsBy) (s : ℕ) (l : List Float) → s ≤ day → Fit l → length l ≤ places
+    → curveAfter (on (bare b) m []) (linesOf (spansText (spansOf s) ++ knotsText l)) ≡ on (record { basis = b; span = s }) m l
+unfolding curveAfter
+span-again b m s l small p h = go (goodSpan s) refl
+  where
+    go : (g : Bool) → goodSpan s ≡ g → curveAfter (on (bare b) m []) (linesOf (spansText (cond g (s ∷ []) []) ++ knotsText l)) ≡ on (record { basis = b; span = s }) m l
+    go true e =
+        ap (λ (t : List ℕ). curveAfter (on (bare b) m []) (linesOf (t ++ knotsText l))) (append-nil (spanLine s ++ (LF ∷ [])))
+        ∙ ap (curveAfter (on (bare b) m [])) (broken (spanLine s) (knotsText l) (span-plain s))
+        ∙ ap (λ (r : Record). curveAfter (afterOf (on (bare b) m []) r) (linesOf (knotsText l))) (says-span s small)
+        ∙ ap (λ (c : Curve). curveAfter c (linesOf (knotsText l))) (span-silent (bare b) m [] s e .1)
+        ∙ knots-again (record { basis = b; span = s }) m l [] p (omega arith)
+    go false e = knots-again (bare b) m l [] p (omega arith) ∙ ap (λ (n : ℕ). on (record { basis = b; span = n }) m l) (sym (bad-nought s small e))
+
+-- a told table, read after whatever came before, is that table, its span included; the ends stay
+pub turn-again : (c : Curve) (b : Basis) (s : ℕ) (l : List Float) → s ≤ day → Fit l → length l ≤ places
+    → curveAfter c (linesOf (textOf (curve b (spansOf s) l))) ≡ on (record { basis = b; span = s }) (endsBefore c) l
 unfolding textOf curveAfter
-turn-again c b l p h =
-    ap (curveAfter c) (broken (bytes "curve\t" ++ nameOf b) (knotsText l) (curve-plain b))
-    ∙ ap (λ (r : Record). curveAfter (afterOf c r) (linesOf (knotsText l))) (says-curve b)
-    ∙ ap (λ (d : Curve). curveAfter d (linesOf (knotsText l))) (curve-silent c b .1)
-    ∙ knots-again b l [] p (omega arith)
+turn-again c b s l small p h =
+    let line = bytes "curve\t" ++ nameOf b in
+    let rest = spansText (spansOf s) ++ knotsText l in
+    ap (λ (t : List ℕ). curveAfter c (linesOf t)) (append-assoc (line ++ (LF ∷ [])) (spansText (spansOf s)) (knotsText l))
+    ∙ ap (curveAfter c) (broken line rest (curve-plain b))
+    ∙ ap (λ (r : Record). curveAfter (afterOf c r) (linesOf rest)) (says-curve b)
+    ∙ ap (λ (d : Curve). curveAfter d (linesOf rest)) (curve-silent c b .1)
+    ∙ span-again b (endsBefore c) s l small p h

@@ -17,3 +17,4 @@ pub mod Fewer
 pub mod Knots
 pub mod Premise
 pub mod Eleven
+pub mod Telling

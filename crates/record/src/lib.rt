@@ -2,13 +2,18 @@
 ghost use mathlib.Core.Path.{_≡_};
 ghost use mathlib.Core.List.{_∷_};
 ghost use Rattle.text.specs.Text.{fieldsOf};
-ghost use Rattle.record.specs.Record.{wordOf, namedOf, meaningOf, ofFields, recordOf};
+ghost use Rattle.decimals.specs.Decimals.{numberIn};
+ghost use Rattle.record.specs.declared.Record.the-variants.{Span, Ends};
+ghost use Rattle.record.specs.Record.{wordOf, namedOf, endsOf, withNumber, withEnds, meaningOf, ofFields, recordOf};
 use basis::Basis;
+use inverse::EndsBy;
 use text::Hexed;
 
 pub enum Record {
     Curve(Basis),
+    Span(u32),
     Knot(f64),
+    Ends(EndsBy),
     At(f64),
     Find(f64),
     Turn(Basis),
@@ -18,7 +23,9 @@ pub enum Record {
 // The first field of a record.
 pub enum Word {
     Curve,
+    Span,
     Knot,
+    Ends,
     At,
     Find,
     Turn,
@@ -30,14 +37,26 @@ pub enum Named {
     Nothing,
 }
 
+// By which ends the curve is inverted, if a field names one.
+pub enum EndsNamed {
+    Is(EndsBy),
+    Nothing,
+}
+
 pub fn word_of(s: &[u8]) -> Word
     ensures { λ r. ⌜ r ≡ wordOf (now (s .entry)) ⌝ }
 {
     if text::is_word(s, b"curve") {
         return Word::Curve;
     }
+    if text::is_word(s, b"span") {
+        return Word::Span;
+    }
     if text::is_word(s, b"knot") {
         return Word::Knot;
+    }
+    if text::is_word(s, b"ends") {
+        return Word::Ends;
     }
     if text::is_word(s, b"at") {
         return Word::At;
@@ -75,6 +94,37 @@ pub fn basis_named(s: &[u8]) -> Named
     Named::Nothing
 }
 
+pub fn ends_named(s: &[u8]) -> EndsNamed
+    ensures { λ r. ⌜ r ≡ endsOf (now (s .entry)) ⌝ }
+{
+    if text::is_word(s, b"knots") {
+        return EndsNamed::Is(EndsBy::Knots);
+    }
+    if text::is_word(s, b"curve") {
+        return EndsNamed::Is(EndsBy::Curve);
+    }
+    EndsNamed::Nothing
+}
+
+// A span of 1 to 5 digits; whether it is in range is for the answer to say.
+fn span_of(s: &[u8]) -> Record
+    ensures { λ r. ⌜ r ≡ withNumber (λ n. Span n) (numberIn 5 (now (s .entry))) ⌝ }
+{
+    let Hexed::Is(n) = decimals::number_in(s, 5) else {
+        return Record::Bad;
+    };
+    Record::Span(n as u32)
+}
+
+fn ends_of(s: &[u8]) -> Record
+    ensures { λ r. ⌜ r ≡ withEnds (λ m. Ends m) (endsOf (now (s .entry))) ⌝ }
+{
+    let EndsNamed::Is(m) = ends_named(s) else {
+        return Record::Bad;
+    };
+    Record::Ends(m)
+}
+
 // The record of a word and the field after it.
 fn meaning(w: Word, s: &[u8]) -> Record
     ensures { λ r. ⌜ r ≡ meaningOf w (now (s .entry)) ⌝ }
@@ -86,12 +136,14 @@ fn meaning(w: Word, s: &[u8]) -> Record
             };
             Record::Curve(b)
         }
+        Word::Span => span_of(s),
         Word::Knot => {
             let Hexed::Is(n) = text::hex(s) else {
                 return Record::Bad;
             };
             Record::Knot(text::of_bits(n))
         }
+        Word::Ends => ends_of(s),
         Word::At => {
             let Hexed::Is(n) = text::hex(s) else {
                 return Record::Bad;

@@ -14,8 +14,8 @@ pub data Reply : Type 0 where
   silence : Reply
   refused : Refusal → Reply
   value : Float → Reply
-  place : Float → Ground → ℕ → Reply
-  curve : Basis → List Float → Reply
+  place : Float → Ground → ℕ → List ℕ → Reply
+  curve : Basis → List ℕ → List Float → Reply
 
 -- each place that a refusal tells, after a tab
 abbrev pub placesText : List ℕ → List ℕ
@@ -37,21 +37,30 @@ groundName Value = bytes "value"
 groundName Width = bytes "width"
 groundName Spent = bytes "spent"
 
--- `place` tells parameter, ground, decimal count
-abbrev pub placeText : Float → Ground → ℕ → List ℕ
-placeText x g n = bytes "place\t" ++ doubleText x ++ (TAB ∷ []) ++ groundName g ++ (TAB ∷ []) ++ decText 9 n ++ (LF ∷ [])
+-- each second, after a tab
+abbrev pub secondsText : List ℕ → List ℕ
+secondsText [] = []
+secondsText (s ∷ ss) = (TAB ∷ []) ++ decText 9 s ++ secondsText ss
 
--- a converted curve is told in the records that would enter it
+-- `place` tells parameter, ground, decimal count, and the second where the table has a span
+abbrev pub placeText : Float → Ground → ℕ → List ℕ → List ℕ
+placeText x g n ss = bytes "place\t" ++ doubleText x ++ (TAB ∷ []) ++ groundName g ++ (TAB ∷ []) ++ decText 9 n ++ secondsText ss ++ (LF ∷ [])
+
+-- a converted curve is told in the records that would enter it: its basis, its span where it has one, its knots
+abbrev pub spansText : List ℕ → List ℕ
+spansText [] = []
+spansText (s ∷ ss) = bytes "span\t" ++ decText 9 s ++ (LF ∷ []) ++ spansText ss
+
 unfoldable pub knotsText : List Float → List ℕ
 knotsText [] = []
 knotsText (x ∷ l) = lineText (bytes "knot\t") x ++ knotsText l
 
-abbrev pub curveText : Basis → List Float → List ℕ
-curveText b l = bytes "curve\t" ++ nameOf b ++ (LF ∷ []) ++ knotsText l
+abbrev pub curveText : Basis → List ℕ → List Float → List ℕ
+curveText b ss l = bytes "curve\t" ++ nameOf b ++ (LF ∷ []) ++ spansText ss ++ knotsText l
 
 unfoldable pub textOf : Reply → List ℕ
 textOf silence = []
 textOf (refused r) = refusedText r
 textOf (value x) = lineText (bytes "value\t") x
-textOf (place x g n) = placeText x g n
-textOf (curve b l) = curveText b l
+textOf (place x g n ss) = placeText x g n ss
+textOf (curve b ss l) = curveText b ss l

@@ -6,22 +6,25 @@ ghost use mathlib.Core.List.{[], _∷_};
 ghost use Rattle.error.specs.Refusals.{placesOf};
 ghost use Rattle.text.specs.Wrote.{Wrote};
 ghost use Rattle.record.specs.Record.{nameOf};
-ghost use Rattle.reply.specs.Reply.{groundName, placesText, refusedText, lineText, placeText, knotsText, curveText, textOf};
+ghost use Rattle.table.specs.Second.{secondsIn, spansOf};
+ghost use Rattle.reply.specs.Reply.{groundName, placesText, refusedText, lineText, secondsText, placeText, spansText, knotsText, curveText, textOf};
 ghost use Rattle.reply.specs.Told.{longest, lentOf, replyOf, placesIn};
 use basis::Basis;
 use error::Refusal;
 use invert::Ground;
+use table::Seconds;
+use table::Table;
 
-// The bytes of the longest reply: a curve of 4,096 knots over CatmullRom.
-pub const LONGEST: usize = 90129;
+// Room for the longest reply: a curve of 4,096 knots over CatmullRom with a span.
+pub const LONGEST: usize = 90145;
 
 // A reply to one line. The knots of a curve are the first ones, as many as it says, of a lent slice.
 pub enum Told {
     Nothing,
     Refused(Refusal),
     Value(f64),
-    Place(f64, Ground, u32),
-    Curve(Basis, usize),
+    Place(f64, Ground, u32, Seconds),
+    Curve(Table, usize),
 }
 
 // A knot's number, after a tab.
@@ -109,9 +112,28 @@ fn put_ground(out: &mut [u8], at: usize, g: Ground) -> usize
     }
 }
 
-fn put_place(out: &mut [u8], at: usize, x: f64, g: Ground, n: u32) -> usize
-    requires { ⌜ at + 40 ≤ length (now out) ⌝ }
-    ensures { λ r. ⌜ Wrote (now (out .entry)) at (placeText x g n) (now (out .exit)) r × (r ≤ at + 40) ⌝ }
+fn put_second(out: &mut [u8], at: usize, s: u32) -> usize
+    requires { ⌜ at + 11 ≤ length (now out) ⌝ }
+    ensures { λ r. ⌜ Wrote (now (out .entry)) at (secondsText (s ∷ [])) (now (out .exit)) r × (r ≤ at + 11) ⌝ }
+{
+    let a = text::put_byte(&mut *out, at, b'\t');
+    text::put_decimal(out, a, s, 9)
+}
+
+// The second of a place, after a tab.
+fn put_seconds(out: &mut [u8], at: usize, s: Seconds) -> usize
+    requires { ⌜ at + 11 ≤ length (now out) ⌝ }
+    ensures { λ r. ⌜ Wrote (now (out .entry)) at (secondsText (secondsIn s)) (now (out .exit)) r × (r ≤ at + 11) ⌝ }
+{
+    match s {
+        Seconds::At(n) => put_second(out, at, n),
+        Seconds::Nothing => at,
+    }
+}
+
+fn put_place(out: &mut [u8], at: usize, x: f64, g: Ground, n: u32, s: Seconds) -> usize
+    requires { ⌜ at + 51 ≤ length (now out) ⌝ }
+    ensures { λ r. ⌜ Wrote (now (out .entry)) at (placeText x g n (secondsIn s)) (now (out .exit)) r × (r ≤ at + 51) ⌝ }
 {
     let a = text::put_word(&mut *out, at, b"place\t");
     let b = text::put_double(&mut *out, a, x);
@@ -119,7 +141,8 @@ fn put_place(out: &mut [u8], at: usize, x: f64, g: Ground, n: u32) -> usize
     let d = put_ground(&mut *out, c, g);
     let e = text::put_byte(&mut *out, d, b'\t');
     let f = text::put_decimal(&mut *out, e, n, 9);
-    text::put_byte(out, f, b'\n')
+    let h = put_seconds(&mut *out, f, s);
+    text::put_byte(out, h, b'\n')
 }
 
 fn put_basis(out: &mut [u8], at: usize, b: Basis) -> usize
@@ -149,14 +172,30 @@ fn put_knots(out: &mut [u8], at: usize, knots: &[f64]) -> usize
     p
 }
 
-fn put_curve(out: &mut [u8], at: usize, b: Basis, knots: &[f64]) -> usize
-    requires { ⌜ (length (now knots) ≤ 4096) × (at + longest ≤ length (now out)) ⌝ }
-    ensures { λ r. ⌜ Wrote (now (out .entry)) at (curveText b (now (knots .entry))) (now (out .exit)) r × (r ≤ at + longest) ⌝ }
+// The line of a span, where the table has one.
+fn put_span(out: &mut [u8], at: usize, span: u32) -> usize
+    requires { ⌜ at + 16 ≤ length (now out) ⌝ }
+    ensures { λ r. ⌜ Wrote (now (out .entry)) at (spansText (spansOf span)) (now (out .exit)) r × (r ≤ at + 16) ⌝ }
 {
+    if table::is_span(span) {
+        let a = text::put_word(&mut *out, at, b"span\t");
+        let b = text::put_decimal(&mut *out, a, span, 9);
+        return text::put_byte(out, b, b'\n');
+    }
+    at
+}
+
+fn put_curve(out: &mut [u8], at: usize, t: Table, knots: &[f64]) -> usize
+    requires { ⌜ (length (now knots) ≤ 4096) × (at + longest ≤ length (now out)) ⌝ }
+    ensures { λ r. ⌜ Wrote (now (out .entry)) at (curveText (t .basis) (spansOf (t .span)) (now (knots .entry))) (now (out .exit)) r × (r ≤ at + longest) ⌝ }
+{
+    let b = t.basis;
+    let span = t.span;
     let a = text::put_word(&mut *out, at, b"curve\t");
     let c = put_basis(&mut *out, a, b);
     let d = text::put_byte(&mut *out, c, b'\n');
-    put_knots(out, d, knots)
+    let e = put_span(&mut *out, d, span);
+    put_knots(out, e, knots)
 }
 
 // The text of a reply, from place `at` on.
@@ -168,7 +207,7 @@ pub fn put_reply(t: Told, turned: &[f64], out: &mut [u8], at: usize) -> usize
         Told::Nothing => at,
         Told::Refused(r) => put_refused(out, at, r),
         Told::Value(x) => put_line(out, at, b"value\t", x),
-        Told::Place(x, g, n) => put_place(out, at, x, g, n),
-        Told::Curve(b, n) => put_curve(out, at, b, &turned[0..n]),
+        Told::Place(x, g, n, s) => put_place(out, at, x, g, n, s),
+        Told::Curve(c, n) => put_curve(out, at, c, &turned[0..n]),
     }
 }

@@ -17,11 +17,11 @@ same-length : tie.Need-same-length
 same-length c = search needs
 
 returns : tie.Need-returns
-returns c = λ l. let k = knot-taken (c .before .args .b) (c .before .args .n) (c .before .args .x) (c .before .args .table .now) (omega arith) (omega arith) in
+returns c = λ l. let a = c .before .args in let k = knot-taken (a .t) (a .m) (a .n) (a .x) (a .table .now) (omega arith) (omega arith) in
     record { held = k .0; told = k .1; few = omega arith; lent = omega arith }
 
 returns-2 : tie.Need-returns-2
-returns-2 c = λ l. let k = knot-dropped (c .before .args .b) (c .before .args .n) (c .before .args .x) (c .before .args .table .now) (omega arith) (omega arith) (omega arith) in
+returns-2 c = λ l. let a = c .before .args in let k = knot-dropped (a .t) (a .m) (a .n) (a .x) (a .table .now) (omega arith) (omega arith) (omega arith) in
     record { held = k .0; told = k .1; few = omega arith; lent = omega arith }
 
 pub add-spec : {M : Type 1} → statement M

@@ -54,9 +54,29 @@ returns-5 : tie.Need-returns-5
 unfolding wordOf
 returns-5 c = simp (sym (c .before .before .before .before .before .before .before .before .before .before .before .before .before .is-word .ensures) ∙ c .before .before .before .before .before .before .before .before .before .before .before .before .if1 .left, sym (c .before .before .before .before .before .before .before .before .before .before .is-word2 .ensures) ∙ c .before .before .before .before .before .before .before .before .before .if2 .left, sym (c .before .before .before .before .before .before .before .is-word3 .ensures) ∙ c .before .before .before .before .before .before .if3 .left, sym (c .before .before .before .before .is-word4 .ensures) ∙ c .before .before .before .if4 .left, sym (c .before .is-word5 .ensures) ∙ c .if5 .taken)
 
+slice-aggregate-is-word-6 : tie.Need-slice-aggregate-is-word-6
+slice-aggregate-is-word-6 c = search needs
+
+is-word-requires-6 : tie.Need-is-word-requires-6
+is-word-requires-6 c κs = search needs
+
 returns-6 : tie.Need-returns-6
 unfolding wordOf
-returns-6 c = simp (sym (c .before .before .before .before .before .before .before .before .before .before .before .before .before .is-word .ensures) ∙ c .before .before .before .before .before .before .before .before .before .before .before .before .if1 .left, sym (c .before .before .before .before .before .before .before .before .before .before .is-word2 .ensures) ∙ c .before .before .before .before .before .before .before .before .before .if2 .left, sym (c .before .before .before .before .before .before .before .is-word3 .ensures) ∙ c .before .before .before .before .before .before .if3 .left, sym (c .before .before .before .before .is-word4 .ensures) ∙ c .before .before .before .if4 .left, sym (c .before .is-word5 .ensures) ∙ c .if5 .left)
+returns-6 c = simp (sym (c .before .before .before .before .before .before .before .before .before .before .before .before .before .before .before .before .is-word .ensures) ∙ c .before .before .before .before .before .before .before .before .before .before .before .before .before .before .before .if1 .left, sym (c .before .before .before .before .before .before .before .before .before .before .before .before .before .is-word2 .ensures) ∙ c .before .before .before .before .before .before .before .before .before .before .before .before .if2 .left, sym (c .before .before .before .before .before .before .before .before .before .before .is-word3 .ensures) ∙ c .before .before .before .before .before .before .before .before .before .if3 .left, sym (c .before .before .before .before .before .before .before .is-word4 .ensures) ∙ c .before .before .before .before .before .before .if4 .left, sym (c .before .before .before .before .is-word5 .ensures) ∙ c .before .before .before .if5 .left, sym (c .before .is-word6 .ensures) ∙ c .if6 .taken)
+
+slice-aggregate-is-word-7 : tie.Need-slice-aggregate-is-word-7
+slice-aggregate-is-word-7 c = search needs
+
+is-word-requires-7 : tie.Need-is-word-requires-7
+is-word-requires-7 c κs = search needs
+
+returns-7 : tie.Need-returns-7
+unfolding wordOf
+returns-7 c = simp (sym (c .before .before .before .before .before .before .before .before .before .before .before .before .before .before .before .before .before .before .before .is-word .ensures) ∙ c .before .before .before .before .before .before .before .before .before .before .before .before .before .before .before .before .before .before .if1 .left, sym (c .before .before .before .before .before .before .before .before .before .before .before .before .before .before .before .before .is-word2 .ensures) ∙ c .before .before .before .before .before .before .before .before .before .before .before .before .before .before .before .if2 .left, sym (c .before .before .before .before .before .before .before .before .before .before .before .before .before .is-word3 .ensures) ∙ c .before .before .before .before .before .before .before .before .before .before .before .before .if3 .left, sym (c .before .before .before .before .before .before .before .before .before .before .is-word4 .ensures) ∙ c .before .before .before .before .before .before .before .before .before .if4 .left, sym (c .before .before .before .before .before .before .before .is-word5 .ensures) ∙ c .before .before .before .before .before .before .if5 .left, sym (c .before .before .before .before .is-word6 .ensures) ∙ c .before .before .before .if6 .left, sym (c .before .is-word7 .ensures) ∙ c .if7 .taken)
+
+returns-8 : tie.Need-returns-8
+unfolding wordOf
+returns-8 c = simp (sym (c .before .before .before .before .before .before .before .before .before .before .before .before .before .before .before .before .before .before .before .is-word .ensures) ∙ c .before .before .before .before .before .before .before .before .before .before .before .before .before .before .before .before .before .before .if1 .left, sym (c .before .before .before .before .before .before .before .before .before .before .before .before .before .before .before .before .is-word2 .ensures) ∙ c .before .before .before .before .before .before .before .before .before .before .before .before .before .before .before .if2 .left, sym (c .before .before .before .before .before .before .before .before .before .before .before .before .before .is-word3 .ensures) ∙ c .before .before .before .before .before .before .before .before .before .before .before .before .if3 .left, sym (c .before .before .before .before .before .before .before .before .before .before .is-word4 .ensures) ∙ c .before .before .before .before .before .before .before .before .before .if4 .left, sym (c .before .before .before .before .before .before .before .is-word5 .ensures) ∙ c .before .before .before .before .before .before .if5 .left, sym (c .before .before .before .before .is-word6 .ensures) ∙ c .before .before .before .if6 .left, sym (c .before .is-word7 .ensures) ∙ c .if7 .left)
 
 pub word-of-spec : {M : Type 1} → statement M
 word-of-spec =
@@ -77,4 +97,10 @@ word-of-spec =
     slice-aggregate-is-word-5
     is-word-requires-5
     returns-5
-    returns-6)
+    slice-aggregate-is-word-6
+    is-word-requires-6
+    returns-6
+    slice-aggregate-is-word-7
+    is-word-requires-7
+    returns-7
+    returns-8)

@@ -16,6 +16,9 @@ put-basis-requires c κs = search needs
 put-byte-requires : tie.Need-put-byte-requires
 put-byte-requires c κs = search needs
 
+put-span-requires : tie.Need-put-span-requires
+put-span-requires c κs = search needs
+
 put-knots-requires : tie.Need-put-knots-requires
 put-knots-requires c κs = search needs
 
@@ -23,10 +26,7 @@ same-length : tie.Need-same-length
 same-length c = search needs
 
 returns : tie.Need-returns
-returns c = (
-  then (then (then (c .before .before .before .before .before .before .before .before .before .before .before .before .before .before .put-word .ensures) (c .before .before .before .before .before .before .before .before .before .before .put-basis .ensures .0)) (c .before .before .before .before .before .before .put-byte .ensures)) (c .before .before .put-knots .ensures .0),
-  omega (arith, c .before .before .before .before .before .before .before .before .before .before .before .before .before .before .put-word .ensures .next, c .before .before .before .before .before .before .before .before .before .before .put-basis .ensures .1, c .before .before .before .before .before .before .put-byte .ensures .next, c .before .before .put-knots .ensures .1),
-)
+returns c = (then (then (then (then (c .before .before .before .before .before .before .before .before .before .before .before .before .before .before .before .before .before .before .put-word .ensures) (c .before .before .before .before .before .before .before .before .before .before .before .before .before .before .put-basis .ensures .0)) (c .before .before .before .before .before .before .before .before .before .before .put-byte .ensures)) (c .before .before .before .before .before .before .put-span .ensures .0)) (c .before .before .put-knots .ensures .0), omega (arith, c .before .before .before .before .before .before .before .before .before .before .before .before .before .before .before .before .before .before .put-word .ensures .next, c .before .before .before .before .before .before .before .before .before .before .before .before .before .before .put-basis .ensures .1, c .before .before .before .before .before .before .before .before .before .before .put-byte .ensures .next, c .before .before .before .before .before .before .put-span .ensures .1, c .before .before .put-knots .ensures .1))
 
 pub put-curve-spec : {M : Type 1} → statement M
 put-curve-spec =
@@ -36,6 +36,7 @@ put-curve-spec =
     put-word-requires
     put-basis-requires
     put-byte-requires
+    put-span-requires
     put-knots-requires
     same-length
     returns)

@@ -25,6 +25,9 @@ put-byte-requires-2 c κs = search needs
 put-decimal-requires : tie.Need-put-decimal-requires
 put-decimal-requires c κs = search needs
 
+put-seconds-requires : tie.Need-put-seconds-requires
+put-seconds-requires c κs = search needs
+
 put-byte-requires-3 : tie.Need-put-byte-requires-3
 put-byte-requires-3 c κs = search needs
 
@@ -32,10 +35,7 @@ same-length : tie.Need-same-length
 same-length c = search needs
 
 returns : tie.Need-returns
-returns c = (
-  then (then (then (then (then (then (c .before .before .before .before .before .before .before .before .before .before .before .before .before .before .before .before .before .before .before .before .before .before .before .before .before .before .put-word .ensures) (c .before .before .before .before .before .before .before .before .before .before .before .before .before .before .before .before .before .before .before .before .before .before .put-double .ensures .0)) (c .before .before .before .before .before .before .before .before .before .before .before .before .before .before .before .before .before .before .put-byte .ensures)) (c .before .before .before .before .before .before .before .before .before .before .before .before .before .before .put-ground .ensures .0)) (c .before .before .before .before .before .before .before .before .before .before .put-byte2 .ensures)) (c .before .before .before .before .before .before .put-decimal .ensures .0)) (c .before .before .put-byte3 .ensures),
-  omega (arith, c .before .before .before .before .before .before .before .before .before .before .before .before .before .before .before .before .before .before .before .before .before .before .before .before .before .before .put-word .ensures .next, c .before .before .before .before .before .before .before .before .before .before .before .before .before .before .before .before .before .before .before .before .before .before .put-double .ensures .1, c .before .before .before .before .before .before .before .before .before .before .before .before .before .before .before .before .before .before .put-byte .ensures .next, c .before .before .before .before .before .before .before .before .before .before .before .before .before .before .put-ground .ensures .1, c .before .before .before .before .before .before .before .before .before .before .put-byte2 .ensures .next, c .before .before .before .before .before .before .put-decimal .ensures .1, c .before .before .put-byte3 .ensures .next),
-)
+returns c = (then (then (then (then (then (then (then (c .before .before .before .before .before .before .before .before .before .before .before .before .before .before .before .before .before .before .before .before .before .before .before .before .before .before .before .before .before .before .put-word .ensures) (c .before .before .before .before .before .before .before .before .before .before .before .before .before .before .before .before .before .before .before .before .before .before .before .before .before .before .put-double .ensures .0)) (c .before .before .before .before .before .before .before .before .before .before .before .before .before .before .before .before .before .before .before .before .before .before .put-byte .ensures)) (c .before .before .before .before .before .before .before .before .before .before .before .before .before .before .before .before .before .before .put-ground .ensures .0)) (c .before .before .before .before .before .before .before .before .before .before .before .before .before .before .put-byte2 .ensures)) (c .before .before .before .before .before .before .before .before .before .before .put-decimal .ensures .0)) (c .before .before .before .before .before .before .put-seconds .ensures .0)) (c .before .before .put-byte3 .ensures), omega (arith, c .before .before .before .before .before .before .before .before .before .before .before .before .before .before .before .before .before .before .before .before .before .before .before .before .before .before .before .before .before .before .put-word .ensures .next, c .before .before .before .before .before .before .before .before .before .before .before .before .before .before .before .before .before .before .before .before .before .before .before .before .before .before .put-double .ensures .1, c .before .before .before .before .before .before .before .before .before .before .before .before .before .before .before .before .before .before .before .before .before .before .put-byte .ensures .next, c .before .before .before .before .before .before .before .before .before .before .before .before .before .before .before .before .before .before .put-ground .ensures .1, c .before .before .before .before .before .before .before .before .before .before .before .before .before .before .put-byte2 .ensures .next, c .before .before .before .before .before .before .before .before .before .before .put-decimal .ensures .1, c .before .before .before .before .before .before .put-seconds .ensures .1, c .before .before .put-byte3 .ensures .next))
 
 pub put-place-spec : {M : Type 1} → statement M
 put-place-spec =
@@ -48,6 +48,7 @@ put-place-spec =
     put-ground-requires
     put-byte-requires-2
     put-decimal-requires
+    put-seconds-requires
     put-byte-requires-3
     same-length
     returns)
