@@ -20,8 +20,8 @@
  * What the archive is
  *   - One object for x86-64 Linux. It has no data, no state and no heap, and leaves one symbol undefined: memcpy. So every
  *     call is re-entrant, and may run in any thread or signal handler.
- *   - Stack: at most 96 bytes for an evaluation, 512 for an inversion, 400 for a conversion (c/stack.c measures them;
- *     a first call of memcpy through lazy binding takes the dynamic linker's some 3 KB besides).
+ *   - Stack: at most 96 bytes for an evaluation, 512 for an inversion, 400 for a conversion, 512 for a strict one
+ *     (c/stack.c measures them; a first call of memcpy through lazy binding takes the dynamic linker's some 3 KB besides).
  *   - An inversion makes at most limit + 24 evaluations on up to 12 segments and at most limit + 2 b + 4 above, where b
  *     is the number of binary digits of the segment count: 12 at most. In SIMMERSTOAT_ENDS_CURVE there are 2 more.
  */
@@ -82,7 +82,7 @@ enum {
     SIMMERSTOAT_BAD_LINE = 12,          /* a line of a listing; no call of this header gives it, nor the next two */
     SIMMERSTOAT_BAD_SHEET = 13,         /* a line of a sheet */
     SIMMERSTOAT_NO_COMPARISON = 20,     /* nothing to compare with */
-    SIMMERSTOAT_LOST_SEAM = 15          /* a seam would be lost; the place: the segment that ends at it */
+    SIMMERSTOAT_LOST_SEAM = 15          /* a seam would be lost; the place: the segment behind it */
 };
 
 /* What an inversion writes: four doubles .. */
@@ -166,6 +166,12 @@ uint32_t simmerstoat_convert_segment(uint8_t from, uint8_t to, const double *cv,
  * places keep what they hold. Refusals: 255, 1, 2, 3, 8, 9, 4. */
 uint32_t simmerstoat_convert_spline(uint8_t from, uint8_t to, const double *knots, size_t n, double *out, size_t room,
                                     size_t *written);
+
+/* The same, refused where a seam would be lost: where a later segment would drop a converted knot that differs by more
+ * than the allowance from the one that stands at its place of the output. The reply's place is the lowest such segment.
+ * Where it does not refuse it is simmerstoat_convert_spline. Refusals: 255, 1, 2, 3, 8, 17, 9, 4, 15. */
+uint32_t simmerstoat_convert_spline_strict(uint8_t from, uint8_t to, const double *knots, size_t n, double allowance,
+                                           double *out, size_t room, size_t *written);
 
 /* ---- what follows is written in C over the calls above, and proved of nothing */
 

@@ -11,7 +11,7 @@
 enum { SIZE = 1 << 15, PAINT = 0xA5, KNOTS = 4096 };
 
 /* The limits that the header tells, in bytes. */
-enum { EVALUATION = 96, INVERSION = 512, CONVERSION = 400 };
+enum { EVALUATION = 96, INVERSION = 512, CONVERSION = 400, STRICT = 512 };
 
 static unsigned char *stack;
 static ucontext_t back, there;
@@ -49,6 +49,10 @@ static void convert_spline(void) {
     reply = simmerstoat_convert_spline(basis, other, knots, length, out, 4 * KNOTS, &written);
 }
 
+static void convert_spline_strict(void) {
+    reply = simmerstoat_convert_spline_strict(basis, other, knots, length, 1e9, out, 4 * KNOTS, &written);
+}
+
 static size_t depth(void (*call)(void)) {
     memset(stack, PAINT, SIZE);
     getcontext(&there);
@@ -77,7 +81,8 @@ int main(void) {
                  {"spline_inverse_segment_with", spline_inverse_segment_with, INVERSION},
                  {"spline_inverse_segment_by", spline_inverse_segment_by, INVERSION},
                  {"convert_segment", convert_segment, CONVERSION},
-                 {"convert_spline", convert_spline, CONVERSION}};
+                 {"convert_spline", convert_spline, CONVERSION},
+                 {"convert_spline_strict", convert_spline_strict, STRICT}};
     static const size_t lengths[] = {4, 16, 28, 100, 1024, 4096};
     stack = malloc(SIZE);
     for (int i = 0; i < KNOTS; i++) knots[i] = 0.01 * i;

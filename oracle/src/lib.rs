@@ -7,5 +7,6 @@ pub mod modes;
 pub mod parts;
 pub mod port;
 pub mod promised;
+pub mod strict;
 pub mod tally;
 pub mod wrapped;

@@ -29,6 +29,7 @@ calls! {
     SegmentSteady "spline_inverse_segment, steady",
     ConvertSpline "convert_spline",
     ConvertSegment "convert_segment",
+    ConvertSplineStrict "convert_spline_strict",
 }
 
 impl Call {

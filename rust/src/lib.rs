@@ -55,6 +55,7 @@ pub mod convert;
 mod double;
 mod options;
 pub mod raw;
+pub mod strict;
 pub mod valve;
 
 pub use answer::{Ground, Place, Refusal};
@@ -67,6 +68,7 @@ pub mod prelude {
     //! All names but the raw exports.
     pub use crate::basis::*;
     pub use crate::convert::*;
+    pub use crate::strict::*;
     pub use crate::*;
 }
 

@@ -92,4 +92,15 @@ extern "C" {
         room: usize,
         written: *mut usize,
     ) -> u32;
+
+    pub fn simmerstoat_convert_spline_strict(
+        from: u8,
+        to: u8,
+        knots: *const f64,
+        n: usize,
+        allowance: f64,
+        out: *mut f64,
+        room: usize,
+        written: *mut usize,
+    ) -> u32;
 }
