@@ -20,7 +20,7 @@
  * What the archive is
  *   - One object for x86-64 Linux. It has no data, no state and no heap, and leaves one symbol undefined: memcpy. So every
  *     call is re-entrant, and may run in any thread or signal handler.
- *   - Stack: at most 96 bytes for an evaluation, 512 for an inversion, 400 for a conversion, 512 for a strict one
+ *   - Stack: at most 96 bytes for an evaluation, 512 for an inversion, 432 for a conversion, 656 for a strict one
  *     (c/stack.c measures them; a first call of memcpy through lazy binding takes the dynamic linker's some 3 KB besides).
  *   - An inversion makes at most limit + 24 evaluations on up to 12 segments and at most limit + 2 b + 4 above, where b
  *     is the number of binary digits of the segment count: 12 at most. In SIMMERSTOAT_ENDS_CURVE there are 2 more.
@@ -172,6 +172,20 @@ uint32_t simmerstoat_convert_spline(uint8_t from, uint8_t to, const double *knot
  * Where it does not refuse it is simmerstoat_convert_spline. Refusals: 255, 1, 2, 3, 8, 17, 9, 4, 15. */
 uint32_t simmerstoat_convert_spline_strict(uint8_t from, uint8_t to, const double *knots, size_t n, double allowance,
                                            double *out, size_t room, size_t *written);
+
+/* Set in a reply of simmerstoat_depth_at where the table of depths is meant. Mask it before taking the reply apart. */
+#define SIMMERSTOAT_OF_DEPTHS 0x80000000u
+
+/* The fourth whole number that simmerstoat_depth_at writes: the evaluations of both tables. */
+enum { SIMMERSTOAT_BOTH = 3 };
+
+/* The depth at the time y: the times are inverted with the order check, and the depths evaluated at the parameter found.
+ * Writes the depth, the place in the times as an inversion does, and the count of both tables. Refusals, of the times:
+ * 255, 1, 2, 3, 5, 6, 7, 4, 10; then of the depths: 1, 2, 3, 4, 18 (the tables have different counts of segments); then
+ * 11, of the times, which writes the inversion's count. */
+uint32_t simmerstoat_depth_at(uint8_t times_basis, const double *times, size_t n, uint8_t depths_basis,
+                              const double *depths, size_t m, double y, uint16_t limit, double precision, double *depth,
+                              double place[4], size_t whole[4]);
 
 /* ---- what follows is written in C over the calls above, and proved of nothing */
 

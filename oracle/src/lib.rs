@@ -9,4 +9,5 @@ pub mod port;
 pub mod promised;
 pub mod strict;
 pub mod tally;
+pub mod uneven;
 pub mod wrapped;

@@ -30,6 +30,7 @@ calls! {
     ConvertSpline "convert_spline",
     ConvertSegment "convert_segment",
     ConvertSplineStrict "convert_spline_strict",
+    DepthAt "depth_at",
 }
 
 impl Call {

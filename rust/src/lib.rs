@@ -55,6 +55,7 @@ pub mod convert;
 mod double;
 mod options;
 pub mod raw;
+pub mod uneven;
 pub mod strict;
 pub mod valve;
 

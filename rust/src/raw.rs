@@ -6,6 +6,9 @@
 /// The reply to a number that names no basis, no rule of the ends or no method; `simmerstoat_is_len_ok` answers it as a `u8`.
 pub const NO_BASIS: u32 = 255;
 
+/// Set in a reply of `simmerstoat_depth_at` where the table of depths is meant.
+pub const OF_DEPTHS: u32 = 1 << 31;
+
 extern "C" {
     pub fn simmerstoat_is_len_ok(basis: u8, n: usize) -> u8;
 
@@ -102,5 +105,20 @@ extern "C" {
         out: *mut f64,
         room: usize,
         written: *mut usize,
+    ) -> u32;
+
+    pub fn simmerstoat_depth_at(
+        times_basis: u8,
+        times: *const f64,
+        n: usize,
+        depths_basis: u8,
+        depths: *const f64,
+        m: usize,
+        y: f64,
+        limit: u16,
+        precision: f64,
+        depth: *mut f64,
+        place: *mut [f64; 4],
+        whole: *mut [usize; 4],
     ) -> u32;
 }

@@ -18,3 +18,4 @@ pub mod Knots
 pub mod Premise
 pub mod Eleven
 pub mod Telling
+pub mod Uneven

@@ -29,6 +29,7 @@ use invert::Ground;
 use invert::Inverted;
 use spline::Evaluated;
 
+pub mod hours;
 pub mod options;
 pub mod seams;
 

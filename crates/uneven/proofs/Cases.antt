@@ -1,0 +1,78 @@
+-- The answers, by the tests as the code makes them. The count has room for one more, since the inversion's is bounded. Assumes nothing.
+use mathlib.Core.Path.{_≡_, sym, ap, _∙_}
+use mathlib.Core.Bool.{Bool, true, false, cond}
+use mathlib.Core.List.{List}
+use Prim.Native.Nat.{ℕ, _+_, _-_, _*_, _/_, _≤_, _<_}
+use native.Mathlib.Omega.{arith}
+use borrow.Author.Tests.{eq-eqb, ne-eqb}
+use lib.Dec.{eqb, leb}
+use lib.ListN.{length}
+use lib.Ieee.{Float}
+use Rattle.error.specs.declared.Refusal.{Refusal}
+use Rattle.error.specs.declared.Refusal.the-variants.{BadKnot, UnequalSegments}
+use Rattle.error.specs.declared.Verdict.{Verdict}
+use Rattle.error.specs.declared.Verdict.the-variants.{Passed, Failed}
+use Rattle.error.specs.Refusals.{first}
+use Rattle.error.proofs.First.{stops, goes-on}
+use Rattle.basis.specs.declared.Basis.{Basis}
+use Rattle.basis.specs.Basis.{stepOf, segmentsOf}
+use Rattle.spline.specs.Rows.{curveLength, allInRange, firstBad}
+use Rattle.spline.specs.Evaluation.{splineOf}
+use Rattle.invert.specs.declared.Inverted.{Inverted}
+use Rattle.invert.specs.Answer.{countTold}
+use Rattle.steady.specs.declared.Method.the-variants.{AsCrate}
+use Rattle.search.specs.Bound.{bitsOf, boundOf}
+use Rattle.inverse.specs.declared.EndsBy.the-variants.{Knots}
+use Rattle.inverse.specs.Inverse.{inverseOf}
+use Rattle.inverse.proofs.Promises.{inverse-bounded}
+use Rattle.uneven.specs.declared.Sounded.{Sounded}
+use Rattle.uneven.specs.Uneven.{depthUses, sounded, depthOf}
+
+-- ---- the depths' rows
+module _ (tb : Basis) (n : ℕ) (db : Basis) (ds : List Float) {l : Verdict} (e : l ≡ first (curveLength db (length ds))) where
+  pub depths-stop : {r : Refusal} → l ≡ Failed r → l ≡ first (depthUses tb n db ds)
+  depths-stop k = stops (depthUses tb n db ds) e k
+
+  pub depths-knot : l ≡ Passed → allInRange ds ≡ false → {r : Refusal} → r ≡ BadKnot (firstBad ds) → Failed r ≡ first (depthUses tb n db ds)
+  depths-knot k a q = goes-on (depthUses tb n db ds) e k (simp a (ap Failed q))
+
+  module _ (k : l ≡ Passed) (a : allInRange ds ≡ true) {x y : ℕ} (p : x ≡ segmentsOf tb n) (q : y ≡ segmentsOf db (length ds)) where
+    pub depths-pass : x ≡ y → Passed ≡ first (depthUses tb n db ds)
+    depths-pass s =
+        let t : eqb (segmentsOf tb n) (segmentsOf db (length ds)) ≡ true = eq-eqb _ _ (sym p ∙ s ∙ q) in
+        goes-on (depthUses tb n db ds) e k (simp (a, t))
+
+    pub depths-differ : (x ≡ y → ⊥) → Failed UnequalSegments ≡ first (depthUses tb n db ds)
+    depths-differ s =
+        let t : eqb (segmentsOf tb n) (segmentsOf db (length ds)) ≡ false = ne-eqb _ _ (λ h. s (p ∙ h ∙ sym q)) in
+        goes-on (depthUses tb n db ds) e k (simp (a, t))
+
+-- ---- the counts
+pub short-count : (b : Basis) (n : ℕ) → n < 4 → segmentsOf b 4 ≡ segmentsOf b n
+short-count b n h = let q : 0 ≡ n - 4 = omega arith in ap (λ (m : ℕ). m / stepOf b + 1) q
+
+few-bits : (k : ℕ) → bitsOf k ≤ 64
+unfolding bitsOf
+few-bits k = omega arith
+
+bound-small : (k limit : ℕ) → boundOf k limit ≤ limit + 132
+bound-small k limit = go (leb k 12)
+  where
+    go : (t : Bool) → cond t (limit + 24) (limit + 2 * bitsOf k + 4) ≤ limit + 132
+    go true = omega arith
+    go false = omega (arith, few-bits k)
+
+pub room : (b : Basis) (y : Float) (ks : List Float) (limit : ℕ) (ε : Float) {a : Inverted} → limit < 65536 → a ≡ inverseOf b y ks true limit ε →
+    countTold a < 4294967295
+room b y ks limit ε {a} l e =
+    omega (arith, ap countTold e, inverse-bounded Knots AsCrate b y ks true limit ε, bound-small (segmentsOf b (length ks)) limit)
+
+-- ---- the answer
+pub answered : (tb db : Basis) (ts ds : List Float) (y : Float) (limit : ℕ) (ε : Float) {a : Inverted} {v w : Verdict} {r : Sounded} → a ≡ inverseOf
+    tb y ts true limit ε → v ≡ first (depthUses tb (length ts) db ds) → v ≡ w
+    → r ≡ sounded w a (λ x. splineOf db x ds) → r ≡ depthOf tb ts db ds y limit ε
+unfolding depthOf
+answered tb db ts ds y limit ε {a} {v} {w} e f g h =
+    h
+    ∙ ap (λ (u : Verdict). sounded u a (λ x. splineOf db x ds)) (sym g ∙ f)
+    ∙ ap (λ (u : Inverted). sounded (first (depthUses tb (length ts) db ds)) u (λ x. splineOf db x ds)) e

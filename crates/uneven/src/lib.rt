@@ -1,0 +1,119 @@
+// A curve over uneven times: a table of times is inverted, and a table of depths evaluated there. Rust: the example of src/lib.rs.
+ghost use mathlib.Core.Path.{_≡_};
+ghost use Prim.Native.Nat.{_<_};
+ghost use lib.ListN.{length};
+ghost use Rattle.error.specs.Refusals.{first};
+ghost use Rattle.basis.specs.Basis.{segmentsOf};
+ghost use Rattle.spline.specs.Evaluation.{splineOf};
+ghost use Rattle.invert.specs.Answer.{countTold};
+ghost use Rattle.uneven.specs.Uneven.{depthUses, depthAt, suited, unsuited, depthOf};
+use basis::Basis;
+use error::Refusal;
+use error::Verdict;
+use invert::Inverted;
+use invert::Place;
+use spline::Evaluated;
+
+// The table that a refusal is of.
+pub enum Named {
+    Times,
+    Depths,
+}
+
+// The depth, the record of the inversion, and the evaluations of both tables.
+pub struct Depth {
+    pub depth: f64,
+    pub place: Place,
+    pub count: u32,
+}
+
+// Refused by a row of a table, the target not on the curve of the times after so many evaluations, or a depth.
+pub enum Sounded {
+    Refused(Named, Refusal),
+    OffCurve(usize),
+    At(Depth),
+}
+
+// So many segments as n knots make; as 4 do where there are fewer.
+fn segments_of(b: Basis, n: usize) -> usize
+    ensures { λ r. ⌜ r ≡ segmentsOf b n ⌝ }
+{
+    if n < 4 {
+        return basis::segments(b, 4);
+    }
+    basis::segments(b, n)
+}
+
+// The rows of the depths, for n times.
+fn depths_verdict(tb: Basis, n: usize, db: Basis, depths: &[f64]) -> Verdict
+    ensures { λ r. ⌜ r ≡ first (depthUses tb n db (now (depths .entry))) ⌝ }
+{
+    let l = spline::rows::curve_length(db, depths.len());
+    let Verdict::Passed = l else {
+        return l;
+    };
+    if spline::rows::all_in_range(depths) {
+        if segments_of(tb, n) == segments_of(db, depths.len()) {
+            return Verdict::Passed;
+        }
+        return Verdict::Failed(Refusal::UnequalSegments);
+    }
+    Verdict::Failed(spline::rows::bad_knot(depths))
+}
+
+fn depth_told(p: Place, e: Evaluated) -> Sounded
+    requires { ⌜ p .count < 4294967295 ⌝ }
+    ensures { λ r. ⌜ r ≡ depthAt p e ⌝ }
+{
+    match e {
+        Evaluated::Value(d) => Sounded::At(Depth {
+            depth: d,
+            place: p,
+            count: p.count + 1,
+        }),
+        Evaluated::Refused(r) => Sounded::Refused(Named::Depths, r),
+    }
+}
+
+// Where no row of the depths applies.
+fn suited(a: Inverted, db: Basis, depths: &[f64]) -> Sounded
+    requires { ⌜ countTold a < 4294967295 ⌝ }
+    ensures { λ r. ⌜ r ≡ suited a (λ x. splineOf db x (now (depths .entry))) ⌝ }
+{
+    match a {
+        Inverted::Refused(r) => Sounded::Refused(Named::Times, r),
+        Inverted::OffCurve(n) => Sounded::OffCurve(n),
+        Inverted::At(p) => depth_told(p, spline::spline(db, p.parameter, depths)),
+    }
+}
+
+// Where the depths are refused: a refusal of the times comes before it, 11 does not.
+fn unsuited(a: Inverted, r: Refusal) -> Sounded
+    ensures { λ s. ⌜ s ≡ unsuited a r ⌝ }
+{
+    match a {
+        Inverted::Refused(q) => Sounded::Refused(Named::Times, q),
+        Inverted::OffCurve(_) => Sounded::Refused(Named::Depths, r),
+        Inverted::At(_) => Sounded::Refused(Named::Depths, r),
+    }
+}
+
+// The depth at y of the times, which must not turn back.
+pub fn depth_at(
+    tb: Basis,
+    times: &[f64],
+    db: Basis,
+    depths: &[f64],
+    y: f64,
+    limit: u16,
+    precision: f64,
+) -> Sounded
+    ensures { λ r. ⌜ r ≡ depthOf tb (now (times .entry)) db (now (depths .entry)) y limit precision ⌝ }
+{
+    let a = inverse::spline_inverse_with(tb, y, times, true, limit, precision);
+    let v = depths_verdict(tb, times.len(), db, depths);
+    match v {
+        Verdict::Failed(r) => unsuited(a, r),
+        Verdict::Passed => suited(a, db, depths),
+    }
+}
