@@ -40,9 +40,9 @@ fn up_to_64(n: u64) -> usize
     if n < 64 { n as usize } else { 64 }
 }
 
-// The number told is the one stored.
+// The reply is the one stored: 0, or the refusal's number with its place.
 fn told(reply: u32, stored: u64) -> bool {
-    (reply % 256) as u64 == stored
+    reply as u64 == stored
 }
 
 // v and s: basis, parameter, reply, value.
@@ -110,6 +110,40 @@ fn inversion_equal(letter: u8, w: [u64; 64], knots: &[f64]) -> bool {
     place_equal(reply, place, whole, w)
 }
 
+// m and n: the same, then the number of the end rule and of the method.
+fn inversion_by_equal(letter: u8, w: [u64; 64], knots: &[f64]) -> bool {
+    let mut place = [0.0; 4];
+    let mut whole: [usize; 3] = [0; 3];
+    let y = text::of_bits(w[1]);
+    let precision = text::of_bits(w[4]);
+    let reply = if letter == b'm' {
+        simmerstoat::options::simmerstoat_spline_inverse_by(
+            byte(w[0]),
+            y,
+            knots,
+            w[2] == 1,
+            short(w[3]),
+            precision,
+            byte(w[13]),
+            byte(w[14]),
+            &mut place,
+            &mut whole,
+        )
+    } else {
+        simmerstoat::options::simmerstoat_spline_inverse_segment_by(
+            byte(w[0]),
+            y,
+            knots,
+            short(w[3]),
+            precision,
+            byte(w[14]),
+            &mut place,
+            &mut whole,
+        )
+    };
+    place_equal(reply, place, whole, w)
+}
+
 // The first n doubles are those of the words.
 fn same(n: usize, out: &[f64], w: &[u64]) -> bool {
     let mut good = n <= w.len();
@@ -157,6 +191,7 @@ fn is_equal(letter: u8, w: [u64; 64], knots: &[f64]) -> bool {
     match letter {
         b'v' | b's' => value_equal(letter, w, knots),
         b'i' | b'j' => inversion_equal(letter, w, knots),
+        b'm' | b'n' => inversion_by_equal(letter, w, knots),
         b'c' => curve_conversion_equal(w, knots),
         b'd' => segment_conversion_equal(w, knots),
         _ => false,
