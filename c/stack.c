@@ -1,6 +1,6 @@
 /* How deep each call goes: it runs on a painted stack of its own, and the lowest byte that lost its paint is told.
  * What the switch of stacks itself takes is measured with an empty call and taken off. Exits with 1 where a call goes
- * deeper than c/simmerstoat.h says. */
+ * deeper than it should; c/simmerstoat.h says how deep it goes. */
 #include "simmerstoat.h"
 
 #include <stdio.h>
