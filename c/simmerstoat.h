@@ -18,10 +18,10 @@
  *     the count of SIMMERSTOAT_OFF_CURVE.
  *
  * What the archive is
- *   - One object for x86-64 Linux. It has no data, no state and no heap, and leaves one symbol undefined: memcpy. So every
- *     call is re-entrant, and may run in any thread or signal handler.
+ *   - One object for x86-64 Linux. Beside code it has constants alone: no state, no heap, and no symbol undefined, so that
+ *     it calls nothing of anybody's. So every call is re-entrant, and may run in any thread or signal handler.
  *   - Stack: at most 96 bytes for an evaluation, 592 for an inversion, 440 for a conversion, 656 for a strict one
- *     (c/stack.c measures them; a first call of memcpy through lazy binding takes the dynamic linker's some 3 KB besides).
+ *     (c/stack.c measures them).
  *   - An inversion makes at most limit + 24 evaluations on up to 12 segments and at most limit + 2 b + 4 above, where b
  *     is the number of binary digits of the segment count: 12 at most. In SIMMERSTOAT_ENDS_CURVE there are 2 more.
  */
