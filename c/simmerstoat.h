@@ -186,6 +186,28 @@ enum { SIMMERSTOAT_BOTH = 3 };
 uint32_t simmerstoat_depth_at(uint8_t times_basis, const double *times, size_t n, uint8_t depths_basis,
                               const double *depths, size_t m, double y, uint16_t limit, double precision, double *depth,
                               double place[4], size_t whole[4]);
+/* ---- tables with a span: whole seconds from dusk, 1 to 86,400, and 0 for none. Each call refuses a missing or bad span
+ * with SIMMERSTOAT_BAD_SPAN, after 3 and before all else; with a good one it is the call without a span. */
+
+/* The fourth whole number that an inversion of such a table writes. */
+enum { SIMMERSTOAT_SECOND = 3 }; /* the largest whole second not above parameter * span, from 0 to the span */
+
+/* The value of the curve at x. Refusals: 255, 1, 2, 3, 14, 5, 4. */
+uint32_t simmerstoat_table_spline(uint8_t basis, uint32_t span, double x, const double *knots, size_t n, double *value);
+
+/* Where the curve is at y: limit 32, precision 1e-10. Refusals: 255, 1, 2, 3, 14, 5, 4, 10, 11. */
+uint32_t simmerstoat_table_spline_inverse(uint8_t basis, uint32_t span, double y, const double *knots, size_t n,
+                                          bool check, double place[4], size_t whole[4]);
+
+/* The same with every option. Refusals: 255, 1, 2, 3, 14, 5, 6, 7, 4, 10, 11. */
+uint32_t simmerstoat_table_spline_inverse_by(uint8_t basis, uint32_t span, double y, const double *knots, size_t n,
+                                             bool check, uint16_t limit, double precision, uint8_t ends, uint8_t method,
+                                             double place[4], size_t whole[4]);
+
+/* The knots in another basis, as simmerstoat_convert_spline. The new table has the same span, which is written to handed.
+ * Refusals: 255, 1, 2, 3, 14, 8, 9, 4. */
+uint32_t simmerstoat_table_convert_spline(uint8_t from, uint32_t span, uint8_t to, const double *knots, size_t n,
+                                          double *out, size_t room, uint32_t *handed, size_t *written);
 
 /* ---- what follows is written in C over the calls above, and proved of nothing */
 

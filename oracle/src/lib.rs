@@ -8,6 +8,7 @@ pub mod parts;
 pub mod port;
 pub mod promised;
 pub mod strict;
+pub mod table;
 pub mod tally;
 pub mod uneven;
 pub mod wrapped;

@@ -31,6 +31,9 @@ calls! {
     ConvertSegment "convert_segment",
     ConvertSplineStrict "convert_spline_strict",
     DepthAt "depth_at",
+    TableSpline "table_spline",
+    TableSplineInverse "table_spline_inverse",
+    TableConvertSpline "table_convert_spline",
 }
 
 impl Call {

@@ -57,6 +57,7 @@ mod options;
 pub mod raw;
 pub mod uneven;
 pub mod strict;
+pub mod table;
 pub mod valve;
 
 pub use answer::{Ground, Place, Refusal};

@@ -121,4 +121,51 @@ extern "C" {
         place: *mut [f64; 4],
         whole: *mut [usize; 4],
     ) -> u32;
+
+    pub fn simmerstoat_table_spline(
+        basis: u8,
+        span: u32,
+        x: f64,
+        knots: *const f64,
+        n: usize,
+        value: *mut f64,
+    ) -> u32;
+
+    pub fn simmerstoat_table_spline_inverse(
+        basis: u8,
+        span: u32,
+        y: f64,
+        knots: *const f64,
+        n: usize,
+        check: bool,
+        place: *mut [f64; 4],
+        whole: *mut [usize; 4],
+    ) -> u32;
+
+    pub fn simmerstoat_table_spline_inverse_by(
+        basis: u8,
+        span: u32,
+        y: f64,
+        knots: *const f64,
+        n: usize,
+        check: bool,
+        limit: u16,
+        precision: f64,
+        ends: u8,
+        method: u8,
+        place: *mut [f64; 4],
+        whole: *mut [usize; 4],
+    ) -> u32;
+
+    pub fn simmerstoat_table_convert_spline(
+        from: u8,
+        span: u32,
+        to: u8,
+        knots: *const f64,
+        n: usize,
+        out: *mut f64,
+        room: usize,
+        handed: *mut u32,
+        written: *mut usize,
+    ) -> u32;
 }

@@ -19,3 +19,4 @@ pub mod Premise
 pub mod Eleven
 pub mod Telling
 pub mod Uneven
+pub mod Spans

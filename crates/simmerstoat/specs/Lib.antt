@@ -1,3 +1,4 @@
 pub mod Replies
 pub mod Options
 pub mod Uneven
+pub mod Tables

@@ -32,6 +32,7 @@ use spline::Evaluated;
 pub mod hours;
 pub mod options;
 pub mod seams;
+pub mod spans;
 
 pub enum Chosen {
     Known(Basis),

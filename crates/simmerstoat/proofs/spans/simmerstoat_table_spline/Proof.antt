@@ -1,0 +1,49 @@
+use mathlib.Core.Path.{ap, _∙_}
+use Rattle.table.specs.Calls.{tableSplineOf}
+use Rattle.simmerstoat.specs.Tables.{tableOf}
+use Rattle.simmerstoat.specs.Replies.{noBasis, valueLeft, evaluatedReply}
+use Rattle.simmerstoat.proofs.Found.{found}
+use borrow.Author.Needs.{needs}
+use Rattle.simmerstoat.proofs.spans.simmerstoat_table_spline.Statement.{statement}
+use Rattle.simmerstoat.proofs.spans.simmerstoat_table_spline.Tie as tie
+
+basis-of-requires : tie.Need-basis-of-requires
+basis-of-requires c κs = search needs
+
+enum-known-c : tie.Need-enum-known-c
+enum-known-c c = search needs
+
+enum-told : tie.Need-enum-told
+enum-told c = search needs
+
+returns : tie.Need-returns
+returns c = search needs
+
+table-spline-requires : tie.Need-table-spline-requires
+table-spline-requires c κs = search needs
+
+value-told-requires : tie.Need-value-told-requires
+value-told-requires c κs = search needs
+
+returns-2 : tie.Need-returns-2
+returns-2 c =
+    let args = c .before .before .before .before .before .before .before .before .args in
+    let asked = c .before .before .before .before .before .before .basis-of .ensures in
+    let known = c .before .before .before .before .c .given .1 in
+    let old = args .value .now in
+    let call = c .before .before .table-spline .ensures in (
+      found noBasis (λ b. evaluatedReply (tableSplineOf (tableOf (args .span) b) (args .x) (args .knots .now))) asked known (c .value-told .ensures .0 ∙ ap evaluatedReply call),
+      found old (λ b. valueLeft (tableSplineOf (tableOf (args .span) b) (args .x) (args .knots .now)) old) asked known (c .value-told .ensures .1 ∙ ap (λ e. valueLeft e old) call),
+    )
+
+pub simmerstoat-table-spline-spec : {M : Type 1} → statement M
+simmerstoat-table-spline-spec =
+    tie.close
+    (tie.spec
+    basis-of-requires
+    enum-known-c
+    enum-told
+    returns
+    table-spline-requires
+    value-told-requires
+    returns-2)
