@@ -96,20 +96,25 @@ fn counted(cases: &[Case], method: Method) -> String {
     format!("{mean:.1} / {nearly} / {most}, {:.1} %", 100.0 * misses as f64 / cases.len() as f64)
 }
 
-/// The times of the taught weighting and of the steady rule over the crate's rule: least of many turns.
+/// The times of the taught weighting and of the steady rule over the crate's rule. Few cases at a time, each method in
+/// its turn, and the least of many turns counts.
 fn timed(cases: &[Case]) -> [f64; 2] {
-    let mut least = [Duration::MAX; 3];
-    for _ in 0..20 {
-        for (method, least) in METHODS.into_iter().zip(&mut least) {
-            let o = options(method);
-            let begun = Instant::now();
-            for c in cases {
-                black_box(port::spline_inverse_segment_by(c.b as u8, c.y, &c.cv, &o));
+    let mut sums = [0.0; 3];
+    for few in cases.chunks(200).step_by(4) {
+        let mut least = [Duration::MAX; 3];
+        for _ in 0..30 {
+            for (method, least) in METHODS.into_iter().zip(&mut least) {
+                let o = options(method);
+                let begun = Instant::now();
+                for c in few {
+                    black_box(port::spline_inverse_segment_by(c.b as u8, c.y, &c.cv, &o));
+                }
+                *least = (*least).min(begun.elapsed());
             }
-            *least = (*least).min(begun.elapsed());
         }
+        (0..3).for_each(|i| sums[i] += least[i].as_secs_f64());
     }
-    [1, 2].map(|i| least[i].as_secs_f64() / least[0].as_secs_f64())
+    [1, 2].map(|i| sums[i] / sums[0])
 }
 
 /// A rising curve's inversions, end rule apart: the mean of evaluations by each method, the search's among them.
