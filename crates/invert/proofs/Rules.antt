@@ -1,4 +1,4 @@
--- The law of a rule: the weighed bracket has the state's places, and the place chosen lies between them. Document 01's rule keeps it, with any weighting
+-- The law of a rule: the weighed bracket has the state's places, and the place chosen lies between them. The crate's rule keeps it, with any weighting
 -- that keeps the places. Assumes nothing.
 use mathlib.Core.Path.{_≡_, refl, sym, subst₂}
 use mathlib.Core.Bool.{Bool, true, false, cond, _&&_}
@@ -52,7 +52,7 @@ module _ (W : Weighting) (keeps : Keeps W) (y : Float) (regula : Bool) (st : Sta
   unfolding weighed
   weighed-upper = branch (λ (b : Bracket). b .upper ≡ st .bracket .upper) (regula && ltb 0 (st .repeats)) (λ _. keeps .keeps-upper y (eqb (st .side) 1) (st .bracket)) (λ _. refl)
 
--- ---- document 01's rule
+-- ---- the crate's rule
 record Part (t : Float) : Type 0 where
   sign : T (clear t)
   under : T (lt t ninetyNineHundredths)

@@ -83,7 +83,7 @@ chord W limit i y st =
     let b = weighed W y regula st in
     record { bracket = b; place = lerpOf (b .lower) (b .upper) (fraction y regula b) }
 
--- by the weighting that halves: document 01's rule
+-- by the weighting that halves: the crate's rule
 abbrev pub asCrate : Rule
 asCrate = chord halving
 
