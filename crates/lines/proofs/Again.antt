@@ -4,8 +4,8 @@ use mathlib.Core.Bool.{Bool, true, false, cond}
 use mathlib.Core.List.{List, [], _∷_, _++_, append-assoc, append-nil}
 use Prim.Native.Nat.{ℕ, zero, suc, _+_, _/_, _%_, _≤_, _<_, _^_}
 use native.Mathlib.Omega.{arith}
-use borrow.Author.Tests.{le-leb, leb-true, leb-false, ne-eqb, eqb-false}
-use lib.Dec.{T, leb, ltb, eqb}
+use borrow.Author.Tests.{le-leb, leb-true, leb-false, ne-eqb}
+use lib.Dec.{T, leb, ltb}
 use lib.ListN.{length, length-append}
 use lib.Ieee.{Float, fits, toBits, binary64}
 use Rattle.answer.specs.Answer.{places, Curve, on, bare, afterOf}
@@ -24,14 +24,12 @@ use Rattle.table.specs.Second.{day, goodSpan, spansOf}
 use Rattle.text.specs.Text.{bytes, same, LF, TAB, onto, fieldsOf, tabOf, glyphOf, hexText, decText, doubleText}
 use Rattle.text.proofs.Fields.{fields-one}
 use Rattle.text.proofs.ReadBack.{length-hex, hex-out-in}
-use Rattle.lines.specs.Program.{linesOf, widest, saysOf}
-use Rattle.lines.proofs.Replies.{curveAfter, Free, line-ended}
+use Rattle.machine.specs.Program.{linesOf, widest}
+use Rattle.machine.proofs.Breaking.{Free, free-append, freeb, free-of, broken}
+use Rattle.lines.specs.Lines.{says}
+use Rattle.lines.proofs.Replies.{saysOf, curveAfter}
 
 -- ---- texts without a byte
-free-append : (b : ℕ) (s t : List ℕ) → Free b s → Free b t → Free b (s ++ t)
-free-append b [] t p q = q
-free-append b (a ∷ s) t p q = (p .0, free-append b s t (p .1) q)
-
 glyph-high : (d : ℕ) → 48 ≤ glyphOf d
 glyph-high d = go (ltb d 10) refl
   where
@@ -67,7 +65,7 @@ abbrev knotLine : Float → List ℕ
 knotLine x = bytes "knot\t" ++ doubleText x
 
 says-knot : (x : Float) → T (fits binary64 x) → saysOf (knotLine x) ≡ Knot x
-unfolding saysOf recordOf fieldsOf onto ofFields wordOf same meaningOf
+unfolding says recordOf fieldsOf onto ofFields wordOf same meaningOf
 says-knot x h =
     let n : length (doubleText x) ≡ 16 = length-hex 16 (toBits binary64 x) in
     let short : length (bytes "knot\t" ++ doubleText x) ≤ widest = omega arith in
@@ -79,7 +77,7 @@ abbrev spanLine : ℕ → List ℕ
 spanLine s = bytes "span\t" ++ decText 9 s
 
 says-span : (s : ℕ) → s ≤ day → saysOf (spanLine s) ≡ Span s
-unfolding saysOf recordOf fieldsOf onto ofFields wordOf same meaningOf
+unfolding says recordOf fieldsOf onto ofFields wordOf same meaningOf
 says-span s h =
     let small : s < 10 ^ 5 = omega arith in
     let few : length (decText 9 s) ≤ 5 = dec-length 9 4 s small in
@@ -88,7 +86,7 @@ says-span s h =
     rw (le-leb (length (bytes "span\t" ++ decText 9 s)) widest short, one, number-back 9 4 s (omega arith) small) refl
 
 says-curve : (b : Basis) → saysOf (bytes "curve\t" ++ nameOf b) ≡ CurveOf b
-unfolding saysOf recordOf fieldsOf onto ofFields wordOf same meaningOf namedOf
+unfolding says recordOf fieldsOf onto ofFields wordOf same meaningOf namedOf
 says-curve Bspline = refl
 says-curve Bezier = refl
 says-curve CatmullRom = refl
@@ -97,19 +95,6 @@ says-curve Linear = refl
 says-curve Power = refl
 
 -- ---- the lines of a told curve
-freeb : ℕ → List ℕ → Bool
-freeb b [] = true
-freeb b (a ∷ s) = cond (eqb a b) false (freeb b s)
-
-free-of : (b : ℕ) (s : List ℕ) → T (freeb b s) → Free b s
-unfolding freeb
-free-of b [] h = tt
-free-of b (a ∷ s) h = go (eqb a b) refl h (free-of b s)
-  where
-    go : (t : Bool) → eqb a b ≡ t → T (cond t false (freeb b s)) → (T (freeb b s) → Free b s) → (a ≡ b → ⊥) × Free b s
-    go true e h ih = absurd h
-    go false e h ih = (eqb-false a b e, ih h)
-
 curve-plain : (b : Basis) → Free LF (bytes "curve\t" ++ nameOf b)
 unfolding freeb
 curve-plain Bspline = free-of LF (bytes "curve\t" ++ nameOf Bspline) tt
@@ -131,10 +116,6 @@ span-plain s = free-append LF (bytes "span\t") (decText 9 s) (free-of LF (bytes 
 abbrev pub Fit : List Float → Type 0
 Fit [] = Unit
 Fit (x ∷ l) = T (fits binary64 x) × Fit l
-
--- a line, its LF, and what comes after
-broken : (l x : List ℕ) → Free LF l → linesOf ((l ++ (LF ∷ [])) ++ x) ≡ l ∷ linesOf x
-broken l x p = ap linesOf (append-assoc l (LF ∷ []) x) ∙ line-ended l x p
 
 knots-again : (t : Table) (m : EndsBy) (l ks : List Float) → Fit l → length ks + length l ≤ places
     → curveAfter (on t m ks) (linesOf (knotsText l)) ≡ on t m (ks ++ l)

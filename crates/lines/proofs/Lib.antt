@@ -1,4 +1,3 @@
-pub mod Whole
+pub mod Saying
 pub mod Replies
 pub mod Again
-pub mod Steps

@@ -1,16 +1,41 @@
--- Each line gets one reply, in order; lines come out of the input as they were written into it. Assumes nothing.
+-- Each line gets one reply, in order; what an input prints are their texts. Assumes nothing.
 use mathlib.Core.Path.{_≡_, refl, ap}
 use mathlib.Core.List.{List, [], _∷_, _++_}
 use Prim.Native.Nat.{ℕ, suc, _<_}
-use borrow.Author.Tests.{lt-leb, ne-eqb}
+use borrow.Author.Tests.{lt-leb}
 use lib.ListN.{length}
 use Rattle.answer.specs.Answer.{Curve, replyTo, afterOf}
 use Rattle.answer.proofs.Records.{refused-changes-nothing}
 use Rattle.error.specs.declared.Refusal.{Refusal}
+use Rattle.record.specs.declared.Record.{Record}
 use Rattle.record.specs.declared.Record.the-variants.{Bad}
-use Rattle.reply.specs.Reply.{refused}
-use Rattle.text.specs.Text.{LF, onto}
-use Rattle.lines.specs.Program.{linesOf, widest, saysOf, repliesOf}
+use Rattle.reply.specs.Reply.{Reply, refused, textOf}
+use Rattle.machine.specs.Program.{linesOf, widest, lineOf, printsOf, outputOf}
+use Rattle.lines.specs.Lines.{says, lineProgram}
+
+-- what a line of any length says
+abbrev pub saysOf : List ℕ → Record
+saysOf l = says (lineOf l)
+
+-- the replies to the lines, in order, c being the curve before them
+unfoldable pub repliesOf : Curve → List (List ℕ) → List Reply
+repliesOf c [] = []
+repliesOf c (l ∷ ls) = replyTo c (saysOf l) ∷ repliesOf (afterOf c (saysOf l)) ls
+
+-- their texts, one after another
+unfoldable pub textsOf : List Reply → List ℕ
+textsOf [] = []
+textsOf (r ∷ rs) = textOf r ++ textsOf rs
+
+prints-replies : (c : Curve) (ls : List (List ℕ)) → printsOf lineProgram c ls ≡ textsOf (repliesOf c ls)
+unfolding printsOf repliesOf textsOf
+prints-replies c [] = refl
+prints-replies c (l ∷ ls) = ap (λ (t : List ℕ). textOf (replyTo c (saysOf l)) ++ t) (prints-replies (afterOf c (saysOf l)) ls)
+
+-- what an input prints are the texts of the replies to its lines
+pub output-replies : (c : Curve) (x : List ℕ) → outputOf lineProgram c x ≡ textsOf (repliesOf c (linesOf x))
+unfolding outputOf
+output-replies c x = prints-replies c (linesOf x)
 
 -- one reply to each line
 pub one-reply-each : (c : Curve) (ls : List (List ℕ)) → length (repliesOf c ls) ≡ length ls
@@ -37,22 +62,5 @@ refused-line c l ls e h = rw (h, refused-changes-nothing c (saysOf l) e h) refl
 
 -- a line of more than 64 bytes is no record
 pub overlong : (l : List ℕ) → widest < length l → saysOf l ≡ Bad
-unfolding saysOf
+unfolding says
 overlong l h = rw (lt-leb (length l) widest h) refl
-
--- ---- bytes and lines
--- no byte of a text is b
-abbrev pub Free : ℕ → List ℕ → Type 0
-Free b [] = Unit
-Free b (a ∷ l) = (a ≡ b → ⊥) × Free b l
-
-pub line-ended : (l x : List ℕ) → Free LF l → linesOf (l ++ (LF ∷ x)) ≡ l ∷ linesOf x
-unfolding linesOf onto
-line-ended [] x p = refl
-line-ended (b ∷ l) x p = rw (ne-eqb b LF (p .0), line-ended l x (p .1)) refl
-
--- the last line may lack its LF
-pub line-last : (b : ℕ) (l : List ℕ) → Free LF (b ∷ l) → linesOf (b ∷ l) ≡ (b ∷ l) ∷ []
-unfolding linesOf onto
-line-last b [] p = rw (ne-eqb b LF (p .0)) refl
-line-last b (a ∷ l) p = rw (ne-eqb b LF (p .0), line-last a l (p .1)) refl

@@ -1,4 +1,4 @@
 // The line program on every kind of bad line.
 fn main() {
-    run_lines::run();
+    run_programs::run(programs::line_program());
 }

@@ -1,4 +1,4 @@
 // The line program on a listing whose last line lacks its LF.
 fn main() {
-    run_lines::run();
+    run_programs::run(programs::line_program());
 }

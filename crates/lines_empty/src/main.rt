@@ -1,4 +1,4 @@
 // The line program on an empty input.
 fn main() {
-    run_lines::run();
+    run_programs::run(programs::line_program());
 }

@@ -20,3 +20,6 @@ pub mod Eleven
 pub mod Telling
 pub mod Uneven
 pub mod Spans
+pub mod Programs
+pub mod Telling
+pub mod Sheets

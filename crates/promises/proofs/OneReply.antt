@@ -1,10 +1,6 @@
 -- No second reply fits: of each call, two replies that its contract allows on the same arguments are one, and so is what they leave in lent memory. Assumes nothing.
-use mathlib.Core.Path.{_≡_, sym, ap, subst, _∙_}
-use mathlib.Core.List.{List, _++_}
-use Prim.Native.Nat.{ℕ}
+use mathlib.Core.Path.{_≡_, sym, _∙_}
 use denote.Ref.{now}
-use lib.ListN.{take, drop, take-append-drop}
-use lib.Ieee.{Float}
 use Rattle.error.proofs.number.Reads as number
 use Rattle.error.proofs.place.Reads as place
 use Rattle.error.proofs.reply.Reads as reply
@@ -19,13 +15,6 @@ use Rattle.inverse.proofs.spline_inverse_with.Reads as spline_inverse_with
 use Rattle.inverse.proofs.spline_inverse.Reads as spline_inverse
 use Rattle.convert.proofs.convert_segment.Reads as convert_segment
 use Rattle.convert.proofs.convert_spline.Reads as convert_spline
-use Rattle.text.specs.Wrote.{Wrote}
-use Rattle.lines.specs.Steps.{ranOf, toldOf}
-use Rattle.lines.specs.Held.{stateOf}
-use Rattle.lines.proofs.new.Reads as new
-use Rattle.lines.proofs.step.Reads as step
-use Rattle.lines.proofs.finish.Reads as finish
-use Rattle.lines.proofs.feed.Reads as feed
 use Rattle.simmerstoat.proofs.simmerstoat_is_len_ok.Reads as c_is_len_ok
 use Rattle.simmerstoat.proofs.simmerstoat_spline.Reads as c_spline
 use Rattle.simmerstoat.proofs.simmerstoat_spline_segment.Reads as c_spline_segment
@@ -111,37 +100,3 @@ c-convert-segment-one-reply κs a z z′ e e′ p q = (one (p .0) (q .0), one (p
 
 pub c-convert-spline-one-reply : OneReply c_convert_spline.Learnt (λ κs z e z′ e′. (z ≡ z′) × (now (e .1 .1 .1 .1 .0) ≡ now (e′ .1 .1 .1 .1 .0)) × (now (e .1 .1 .1 .0) ≡ now (e′ .1 .1 .1 .0)))
 c-convert-spline-one-reply κs a z z′ e e′ p q = (one (p .0) (q .0), one (p .1 .0) (q .1 .0), one (p .1 .1) (q .1 .1))
-
--- ---- the line program's steps: the bytes written and the place behind them, and the state, whatever stands in unused places of the line and the table
-wrote-one : {o t o′ o″ : List ℕ} {at r r′ : ℕ} → Wrote o at t o′ r → Wrote o at t o″ r′ → (r ≡ r′) × (o′ ≡ o″)
-wrote-one {o} {t} {o′} {o″} {at} {r} {r′} u v =
-    let n : r ≡ r′ = one (u .next) (v .next) in
-    let f : take r o′ ≡ take r o″ = one (u .front) (ap (λ (i : ℕ). take i o″) n ∙ v .front) in
-    let b : drop r o′ ≡ drop r o″ = one (u .back) (ap (λ (i : ℕ). drop i o″) n ∙ v .back ∙ ap (λ (i : ℕ). drop i o) (sym n)) in
-    (n, sym (take-append-drop r o′) ∙ ap (λ (l : List ℕ). l ++ drop r o′) f ∙ ap (λ (l : List ℕ). take r o″ ++ l) b ∙ take-append-drop r o″)
-
-pub new-one-reply : OneReply new.Learnt (λ κs z e z′ e′. (line : List ℕ) (table : List Float) → stateOf z line table ≡ stateOf z′ line table)
-new-one-reply κs a z z′ e e′ p q line table = one (p .begun line table) (q .begun line table)
-
-pub step-one-reply : OneReply step.Learnt
-    (λ κs z e z′ e′.
-    (z .at ≡ z′ .at)
-    × (now (e .1 .1 .1 .1 .1 .0) ≡ now (e′ .1 .1 .1 .1 .1 .0))
-    × (stateOf (z .st) (now (e .1 .1 .0)) (now (e .1 .1 .1 .0)) ≡ stateOf (z′ .st) (now (e′ .1 .1 .0)) (now (e′ .1 .1 .1 .0))))
-step-one-reply κs a z z′ e e′ p q = let w = wrote-one (p .0 .wrote) (q .0 .wrote) in (w .0, w .1, one (p .0 .state) (q .0 .state))
-
-pub finish-one-reply : OneReply finish.Learnt (λ κs z e z′ e′. (z ≡ z′) × (now (e .1 .1 .1 .1 .0) ≡ now (e′ .1 .1 .1 .1 .0)))
-finish-one-reply κs a z z′ e e′ p q = wrote-one (p .0) (q .0)
-
--- where two runs take as many bytes of the chunk; how many that are is left to the room in `out`
-pub feed-one-reply : OneReply feed.Learnt
-    (λ κs z e z′ e′.
-    z .next ≡ z′ .next
-    → (z .at ≡ z′ .at)
-    × (now (e .1 .1 .1 .1 .1 .0) ≡ now (e′ .1 .1 .1 .1 .1 .0))
-    × (stateOf (z .st) (now (e .1 .1 .0)) (now (e .1 .1 .1 .0)) ≡ stateOf (z′ .st) (now (e′ .1 .1 .0)) (now (e′ .1 .1 .1 .0))))
-feed-one-reply κs a z z′ e e′ p q n =
-    let s = stateOf (a .0) (now (a .1 .1 .0)) (now (a .1 .1 .1 .0)) in
-    let told : ℕ → List ℕ = λ i. toldOf s (take i (now (a .1 .0))) in
-    let w = wrote-one (p .0 .wrote) (subst (λ (t : List ℕ). Wrote (now (a .1 .1 .1 .1 .1 .0)) 0 t (now (e′ .1 .1 .1 .1 .1 .0)) (z′ .at)) (sym (ap told n)) (q .0 .wrote)) in
-    (w .0, w .1, one (p .0 .state) (q .0 .state ∙ sym (ap (λ (i : ℕ). ranOf s (take i (now (a .1 .0)))) n)))

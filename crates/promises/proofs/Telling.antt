@@ -20,8 +20,8 @@ use Rattle.answer.specs.Answer.{Curve, none, on, places, curveReply, replyTo, a
 use Rattle.answer.proofs.Records.{endsBefore, SpanHeld, held-after}
 use Rattle.record.specs.declared.Record.the-variants.{Turn}
 use Rattle.reply.specs.Reply.{textOf}
-use Rattle.lines.specs.Program.{linesOf, saysOf}
-use Rattle.lines.proofs.Replies.{curveAfter}
+use Rattle.machine.specs.Program.{linesOf}
+use Rattle.lines.proofs.Replies.{saysOf, curveAfter}
 use Rattle.lines.proofs.Again.{Fit, turn-again}
 
 joined : (l r : List Float) → Fit l → Fit r → Fit (l ++ r)

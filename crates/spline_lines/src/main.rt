@@ -1,4 +1,4 @@
 // The line program: a listing on standard input, its replies on standard output.
 fn main() {
-    run_lines::run();
+    run_programs::run(programs::line_program());
 }

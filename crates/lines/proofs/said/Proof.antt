@@ -1,9 +1,13 @@
+-- What the line says: its record, or none where it is too long.
 use native.Mathlib.Omega.{arith}
 use mathlib.Core.Path.{_∙_}
-use Rattle.lines.proofs.Steps.{said-so, said-over}
+use Rattle.lines.proofs.Saying.{said-so, said-over}
 use borrow.Author.Needs.{needs}
 use Rattle.lines.proofs.said.Statement.{statement}
 use Rattle.lines.proofs.said.Tie as tie
+use Rattle.lines.proofs.said.Reads as reads
+use Rattle.lines.proofs.said.Lts as lts
+use Rattle.record.proofs.record_of.Reads as record-of-reads
 
 sub-record-of : tie.Need-sub-record-of
 sub-record-of c = search needs

@@ -1,0 +1,37 @@
+-- What a line that stands in the lent 64 says, by whether it is too long; and what its answer leaves and prints. Assumes nothing.
+use mathlib.Core.Path.{_≡_, refl, ap, subst, _∙_}
+use mathlib.Core.List.{List}
+use Prim.Native.Nat.{ℕ, _-_, _≤_, _<_}
+use native.Mathlib.Omega.{arith}
+use borrow.Author.Tests.{le-leb, lt-leb}
+use lib.ListN.{take}
+use lib.Ieee.{Float}
+use Rattle.answer.specs.declared.Answered.{Answered}
+use Rattle.answer.specs.Answer.{Curve, replyTo, afterOf}
+use Rattle.answer.specs.Held.{curveOf, Answers}
+use Rattle.record.specs.declared.Record.{Record}
+use Rattle.record.specs.declared.Record.the-variants.{Bad}
+use Rattle.record.specs.Record.{recordOf}
+use Rattle.reply.specs.Reply.{Reply, textOf}
+use Rattle.reply.specs.Told.{replyOf}
+use Rattle.text.specs.Wrote.{Wrote}
+use Rattle.machine.specs.Program.{widest, Line}
+use Rattle.machine.specs.Held.{openOf}
+use Rattle.lines.specs.Lines.{says, lineProgram}
+
+pub said-so : (n : ℕ) (line : List ℕ) → n ≤ widest → recordOf (take (n - 0) line) ≡ says (openOf n line)
+unfolding says
+said-so n line h = let z : n - 0 ≡ n = omega arith in rw (z, le-leb n widest h) refl
+
+pub said-over : (n : ℕ) (line : List ℕ) → widest < n → Bad ≡ says (openOf n line)
+unfolding says
+said-over n line h = rw (lt-leb n widest h) refl
+
+-- ---- its answer
+module _ {c : Curve} {r : Record} {a : Answered} {table turned : List Float} (o : Line) (e : r ≡ says o) (h : Answers c r a table turned) where
+  pub line-state : curveOf (a .held) table ≡ lineProgram .after c o
+  line-state = h .held ∙ ap (afterOf c) e
+
+  pub line-wrote : {out : List ℕ} {at : ℕ} {out′ : List ℕ} {next : ℕ} → Wrote out at (textOf (replyOf (a .told) turned)) out′ next
+      → Wrote out at (lineProgram .tells c o) out′ next
+  line-wrote {out} {at} {out′} {next} w = subst (λ (t : Reply). Wrote out at (textOf t) out′ next) (h .told ∙ ap (replyTo c) e) w

@@ -1,0 +1,141 @@
+// A sheet of decimals: a basis, then a depth a line.
+ghost use mathlib.Core.Path.{_≡_};
+ghost use Prim.Native.Nat.{_+_, _≤_};
+ghost use lib.ListN.{length, take, getD};
+ghost use lib.Dec.{eqb};
+ghost use lib.Ieee.{Float};
+ghost use mathlib.Core.List.{List};
+ghost use Rattle.decimals.specs.Decimals.{MINUS};
+ghost use Rattle.text.specs.Wrote.{Wrote};
+ghost use Rattle.reply.specs.Told.{longest};
+ghost use Rattle.machine.specs.Program.{widest};
+ghost use Rattle.machine.specs.Held.{openOf};
+ghost use Rattle.sheet.specs.Sheet.{most, depthIn, depthLine, named, added, afterOf, endsOf};
+ghost use Rattle.sheet.specs.Held.{sheetOf, countOf};
+ghost use Rattle.record.specs.Record.{namedOf};
+use basis::Basis;
+use error::Refusal;
+use record::Named;
+use reply::Told;
+use table::Table;
+use text::Hexed;
+
+// What a line says of a depth: the sign and the thousandths, or nothing.
+pub enum Depth {
+    Is(bool, u64),
+    Nothing,
+}
+
+// No line yet; a basis and so many depths; or a line at fault.
+pub enum Held {
+    Unbegun,
+    On(Basis, usize),
+    Faulty(Refusal),
+}
+
+fn is_minus(s: &[u8]) -> bool
+    ensures { λ r. ⌜ r ≡ eqb (getD (now (s .entry)) 0 0) MINUS ⌝ }
+{
+    if 0 < s.len() {
+        return s[0] == b'-';
+    }
+    false
+}
+
+fn depth_in(s: &[u8]) -> Depth
+    ensures { λ r. ⌜ r ≡ depthIn (now (s .entry)) ⌝ }
+{
+    if is_minus(s) {
+        let Hexed::Is(n) = decimals::thousandths(&s[1..]) else {
+            return Depth::Nothing;
+        };
+        return Depth::Is(true, n);
+    }
+    let Hexed::Is(n) = decimals::thousandths(s) else {
+        return Depth::Nothing;
+    };
+    Depth::Is(false, n)
+}
+
+fn depth_line(l: &[u8]) -> Depth
+    ensures { λ r. ⌜ r ≡ depthLine (now (l .entry)) ⌝ }
+{
+    let t = text::tab_at(l);
+    if l.len() <= t {
+        return Depth::Nothing;
+    }
+    if t < 1 {
+        return Depth::Nothing;
+    }
+    if 16 < t {
+        return Depth::Nothing;
+    }
+    let from = t + 1;
+    depth_in(&l[from..])
+}
+
+// The first line.
+fn first(l: &[u8]) -> Held
+    ensures { λ r. ⌜ ((t : List Float) → sheetOf r t ≡ named (namedOf (now (l .entry)))) × (countOf r ≤ most) ⌝ }
+{
+    let Named::Is(b) = record::basis_named(l) else {
+        return Held::Faulty(Refusal::BadSheet);
+    };
+    Held::On(b, 0)
+}
+
+// A depth, into the next place, if there is one.
+fn add(b: Basis, n: usize, l: &[u8], table: &mut [f64]) -> Held
+    requires { ⌜ (n ≤ most) × (length (now table) ≡ most) ⌝ }
+    ensures { λ r. ⌜ (sheetOf r (now (table .exit)) ≡ added b (take n (now (table .entry))) (depthLine (now (l .entry)))) × (countOf r ≤ most) ⌝ }
+{
+    let Depth::Is(minus, k) = depth_line(l) else {
+        return Held::Faulty(Refusal::BadSheet);
+    };
+    if n < 4096 {
+        table[n] = depth::depth(minus, k);
+        let next = n + 1;
+        return Held::On(b, next);
+    }
+    Held::Faulty(Refusal::TooMany)
+}
+
+// A line of len bytes, the first ones of the lent 64; 65 for one that is too long.
+pub fn line(h: Held, len: usize, line: &[u8], table: &mut [f64]) -> Held
+    requires { ⌜ (length (now line) ≡ widest) × (countOf h ≤ most) × (length (now table) ≡ most) ⌝ }
+    ensures { λ r. ⌜ (sheetOf r (now (table .exit)) ≡ afterOf (sheetOf h (now (table .entry))) (openOf len (now (line .entry)))) × (countOf r ≤ most) ⌝ }
+{
+    match h {
+        Held::Unbegun => {
+            if len <= 64 {
+                return first(&line[0..len]);
+            }
+            Held::Faulty(Refusal::BadSheet)
+        }
+        Held::On(b, n) => {
+            if len <= 64 {
+                return add(b, n, &line[0..len], table);
+            }
+            Held::Faulty(Refusal::BadSheet)
+        }
+        Held::Faulty(r) => Held::Faulty(r),
+    }
+}
+
+// The end of the sheet: its records, or the refusal alone.
+pub fn end(h: Held, table: &[f64], out: &mut [u8], at: usize) -> usize
+    requires { ⌜ (countOf h ≤ most) × (length (now table) ≡ most) × (at + longest ≤ length (now out)) ⌝ }
+    ensures { λ r. ⌜ Wrote (now (out .entry)) at (endsOf (sheetOf h (now (table .entry)))) (now (out .exit)) r × (r ≤ at + longest) ⌝ }
+{
+    match h {
+        Held::Unbegun => reply::put_reply(Told::Refused(Refusal::BadSheet), table, out, at),
+        Held::On(b, n) => {
+            let bare = Table {
+                basis: b,
+                span: 0,
+            };
+            reply::put_reply(Told::Curve(bare, n), table, out, at)
+        }
+        Held::Faulty(r) => reply::put_reply(Told::Refused(r), table, out, at),
+    }
+}

@@ -1,0 +1,4 @@
+// The reader of sheets.
+fn main() {
+    run_programs::run(programs::sheet_program());
+}
