@@ -130,10 +130,7 @@ pub fn end(h: Held, table: &[f64], out: &mut [u8], at: usize) -> usize
     match h {
         Held::Unbegun => reply::put_reply(Told::Refused(Refusal::BadSheet), table, out, at),
         Held::On(b, n) => {
-            let bare = Table {
-                basis: b,
-                span: 0,
-            };
+            let bare = Table { basis: b, span: 0 };
             reply::put_reply(Told::Curve(bare, n), table, out, at)
         }
         Held::Faulty(r) => reply::put_reply(Told::Refused(r), table, out, at),
