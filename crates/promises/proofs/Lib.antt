@@ -21,5 +21,4 @@ pub mod Telling
 pub mod Uneven
 pub mod Spans
 pub mod Programs
-pub mod Telling
 pub mod Sheets
