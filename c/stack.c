@@ -11,7 +11,7 @@
 enum { SIZE = 1 << 15, PAINT = 0xA5, KNOTS = 4096 };
 
 /* The limits that the header tells, in bytes. */
-enum { EVALUATION = 96, INVERSION = 512, CONVERSION = 432, STRICT = 656 };
+enum { EVALUATION = 96, INVERSION = 592, CONVERSION = 440, STRICT = 656 };
 
 static unsigned char *stack;
 static ucontext_t back, there;

@@ -1,4 +1,5 @@
--- How large a result can get. `Within a x`: x is finite, and at most 2 ^ a in magnitude. Rounding keeps such a bound, of either sign, since 2 ^ a is a value of the format.
+-- How large a result can get. `Within a x`: x is finite, and at most 2 ^ a in magnitude. Rounding keeps such a bound, of either sign, since 2 ^ a is a value of
+-- the format.
 -- So a product is within the sum of the two exponents, and a sum within one more. Assumes nothing.
 use mathlib.Core.Path.{_≡_, sym, ap, _∙_, subst}
 use mathlib.Core.Bool.{Bool, true, false, not, _&&_, cond, Bool·beq}

@@ -1,4 +1,5 @@
--- lower + (upper - lower)·t, each operation rounded, lies between lower and upper, and so is no NaN, for doubles 0 ≤ lower ≤ upper with the sign clear and 0 ≤ t < 0.99.
+-- lower + (upper - lower)·t, each operation rounded, lies between lower and upper, and so is no NaN, for doubles 0 ≤ lower ≤ upper with the sign clear and 0 ≤
+-- t < 0.99.
 -- What callers use of the interpolation is `lerp-inside` alone. Assumes nothing.
 use mathlib.Core.Path.{_≡_, sym, ap, _∙_, subst}
 use mathlib.Core.Logic.{inl, inr}

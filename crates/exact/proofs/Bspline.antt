@@ -1,4 +1,5 @@
--- Why the B-spline is left out, by example: four knots of 1, at place 0. The cubic gives 1; the three sixths, each rounded, come to the double below 1. Assumes nothing.
+-- Why the B-spline is left out, by example: four knots of 1, at place 0. The cubic gives 1; the three sixths, each rounded, come to the double below 1. Assumes
+-- nothing.
 use mathlib.Core.Path.{_≡_, refl, sym, ap, _∙_, subst}
 use mathlib.Core.Bool.{Bool, false}
 use mathlib.Core.List.{List, [], _∷_}

@@ -1,4 +1,5 @@
--- One segment's evaluation rounds nothing where its knots are whole, its matrix has halves and its place is a number of 256ths: each product and each sum is a whole number
+-- One segment's evaluation rounds nothing where its knots are whole, its matrix has halves and its place is a number of 256ths: each product and each sum is a
+-- whole number
 -- of 2^-25ths below 2^53, and so a double. Stated once over matrix and knots. Assumes nothing.
 use mathlib.Core.Path.{_≡_, refl, subst}
 use mathlib.Core.List.{List, []}

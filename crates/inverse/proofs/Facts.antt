@@ -57,7 +57,8 @@ pub record Proper (p : Place) : Type 0 where
   pub order : T (le (p .lower) (p .upper))
 
 module _ (e : Ends) (ev : Evaluations) (g : ℕ → Float → Float) (k : ℕ) (y ε : Float) (limit : ℕ) where
-  -- the segment's values at the two bracket ends enclose the target, as do those at its own ends; the local place lies between the bracket's ends, and the parameter is that of segment and local place
+  -- the segment's values at the two bracket ends enclose the target, as do those at its own ends; the local place lies between the bracket's ends, and the
+  -- parameter is that of segment and local place
   pub record Enclosing (p : Place) : Type 0 where
     pub below : p .segment < k
     pub ends : T (Holds g y k (p .segment))

@@ -1,4 +1,5 @@
--- Beside the crate's way, in which an entered segment's ends are evaluated twice: every answer is the same but for the count, which is lower by two where a segment was entered. For any end rule and any weighting. Assumes nothing.
+-- Beside the crate's way, in which an entered segment's ends are evaluated twice: every answer is the same but for the count, which is lower by two where a
+-- segment was entered. For any end rule and any weighting. Assumes nothing.
 use mathlib.Core.Path.{_≡_, refl, ap, _∙_}
 use mathlib.Core.List.{List}
 use mathlib.Core.Bool.{Bool, true, false, cond}

@@ -1,4 +1,5 @@
--- A lawful rule kept to the pace, on a segment and on a curve: the limit is never told as spent where it is above N, and the count is bounded by N as by a limit. Assumes nothing.
+-- A lawful rule kept to the pace, on a segment and on a curve: the limit is never told as spent where it is above N, and the count is bounded by N as by a
+-- limit. Assumes nothing.
 use mathlib.Core.Path.{_≡_, refl, sym, ap, _∙_, subst}
 use mathlib.Core.Bool.{Bool, true, false, not, cond}
 use Prim.Native.Nat.{ℕ, _+_, _-_, _*_, _^_, _≤_, _<_}

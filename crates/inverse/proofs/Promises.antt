@@ -1,4 +1,5 @@
--- What the inversion of a curve promises on every input, by either rule m of the ends. b, y, ks, check, limit and ε are the call's arguments: basis, target, knots, order check yes or no, limit, precision. Assumes nothing.
+-- What the inversion of a curve promises on every input, by either rule m of the ends. b, y, ks, check, limit and ε are the call's arguments: basis, target,
+-- knots, order check yes or no, limit, precision. Assumes nothing.
 use mathlib.Core.Path.{_≡_, refl, sym, ap, _∙_, subst}
 use mathlib.Core.Bool.{Bool}
 use mathlib.Core.List.{List, []}

@@ -21,7 +21,8 @@ pub enum Ground {
     Spent,
 }
 
-// What is weighed where a side repeats: the value of the end that moved last is halved, as in the crate; or, as it is taught, the distance to the
+// What is weighed where a side repeats: the value of the end that moved last is halved, as in the crate; or, as it is taught, the distance
+// to the
 // target at the other end.
 pub enum Weighing {
     Value,

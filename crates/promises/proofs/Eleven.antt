@@ -1,4 +1,5 @@
--- "Not on the curve" by its number: a curve's inversion tells 11 only where no row applies, the end rule is silent and, as far as is promised, no segment's end values enclose the target; and it does there. By the
+-- "Not on the curve" by its number: a curve's inversion tells 11 only where no row applies, the end rule is silent and, as far as is promised, no segment's end
+-- values enclose the target; and it does there. By the
 -- promises of the case that carries a count, which is the only one with that number. Assumes nothing.
 use mathlib.Core.Path.{_≡_, ap, subst}
 use mathlib.Core.Bool.{Bool}

@@ -1,4 +1,5 @@
--- Beside the crate, which evaluates an entered segment's ends twice: the same refusal, or the same place by the same ground, with exactly two evaluations fewer where a segment was entered, and with the same count elsewhere. Of the calls. Assumes nothing.
+-- Beside the crate, which evaluates an entered segment's ends twice: the same refusal, or the same place by the same ground, with exactly two evaluations fewer
+-- where a segment was entered, and with the same count elsewhere. Of the calls. Assumes nothing.
 use mathlib.Core.Path.{_≡_, sym, subst}
 use mathlib.Core.Bool.{Bool}
 use mathlib.Core.List.{List}

@@ -1,4 +1,5 @@
--- What inversion promises, of its calls. Of a curve: the count, its list, which misses none, its bounds, the places, the values that enclose the target, the ground, and when the target is not on the curve. Assumes nothing.
+-- What inversion promises, of its calls. Of a curve: the count, its list, which misses none, its bounds, the places, the values that enclose the target, the
+-- ground, and when the target is not on the curve. Assumes nothing.
 use mathlib.Core.Path.{_≡_, sym, subst}
 use mathlib.Core.List.{List, []}
 use Prim.Native.Nat.{ℕ, _+_, _≤_}

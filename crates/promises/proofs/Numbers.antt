@@ -1,4 +1,5 @@
--- Each call by the numbers of the refusal table: the number told is that of the first row that applies. Where none does it is 0, or 11 from an inversion, and then in the case that carries the count; a row never
+-- Each call by the numbers of the refusal table: the number told is that of the first row that applies. Where none does it is 0, or 11 from an inversion, and
+-- then in the case that carries the count; a row never
 -- gives 11, and no call replies 12. It all follows from where a call refuses, since a call that has no use for a row cannot fail by it. Assumes nothing.
 use mathlib.Core.Path.{_≡_, refl, sym, ap, _∙_, subst}
 use mathlib.Core.Bool.{true, false}

@@ -1,4 +1,5 @@
--- No second reply fits: of each call, two replies that its contract allows on the same arguments are one, and so is what they leave in lent memory. Assumes nothing.
+-- No second reply fits: of each call, two replies that its contract allows on the same arguments are one, and so is what they leave in lent memory. Assumes
+-- nothing.
 use mathlib.Core.Path.{_≡_, sym, _∙_}
 use denote.Ref.{now}
 use Rattle.error.proofs.number.Reads as number

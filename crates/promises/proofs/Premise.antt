@@ -1,4 +1,5 @@
--- The premise of "not on the curve" can be met, of the call: a curve of 13 segments and a target for which no row applies, the end rule is silent, and neither starts nor ends turn against the direction. Assumes nothing.
+-- The premise of "not on the curve" can be met, of the call: a curve of 13 segments and a target for which no row applies, the end rule is silent, and neither
+-- starts nor ends turn against the direction. Assumes nothing.
 use mathlib.Core.Path.{_≡_, refl}
 use mathlib.Core.Bool.{true}
 use mathlib.Core.List.{List, [], _∷_}

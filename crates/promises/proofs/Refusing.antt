@@ -1,4 +1,5 @@
--- Each call may be called with anything, refuses exactly where a row of the refusal table applies, by the first that does, and then leaves lent memory as it was. Assumes nothing.
+-- Each call may be called with anything, refuses exactly where a row of the refusal table applies, by the first that does, and then leaves lent memory as it
+-- was. Assumes nothing.
 use mathlib.Core.Path.{_≡_, refl, sym, ap, _∙_}
 use mathlib.Core.Bool.{Bool}
 use mathlib.Core.List.{List, []}

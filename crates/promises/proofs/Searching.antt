@@ -1,4 +1,5 @@
--- The search above 12 segments: where the middle one is not entered, at most half of the open ones stay open, and none but those. For any trial of a segment. Assumes nothing.
+-- The search above 12 segments: where the middle one is not entered, at most half of the open ones stay open, and none but those. For any trial of a segment.
+-- Assumes nothing.
 use mathlib.Core.Path.{_≡_, refl, sym, subst}
 use mathlib.Core.Bool.{Bool, cond}
 use Prim.Native.Nat.{ℕ, suc, _+_, _*_, _-_, _/_, _≤_}

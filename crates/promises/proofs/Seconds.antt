@@ -1,4 +1,5 @@
--- What the calls on a table with a span promise: with a good span they are the base's, with the second beside a place and the span handed on; they refuse exactly by the first row that applies, 14 among them; and the second is the largest whole number not above parameter × span. Assumes nothing.
+-- What the calls on a table with a span promise: with a good span they are the base's, with the second beside a place and the span handed on; they refuse
+-- exactly by the first row that applies, 14 among them; and the second is the largest whole number not above parameter × span. Assumes nothing.
 use mathlib.Core.Path.{_≡_, refl, sym, ap, subst, _∙_}
 use mathlib.Core.Bool.{Bool, true, not}
 use mathlib.Core.List.{List, _∷_}

@@ -1,4 +1,5 @@
--- What others link of the calls on a table with a span asks nothing, allows one reply, and where it does not return 0 leaves what stood behind each pointer, but 11 its count. Assumes nothing.
+-- What others link of the calls on a table with a span asks nothing, allows one reply, and where it does not return 0 leaves what stood behind each pointer,
+-- but 11 its count. Assumes nothing.
 use mathlib.Core.Path.{_≡_, refl, sym, _∙_}
 use mathlib.Core.List.{List}
 use Prim.Native.Nat.{ℕ}

@@ -1,4 +1,5 @@
--- `spent` says that every round was made: the list of evaluations ends with those of the two ends of the segment that is told, and after them as many of it as the limit says. Assumes nothing.
+-- `spent` says that every round was made: the list of evaluations ends with those of the two ends of the segment that is told, and after them as many of it as
+-- the limit says. Assumes nothing.
 use mathlib.Core.Path.{_≡_, refl, sym, subst}
 use mathlib.Core.Bool.{Bool, true, false, cond}
 use mathlib.Core.List.{List, [], _∷_}

@@ -1,4 +1,5 @@
--- What `turn` prints, read again after whatever came before, is the table that its conversion gives, its span included; and the span that is held is in range, or none. Assumes nothing.
+-- What `turn` prints, read again after whatever came before, is the table that its conversion gives, its span included; and the span that is held is in range,
+-- or none. Assumes nothing.
 use mathlib.Core.Path.{_≡_, subst, ap, _∙_}
 use mathlib.Core.List.{List, [], _∷_, _++_}
 use Prim.Native.Nat.{ℕ, zero, suc, _-_, _*_, _≤_}

@@ -1,4 +1,5 @@
--- What evaluation and conversion leave, of the calls themselves: a value told is finite; a conversion writes as many doubles as the definition says, each finite, leaves every place beyond them as it was, and
+-- What evaluation and conversion leave, of the calls themselves: a value told is finite; a conversion writes as many doubles as the definition says, each
+-- finite, leaves every place beyond them as it was, and
 -- every product and sum of its windows is finite. Each is known of the definition, and a contract is an equation with it. Assumes nothing.
 use mathlib.Core.Path.{_≡_, refl, sym, ap, _∙_, subst}
 use mathlib.Core.List.{List, _++_}

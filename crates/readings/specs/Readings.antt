@@ -1,4 +1,5 @@
--- The readings: one table of what is asked and what is told. proofs/Readings.antt has the one statement that the definitions give it. Definitions only.
+-- The readings: one table of what is asked and what is told. proofs/Readings.antt has the one statement that the definitions give it.
+-- Definitions only.
 use mathlib.Core.Path.{_≡_}
 use mathlib.Core.Bool.{Bool, true, false}
 use mathlib.Core.List.{List, [], _∷_, _++_, map, reverse}

@@ -1,4 +1,5 @@
--- What a line says: `curve` BASIS, `span` N, `knot` D, `ends` `knots` or `curve`, `at` D, `find` D, `turn` BASIS, or none of these. Definitions only.
+-- What a line says: `curve` BASIS, `span` N, `knot` D, `ends` `knots` or `curve`, `at` D, `find` D, `turn` BASIS, or none of these.
+-- Definitions only.
 use mathlib.Core.Bool.{cond}
 use mathlib.Core.List.{List, [], _∷_}
 use Prim.Native.Nat.{ℕ}

@@ -1,4 +1,5 @@
--- Beside the crate's way, in which an entered segment's ends are evaluated twice: the same place by the same ground, and two evaluations fewer; and the same list where none is entered. For any rule. Assumes nothing.
+-- Beside the crate's way, in which an entered segment's ends are evaluated twice: the same place by the same ground, and two evaluations fewer; and the same
+-- list where none is entered. For any rule. Assumes nothing.
 use mathlib.Core.Bool.{Bool, true, false, cond}
 use Prim.Native.Nat.{ℕ, zero, suc, _+_, _-_, _/_, min}
 use native.Mathlib.Omega.{arith}

@@ -1,4 +1,5 @@
--- What a search comes to, for any curve and any trial of its segments: how many evaluations it makes, which segment it enters, and when it enters none. Assumes nothing.
+-- What a search comes to, for any curve and any trial of its segments: how many evaluations it makes, which segment it enters, and when it enters none. Assumes
+-- nothing.
 use mathlib.Core.Path.{_≡_, sym, subst}
 use mathlib.Core.Logic.{inl, inr}
 use mathlib.Core.Bool.{Bool, true, false, not, cond}

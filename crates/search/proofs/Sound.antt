@@ -1,4 +1,5 @@
--- The trial of a segment, by any lawful rule: where its ends enclose the target it is entered, and its place is one of which all is known that the segment's laws say. Assumes nothing.
+-- The trial of a segment, by any lawful rule: where its ends enclose the target it is entered, and its place is one of which all is known that the segment's
+-- laws say. Assumes nothing.
 use mathlib.Core.Path.{_≡_}
 use mathlib.Core.Bool.{Bool, not}
 use Prim.Native.Nat.{ℕ, _+_, _^_, _<_}

@@ -1,4 +1,5 @@
--- The trial of a segment as the crate makes it: both ends are evaluated, and once more where it is entered. No call makes it; it stands here to say what `trial` leaves out. Definitions only.
+-- The trial of a segment as the crate makes it: both ends are evaluated, and once more where it is entered. No call makes it; it stands
+-- here to say what `trial` leaves out. Definitions only.
 use mathlib.Core.Bool.{cond}
 use Prim.Native.Nat.{ℕ}
 use lib.Ieee.{Float}

@@ -1,4 +1,5 @@
--- What a caller from C sees of the calls on a table with a span: the reply, and what stands behind each pointer when a call returns. Definitions only.
+-- What a caller from C sees of the calls on a table with a span: the reply, and what stands behind each pointer when a call returns.
+-- Definitions only.
 use mathlib.Core.List.{List, [], _∷_}
 use Prim.Native.Nat.{ℕ}
 use lib.ListN.{set}

@@ -1,5 +1,7 @@
--- A lawful rule kept to the pace ends in time. Before round i the bracket spans at most 2^(5 - i) + 6·2^-53; so, with a precision above 2^(5 - N) + 7·2^-53, the width test stops round N
--- at the latest, after at most N evaluations in the rounds, and the limit is never told as spent if it is above N. For any function of the local place. Assumes nothing.
+-- A lawful rule kept to the pace ends in time. Before round i the bracket spans at most 2^(5 - i) + 6·2^-53; so, with a precision above 2^(5 - N) + 7·2^-53,
+-- the width test stops round N
+-- at the latest, after at most N evaluations in the rounds, and the limit is never told as spent if it is above N. For any function of the local place. Assumes
+-- nothing.
 use mathlib.Core.Path.{_≡_, refl, sym, ap, _∙_, subst, subst₂}
 use mathlib.Core.Logic.{_⊎_, inl, inr}
 use mathlib.Core.Bool.{Bool, true, false, not, cond, _&&_, Bool·beq}

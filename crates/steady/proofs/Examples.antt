@@ -1,4 +1,5 @@
--- The premise on the precision cannot be dropped: with 2^-53, and a curve that jumps, the ends become neighbours among the doubles, and no number of rounds helps. Assumes nothing.
+-- The premise on the precision cannot be dropped: with 2^-53, and a curve that jumps, the ends become neighbours among the doubles, and no number of rounds
+-- helps. Assumes nothing.
 use mathlib.Core.Path.{_≡_, refl}
 use mathlib.Core.Bool.{true, false, cond}
 use mathlib.Core.List.{[]}

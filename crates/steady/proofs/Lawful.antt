@@ -1,4 +1,5 @@
--- The secant's rule is lawful, and a lawful rule kept to the pace is lawful: so is the steady rule, and all that is proved of a lawful rule holds of it. Assumes nothing.
+-- The secant's rule is lawful, and a lawful rule kept to the pace is lawful: so is the steady rule, and all that is proved of a lawful rule holds of it.
+-- Assumes nothing.
 use mathlib.Core.Path.{_≡_, refl, sym, subst₂}
 use mathlib.Core.Bool.{Bool, true, false, _&&_}
 use Prim.Native.Nat.{ℕ}

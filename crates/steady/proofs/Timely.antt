@@ -1,4 +1,5 @@
--- The inversion of one segment by the steady method ends in time: with a limit above N the ground `spent` is never told, and whatever the limit, at most N + 2 evaluations are made.
+-- The inversion of one segment by the steady method ends in time: with a limit above N the ground `spent` is never told, and whatever the limit, at most N + 2
+-- evaluations are made.
 -- N is 39 for the default precision, and 59 for any precision of 2^-50 at least. Assumes nothing.
 use mathlib.Core.Path.{_≡_, refl}
 use mathlib.Core.List.{List, []}

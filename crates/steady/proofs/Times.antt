@@ -1,4 +1,5 @@
--- How long a lawful rule kept to the pace takes at most, by the precision: with the default, 39 evaluations in the rounds; with one of 2^-p at least, p + 6, for p up to 49;
+-- How long a lawful rule kept to the pace takes at most, by the precision: with the default, 39 evaluations in the rounds; with one of 2^-p at least, p + 6,
+-- for p up to 49;
 -- with any of 2^-50 at least, so with 1e-15, 59. Assumes nothing.
 use mathlib.Core.Path.{_≡_, refl}
 use mathlib.Core.Bool.{Bool, false, not}

@@ -1,4 +1,5 @@
--- The three calls on a table with its span: the rows of the base's call and 14; where none applies, what the base's call answers, with the second beside a place and the span handed on. Definitions only.
+-- The three calls on a table with its span: the rows of the base's call and 14; where none applies, what the base's call answers, with the
+-- second beside a place and the span handed on. Definitions only.
 use mathlib.Core.Bool.{Bool}
 use mathlib.Core.List.{List, _∷_}
 use Prim.Native.Nat.{ℕ}

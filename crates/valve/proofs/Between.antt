@@ -1,4 +1,5 @@
--- The sum lies between the least and the greatest knot, times what the weights come to: each term is at least the least knot's share and at most the greatest's,
+-- The sum lies between the least and the greatest knot, times what the weights come to: each term is at least the least knot's share and at most the
+-- greatest's,
 -- and the shares add up to the whole. Assumes nothing.
 use mathlib.Core.Path.{_≡_, refl, sym, ap, _∙_, subst}
 use mathlib.Core.List.{List}

@@ -1,3 +1,4 @@
+-- A place is left where there are fewer than 4,096 knots: the knot is taken. Otherwise it is dropped, and 3 is told.
 use native.Mathlib.Omega.{arith}
 use Rattle.answer.proofs.Answers.{knot-taken, knot-dropped}
 use borrow.Author.Needs.{needs}

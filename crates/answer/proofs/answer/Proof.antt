@@ -1,3 +1,4 @@
+-- Before the first curve every record but `curve` is bad (`first`); after it the table holds the curve (`later`).
 use native.Mathlib.Omega.{arith}
 use Prim.Native.Nat.{_≤_}
 use Rattle.answer.specs.Answer.{places}

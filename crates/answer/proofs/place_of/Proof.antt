@@ -1,3 +1,4 @@
+-- A case for each answer of the inversion; each is told as the definition tells it.
 use mathlib.Core.Path.{_≡_, refl, sym, ap, _∙_}
 use Rattle.invert.specs.declared.Inverted.the-variants.{Refused, OffCurve, At}
 use Rattle.answer.specs.Answer.{foundOf}

@@ -1,3 +1,4 @@
+-- A good span is kept and nothing is told (`span-silent`); any other is refused and changes nothing (`span-refused`).
 use native.Mathlib.Omega.{arith}
 use mathlib.Core.Path.{_≡_, refl, sym, ap, _∙_}
 use lib.ListN.{take}

@@ -1,3 +1,4 @@
+-- A conversion that was made is told as a curve whose knots stand in the lent places; a refusal is told as one.
 use native.Mathlib.Omega.{arith}
 use mathlib.Core.Path.{_≡_, refl, sym, ap, _∙_}
 use Rattle.convert.specs.Conversion.{convertedOf}

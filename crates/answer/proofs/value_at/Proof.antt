@@ -1,3 +1,4 @@
+-- A case for each answer of the evaluation; each is told as the definition tells it.
 use mathlib.Core.Path.{refl, sym, _∙_}
 use borrow.Author.Needs.{needs}
 use Rattle.answer.proofs.value_at.Statement.{statement}

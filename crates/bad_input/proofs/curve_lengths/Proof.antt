@@ -1,3 +1,4 @@
+-- Nothing is claimed but that the loop ends: n comes nearer to `end`.
 use borrow.Author.Needs.{needs}
 use Prim.Native.Nat.{_-_}
 use borrow.Author.Needs.{needs}

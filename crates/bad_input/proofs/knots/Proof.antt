@@ -1,3 +1,4 @@
+-- The invariant keeps the index below 16, and the loop ends after 16 rounds.
 use borrow.Author.Needs.{needs}
 use Prim.Native.Nat.{_≤_, _-_}
 use borrow.Author.Needs.{needs}

@@ -1,3 +1,4 @@
+-- Below 4 knots the definition's first test fails; from 4 on both sides are the same remainder.
 use borrow.Author.Tests.{lt-leb, le-leb}
 use borrow.Author.Needs.{needs}
 use Rattle.basis.proofs.is_len_ok.Statement.{statement}

@@ -1,3 +1,4 @@
+-- A case for each basis. Where STEP is 1 the division does nothing (`by-one`); elsewhere it is the definition's own (`by-step`).
 use mathlib.Core.Path.{refl}
 use Rattle.basis.specs.declared.Basis.the-variants.{Bspline, Bezier, CatmullRom, Hermite, Linear, Power}
 use Rattle.basis.proofs.Count.{by-one, by-step}

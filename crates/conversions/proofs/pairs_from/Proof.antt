@@ -1,3 +1,4 @@
+-- The invariant keeps the index at most 6, and the loop ends after 6 rounds.
 use borrow.Author.Needs.{needs}
 use Prim.Native.Nat.{_≤_, _-_}
 use Rattle.conversions.proofs.pairs_from.Statement.{statement}

@@ -1,3 +1,4 @@
+-- The verdict is the definition's. Where it passed there is room for four, and four values are written to the front of the buffer.
 use mathlib.Core.Path.{sym, _∙_}
 use native.Mathlib.Omega.{arith}
 use lib.Dec.{lit<, lit≤}

@@ -1,3 +1,4 @@
+-- The verdict is the definition's. Where it passed the windows fit into the buffer, and what is written is the definition's list.
 use mathlib.Core.Path.{sym, _∙_}
 use native.Mathlib.Nat.{le-trans, le-of-eq}
 use lib.ListN.{length}

@@ -1,3 +1,4 @@
+-- A case for each of the two tests. The definition makes the same tests in the same order.
 use lib.Ieee.{ofBits}
 use Rattle.doubles.specs.Numbers.{clamp}
 use Rattle.doubles.proofs.clamped.Statement.{statement}

@@ -1,3 +1,4 @@
+-- The code is the definition, operation by operation.
 use mathlib.Core.Path.{refl}
 use Rattle.doubles.specs.Lerp.{lerpOf}
 use Rattle.doubles.proofs.lerp.Statement.{statement}

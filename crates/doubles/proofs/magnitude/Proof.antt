@@ -1,3 +1,4 @@
+-- A case for each side of the test; the definition makes the same one.
 use lib.Ieee.{ofBits}
 use Rattle.doubles.specs.Numbers.{magnitudeOf}
 use Rattle.doubles.proofs.magnitude.Statement.{statement}

@@ -1,3 +1,4 @@
+-- The first and the last segment lie inside the knots; their values at 0 and at 1 are what the rule goes by.
 use lib.Ieee.{ofBits}
 use native.Mathlib.Omega.{arith}
 use lib.ListN.{length}

@@ -1,3 +1,4 @@
+-- The place is the definition's, for every list of evaluations of that length.
 use Rattle.inverse.proofs.end_place.Statement.{statement}
 use Rattle.inverse.proofs.end_place.Tie as tie
 

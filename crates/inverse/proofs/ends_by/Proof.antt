@@ -1,3 +1,4 @@
+-- A case for each rule of the ends; each is its function's contract.
 use Rattle.inverse.proofs.Calls.{knot-ends-in, curve-ends-in}
 use borrow.Author.Needs.{needs}
 use Rattle.inverse.proofs.ends_by.Statement.{statement}

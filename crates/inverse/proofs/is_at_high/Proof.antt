@@ -1,3 +1,4 @@
+-- A case for each direction; the definition makes the same test.
 use Rattle.inverse.proofs.is_at_high.Statement.{statement}
 use Rattle.inverse.proofs.is_at_high.Tie as tie
 

@@ -1,3 +1,4 @@
+-- A case for each direction; the definition makes the same test.
 use Rattle.inverse.proofs.is_at_low.Statement.{statement}
 use Rattle.inverse.proofs.is_at_low.Tie as tie
 

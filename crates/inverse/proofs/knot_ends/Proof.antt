@@ -1,3 +1,4 @@
+-- A case for STEP 1 and for any other; the knots read are the definition's.
 use mathlib.Core.Path.{sym, _∙_}
 use borrow.Author.Tests.{eq-eqb, ne-eqb}
 use borrow.Author.Needs.{needs}

@@ -1,3 +1,4 @@
+-- The ends and the evaluations made for them are those of the rule that was chosen (`by-rule`).
 use Rattle.inverse.proofs.Calls.{by-rule}
 use borrow.Author.Needs.{needs}
 use Rattle.inverse.proofs.locate.Statement.{statement}

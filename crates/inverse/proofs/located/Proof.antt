@@ -1,3 +1,4 @@
+-- Three ways out, as in the definition: at the low end, at the high end, and the search.
 use mathlib.Core.Path.{sym, _∙_}
 use lib.Ieee.{ofBits}
 use Rattle.spline.specs.Segment.{segmentOf}

@@ -1,3 +1,4 @@
+-- The code is the definition; both whole numbers fit a double.
 use lib.Ieee.{ofBits}
 use Rattle.inverse.specs.Curve.{parameterOf}
 use borrow.Author.Needs.{needs}

@@ -1,3 +1,4 @@
+-- What is off the curve is passed up as it is; a place gets its parameter from its segment, which the search found below k.
 use mathlib.Core.Path.{refl, sym, _∙_}
 use native.Mathlib.Nat.{le-trans}
 use lib.Dec.{lit≤}

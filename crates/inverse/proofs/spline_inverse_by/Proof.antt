@@ -1,3 +1,4 @@
+-- The verdict is the definition's. Where it passed it tells what the search asks for: lengths, a target that is no NaN, knots in range.
 use mathlib.Core.Path.{sym, _∙_}
 use Rattle.inverse.proofs.Verdicts.{admitted, refused-is, answer-is}
 use borrow.Author.Needs.{needs}

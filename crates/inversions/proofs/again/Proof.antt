@@ -1,3 +1,4 @@
+-- The segment lies inside the knots because the two tests before it say so; the product is bounded by the larger of both factors.
 use native.Mathlib.Nat.{le-of-lt, mul-le-mul}
 use native.Mathlib.Omega.{arith}
 use borrow.Author.Needs.{needs}

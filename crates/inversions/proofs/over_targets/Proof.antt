@@ -1,3 +1,4 @@
+-- The invariant keeps the index at most 13, and the loop ends after 13 targets.
 use borrow.Author.Needs.{needs}
 use Prim.Native.Nat.{_≤_, _-_}
 use Rattle.inversions.proofs.over_targets.Statement.{statement}

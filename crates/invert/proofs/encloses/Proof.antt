@@ -1,3 +1,4 @@
+-- A case for each of the tests: the direction, then the two comparisons of that direction.
 use Rattle.invert.proofs.encloses.Statement.{statement}
 use Rattle.invert.proofs.encloses.Tie as tie
 

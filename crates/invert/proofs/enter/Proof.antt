@@ -1,3 +1,5 @@
+-- Both end values are the segment at 0 and at 1. Where they enclose the target the callee's contract is the definition's place (`taken-
+-- in`); otherwise the start is told (`left-out`).
 use mathlib.Core.Path.{sym, _∙_}
 use lib.Ieee.{ofBits}
 use Rattle.spline.specs.Segment.{hornerOf}

@@ -1,3 +1,4 @@
+-- The code is the definition; the magnitude is the callee's contract.
 use lib.Ieee.{ofBits}
 use borrow.Author.Needs.{needs}
 use Rattle.invert.proofs.is_near.Statement.{statement}

@@ -1,3 +1,4 @@
+-- The invariant says that the rounds still to come lead from the state at hand to where all rounds lead from the first (`led`).
 use borrow.Author.Needs.{needs}
 use mathlib.Core.Path.{_≡_, refl, _∙_}
 use Prim.Native.Nat.{_≤_, _-_, _+_, _*_, _/_}

@@ -1,3 +1,4 @@
+-- Room for a byte, none left, too long already: the definition's `push` in three cases.
 use borrow.Author.Needs.{needs}
 use native.Mathlib.Omega.{arith}
 use Rattle.machine.proofs.Pushing.{push-room, push-full}

@@ -1,3 +1,4 @@
+-- Three ways out: the pivot's own row, a row with a zero in the column, and a row that is reduced; the definition has the same three.
 use mathlib.Core.Path.{sym, _∙_}
 use Rattle.matrix.proofs.Steps.{own-row, clear-already, not-clear}
 use lib.Ieee.{ofBits}

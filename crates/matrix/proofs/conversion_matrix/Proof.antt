@@ -1,3 +1,4 @@
+-- The inverse, the basis's matrix and their product are the callees' contracts; `conversion` joins them.
 use Rattle.matrix.proofs.Steps.{conversion}
 use borrow.Author.Needs.{needs}
 use Rattle.matrix.proofs.conversion_matrix.Statement.{statement}

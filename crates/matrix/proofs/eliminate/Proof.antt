@@ -1,3 +1,4 @@
+-- Swap, divide and clear in this order, as the definition has them; `in-turn` joins the three contracts.
 use Rattle.matrix.proofs.Steps.{in-turn}
 use borrow.Author.Needs.{needs}
 use Rattle.matrix.proofs.eliminate.Statement.{statement}

@@ -1,3 +1,4 @@
+-- A case for each basis: the arm returns its constant, whose contract is the definition's own case.
 use borrow.Author.Needs.{needs}
 use Rattle.matrix.proofs.inverse_of.Statement.{statement}
 use Rattle.matrix.proofs.inverse_of.Tie as tie

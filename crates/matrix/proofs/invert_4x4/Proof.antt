@@ -1,3 +1,5 @@
+-- The invariant: the columns still to come make of the matrix at hand what all columns make of the first one. A missing pivot ends both
+-- sides alike.
 use borrow.Author.Needs.{needs}
 use mathlib.Core.Path.{_≡_, refl, sym, _∙_}
 use Prim.Native.Nat.{_≤_, _-_}

@@ -1,3 +1,4 @@
+-- The four rows one after another; each is the callee's contract, and `listed` makes a matrix of them.
 use Rattle.matrix.proofs.Steps.{listed}
 use Rattle.matrix.specs.Matrix.{product}
 use borrow.Author.Needs.{needs}

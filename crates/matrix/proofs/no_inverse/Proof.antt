@@ -1,3 +1,4 @@
+-- The code is the definition: a flag and four rows of zeros.
 use mathlib.Core.Path.{refl}
 use lib.Ieee.{ofBits}
 use Rattle.matrix.proofs.no_inverse.Statement.{statement}

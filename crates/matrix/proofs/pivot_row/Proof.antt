@@ -1,3 +1,4 @@
+-- The invariant: the rows passed have a zero in the column, so the first other one is looked for from k on.
 use borrow.Author.Needs.{needs}
 use lib.Ieee.{ofBits}
 use mathlib.Core.Path.{_≡_, refl, _∙_}

@@ -1,3 +1,4 @@
+-- The code is the definition, entry by entry; what is left are the indices, all below 4.
 use mathlib.Core.Path.{refl}
 use lib.Ieee.{ofBits}
 use borrow.Author.Needs.{needs}

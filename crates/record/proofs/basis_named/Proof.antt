@@ -1,3 +1,4 @@
+-- A case for each name, in the definition's order: the names before it did not fit.
 use mathlib.Core.Path.{sym, _∙_}
 use Rattle.record.specs.Record.{namedOf}
 use borrow.Author.Needs.{needs}

@@ -1,3 +1,4 @@
+-- A case for a name that says a rule of the ends and for one that does not, as in the definition.
 use mathlib.Core.Path.{sym, _∙_}
 use borrow.Author.Needs.{needs}
 use Rattle.record.proofs.ends_of.Statement.{statement}

@@ -1,3 +1,4 @@
+-- A case for each word; its field is then a basis or a number, or says nothing, as in the definition.
 use mathlib.Core.Path.{sym, _∙_}
 use Rattle.record.specs.Record.{meaningOf}
 use borrow.Author.Needs.{needs}

@@ -1,3 +1,4 @@
+-- A second tab makes three fields, which is no record (`three-fields`); otherwise the two fields are read.
 use mathlib.Core.Path.{sym, _∙_}
 use Rattle.record.proofs.Fields.{two-fields, three-fields}
 use borrow.Author.Needs.{needs}

@@ -1,3 +1,5 @@
+-- Without a tab there is one field, which is no record (`no-tab`); otherwise the line is the part before the first tab and the part behind
+-- it.
 use native.Mathlib.Omega.{arith}
 use mathlib.Core.Path.{sym, _∙_}
 use Rattle.record.proofs.Fields.{no-tab, after-tab}

@@ -1,3 +1,4 @@
+-- Five digits are below 100,000, so the number fits 32 bits; without digits the line says nothing.
 use native.Mathlib.Omega.{arith}
 use Prim.Native.Nat.{_<_, _^_}
 use mathlib.Core.Path.{sym, _∙_}

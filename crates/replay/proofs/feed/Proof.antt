@@ -1,3 +1,4 @@
+-- The invariant keeps the index inside the chunk and the table's length; the loop ends at the chunk's length.
 use borrow.Author.Needs.{needs}
 use mathlib.Core.Path.{_≡_}
 use Prim.Native.Nat.{_≤_, _-_}

@@ -1,3 +1,4 @@
+-- The invariant keeps the lengths of table and chunk; at most 32 chunks are read.
 use borrow.Author.Needs.{needs}
 use mathlib.Core.Path.{_≡_}
 use Prim.Native.Nat.{_≤_, _-_}

@@ -1,3 +1,4 @@
+-- The invariant keeps the index and the table's length, and the loop ends at the number of words.
 use borrow.Author.Needs.{needs}
 use mathlib.Core.Path.{_≡_}
 use Prim.Native.Nat.{_≤_, _-_}

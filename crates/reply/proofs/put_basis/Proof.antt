@@ -1,3 +1,4 @@
+-- A case for each basis: the word written is its name.
 use native.Mathlib.Omega.{arith}
 use borrow.Author.Needs.{needs}
 use Rattle.reply.proofs.put_basis.Statement.{statement}

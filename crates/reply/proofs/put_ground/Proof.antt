@@ -1,3 +1,4 @@
+-- A case for each ground: the word written is its name.
 use native.Mathlib.Omega.{arith}
 use borrow.Author.Needs.{needs}
 use Rattle.reply.proofs.put_ground.Statement.{statement}

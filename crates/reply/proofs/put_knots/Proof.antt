@@ -1,3 +1,4 @@
+-- The invariant: the lines of the first i knots stand from `at` on, 22 bytes each.
 use borrow.Author.Needs.{needs}
 use native.Mathlib.Omega.{arith}
 use Prim.Native.Nat.{_≤_, _+_, _*_, _-_}

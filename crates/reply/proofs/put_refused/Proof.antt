@@ -1,3 +1,4 @@
+-- The word, the number, the place if there is one, and a line feed, each where the last ended (`then`).
 use native.Mathlib.Omega.{arith}
 use Rattle.text.proofs.Writing.{then}
 use borrow.Author.Needs.{needs}

@@ -1,3 +1,4 @@
+-- A case for each reply; its text is the callee's contract.
 use native.Mathlib.Omega.{arith}
 use Rattle.text.proofs.Writing.{nothing}
 use mathlib.Core.Path.{_≡_}

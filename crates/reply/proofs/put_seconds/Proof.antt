@@ -1,3 +1,4 @@
+-- A case for a second and for none: the one is written, the other writes nothing.
 use native.Mathlib.Omega.{arith}
 use Rattle.text.proofs.Writing.{nothing}
 use borrow.Author.Needs.{needs}

@@ -1,3 +1,4 @@
+-- A good span is written as a line of its own, field after field (`then`); any other writes nothing.
 use native.Mathlib.Omega.{arith}
 use mathlib.Core.Path.{_≡_, sym, _∙_}
 use mathlib.Core.Bool.{true, false}

@@ -1,3 +1,4 @@
+-- Invariant: the state is good, and the bytes handed on are those before `from`; each turn takes one byte or more.
 use borrow.Author.Needs.{needs}
 use native.Mathlib.Omega.{arith}
 use mathlib.Core.Path.{_≡_, refl, sym, ap, _∙_}

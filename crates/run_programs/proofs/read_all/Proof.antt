@@ -1,3 +1,4 @@
+-- Invariant: the state is good; a count of reads falls.
 use borrow.Author.Needs.{needs}
 use native.Mathlib.Omega.{arith}
 use mathlib.Core.Path.{_≡_, refl}

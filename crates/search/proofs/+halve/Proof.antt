@@ -1,3 +1,5 @@
+-- By recursion on the open segments, which fall at each step. A step that goes on has made two evaluations and does what the definition
+-- does with one halving more.
 use mathlib.Core.Path.{refl, sym, ap, _∙_}
 use mathlib.Core.List.{List}
 use Prim.Native.Nat.{ℕ, _+_, _-_, _/_, _<_}

@@ -1,3 +1,4 @@
+-- Leading zeros are at most 64, so the difference does not fall below 0; the rest is the definition.
 use mathlib.Core.Path.{refl}
 use native.Mathlib.Omega.{arith}
 use lib.Count.{leading-le}

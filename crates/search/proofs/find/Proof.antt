@@ -1,3 +1,4 @@
+-- The search comes to a segment below k, which is entered with the six doubles kept of it (`found-in`), or to none (`found-none`).
 use Rattle.search.proofs.Calls.{found-in, found-none}
 use borrow.Author.Needs.{needs}
 use Rattle.search.proofs.find.Statement.{statement}

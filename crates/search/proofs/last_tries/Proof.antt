@@ -1,3 +1,4 @@
+-- From left − 1, at least 0, at most two segments are tried; they lie below k.
 use native.Mathlib.Omega.{arith}
 use Rattle.search.proofs.Calls.{fits-le, last-tried}
 use borrow.Author.Needs.{needs}

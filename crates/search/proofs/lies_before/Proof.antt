@@ -1,3 +1,4 @@
+-- A case for each direction; the definition makes the same test.
 use Rattle.search.proofs.lies_before.Statement.{statement}
 use Rattle.search.proofs.lies_before.Tie as tie
 

@@ -1,3 +1,4 @@
+-- A case for each side of 12; the sums fit 32 bits because the limit has 16 and the bits are at most 64.
 use borrow.Author.Tests.{le-leb, lt-leb}
 use borrow.Author.Needs.{needs}
 use Rattle.search.proofs.most_evaluations.Statement.{statement}

@@ -1,3 +1,4 @@
+-- Both end values are the cubic at 0 and at 1, and what is kept are the row sums and these two.
 use lib.Ieee.{ofBits}
 use Rattle.search.proofs.Calls.{settled}
 use borrow.Author.Needs.{needs}

@@ -1,3 +1,4 @@
+-- A case for each basis: its matrix is the definition's, and the rest is the callee's contract.
 use Rattle.search.proofs.Calls.{settled-by}
 use borrow.Author.Needs.{needs}
 use Rattle.search.proofs.settle_by.Statement.{statement}

@@ -1,3 +1,4 @@
+-- Up to 12 segments the tries are the definition's; above, as many halvings as k has bits are enough.
 use native.Mathlib.Nat.{lt-of-le-of-lt}
 use native.Mathlib.Omega.{arith}
 use lib.Dec.{lit<}

@@ -1,3 +1,5 @@
+-- The invariant: the segments before s do not enclose the target, two evaluations were made for each, and the tries left are those from s
+-- on.
 use Prim.Native.Nat.{_+_, _-_, _*_, _≤_}
 use native.Mathlib.Omega.{arith}
 use Rattle.search.proofs.Calls.{fits-at, Carried, tries-start, tries-hit, tries-miss, tries-end}

@@ -1,3 +1,4 @@
+-- The verdict is the definition's. Where it passed, it tells that the lengths suit, which is what the value's function asks for.
 use mathlib.Core.Path.{sym, _∙_}
 use Rattle.spline.specs.Evaluation.{splineOf}
 use Rattle.spline.proofs.Verdicts.{curve-sound}

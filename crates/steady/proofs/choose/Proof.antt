@@ -1,3 +1,4 @@
+-- Where the bracket is wider than the pace allows, the midpoint (`choose-middle`); otherwise the chord's place (`choose-chord`).
 use mathlib.Core.Path.{_≡_, refl, sym, _∙_}
 use lib.Ieee.{ofBits}
 use Rattle.steady.proofs.Choosing.{choose-middle, choose-chord}

@@ -1,3 +1,4 @@
+-- Both end values are the segment at 0 and at 1. Where they enclose the target the place is the method's; otherwise the start is told.
 use mathlib.Core.Path.{sym, _∙_}
 use lib.Ieee.{ofBits}
 use Rattle.spline.specs.Segment.{hornerOf}

@@ -1,3 +1,4 @@
+-- A case for each method; each is its function's contract.
 use Rattle.steady.proofs.Choosing.{by-crate, by-taught, by-steady}
 use borrow.Author.Needs.{needs}
 use Rattle.steady.proofs.entered_by.Statement.{statement}

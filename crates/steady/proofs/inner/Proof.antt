@@ -1,3 +1,4 @@
+-- A place strictly between the ends is kept; any other becomes the midpoint, as in the definition.
 use lib.Ieee.{ofBits}
 use Rattle.steady.specs.Steady.{inner}
 use borrow.Author.Needs.{needs}

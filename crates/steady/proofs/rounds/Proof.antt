@@ -1,3 +1,4 @@
+-- The invariant of the crate's rounds, with the width of the pace beside it: 16 halved as often as rounds were made.
 use borrow.Author.Needs.{needs}
 use mathlib.Core.Path.{_≡_, refl, _∙_}
 use Prim.Native.Nat.{_≤_, _-_, _+_}

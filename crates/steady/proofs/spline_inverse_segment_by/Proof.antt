@@ -1,3 +1,4 @@
+-- The verdict is the definition's. Where it passed there are four knots; trying the segment gives its place, or 2 evaluations off it.
 use Rattle.steady.specs.Method.{ruleOf}
 use Rattle.invert.proofs.Verdicts.{four-for, refused-is, place-is, off-is}
 use borrow.Author.Needs.{needs}

@@ -1,3 +1,4 @@
+-- The weighting comes only with a repeated side; a case for each way.
 use borrow.Author.Tests.{lt-ltb, le-ltb}
 use Rattle.invert.specs.Round.{weighed}
 use borrow.Author.Needs.{needs}

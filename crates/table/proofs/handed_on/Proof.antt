@@ -1,3 +1,4 @@
+-- A case for a conversion that was made and for one that was refused.
 use mathlib.Core.Path.{_≡_, refl, sym, ap, _∙_}
 use borrow.Author.Needs.{needs}
 use Rattle.table.proofs.handed_on.Statement.{statement}

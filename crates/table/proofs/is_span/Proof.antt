@@ -1,3 +1,4 @@
+-- A case for each side of the first comparison; the second is the definition's.
 use borrow.Author.Tests.{le-leb, lt-leb}
 use Rattle.table.proofs.is_span.Statement.{statement}
 use Rattle.table.proofs.is_span.Tie as tie

@@ -1,3 +1,4 @@
+-- A good span is at most a day, which is what the second's function asks for; without one there is no second.
 use mathlib.Core.Path.{_≡_, refl, sym, ap, _∙_}
 use Rattle.table.proofs.Spans.{good-least}
 use borrow.Author.Needs.{needs}

@@ -1,3 +1,4 @@
+-- With a good span the call is the base's; without one the length's row, or 14, is the first that applies.
 use mathlib.Core.Path.{_≡_, refl, sym, ap, _∙_}
 use lib.ListN.{length}
 use Rattle.convert.specs.Conversion.{Conversion}

@@ -1,3 +1,4 @@
+-- A case for each answer; a place gets the second of its parameter.
 use mathlib.Core.Path.{_≡_, refl, sym, ap, _∙_}
 use Rattle.table.proofs.Spans.{good-least}
 use borrow.Author.Needs.{needs}

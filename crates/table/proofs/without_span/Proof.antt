@@ -1,3 +1,4 @@
+-- A length that fails is told (`by-length`); otherwise 14 is the first row that applies (`by-span`).
 use Rattle.table.proofs.Spans.{by-length, by-span}
 use borrow.Author.Needs.{needs}
 use Rattle.table.proofs.without_span.Statement.{statement}

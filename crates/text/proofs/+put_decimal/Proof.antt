@@ -1,3 +1,5 @@
+-- By recursion on the number of digits allowed: the call writes all digits but the last, and the last one follows. The measure is that
+-- number.
 use borrow.Author.Needs.{needs}
 use native.Mathlib.Omega.{arith}
 use Rattle.text.proofs.Numbers.{dec-one, dec-more, dec-room, dec-less}

@@ -1,3 +1,4 @@
+-- By recursion on the number of digits: the call writes all digits but the last, and the last one follows. The measure is that number.
 use borrow.Author.Needs.{needs}
 use native.Mathlib.Omega.{arith}
 use mathlib.Core.Path.{_∙_}

@@ -1,3 +1,4 @@
+-- A case for each of the five ranges of a byte: below 0, a number, between, a letter, above F.
 use borrow.Author.Needs.{needs}
 use native.Mathlib.Omega.{arith}
 use Rattle.text.proofs.Words.{digit-below, digit-number, digit-between, digit-letter, digit-above}

@@ -1,3 +1,4 @@
+-- A case for each side of the test at 10; the definition makes the same one.
 use borrow.Author.Needs.{needs}
 use borrow.Author.Tests.{lt-ltb, le-ltb}
 use Rattle.text.proofs.glyph.Statement.{statement}

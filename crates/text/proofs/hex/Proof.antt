@@ -1,3 +1,4 @@
+-- The invariant: n is what the digits until i say, below 16^i, and the digits still to come make of it what all of them say.
 use borrow.Author.Needs.{needs}
 use native.Mathlib.Omega.{arith}
 use Prim.Native.Nat.{_≤_, _<_, _-_, _^_}

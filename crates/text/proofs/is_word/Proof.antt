@@ -1,3 +1,4 @@
+-- The invariant: both words agree until i, so comparing what is left is comparing all.
 use borrow.Author.Needs.{needs}
 use native.Mathlib.Omega.{arith}
 use Prim.Native.Nat.{_≤_, _-_}

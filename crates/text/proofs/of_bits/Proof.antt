@@ -1,3 +1,4 @@
+-- An exponent of all ones is an infinity where the digits are 0, and NaN otherwise; any other pattern is a double's own.
 use mathlib.Core.Path.{refl, sym}
 use lib.Ieee.{div, ofBits}
 use Rattle.text.specs.Text.{doubleOf}

@@ -1,3 +1,4 @@
+-- One write, one place further.
 use borrow.Author.Needs.{needs}
 use Rattle.text.proofs.Writing.{one}
 use Rattle.text.proofs.put_byte.Statement.{statement}

@@ -1,3 +1,4 @@
+-- The 16 digits of the bit pattern, which is the callee's contract.
 use borrow.Author.Needs.{needs}
 use Rattle.text.proofs.put_double.Statement.{statement}
 use Rattle.text.proofs.put_double.Tie as tie

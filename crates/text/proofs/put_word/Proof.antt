@@ -1,3 +1,4 @@
+-- The invariant: the first i bytes of the word stand from `at` on, and nothing else has changed.
 use borrow.Author.Needs.{needs}
 use native.Mathlib.Omega.{arith}
 use Prim.Native.Nat.{_≤_, _-_, _+_}

@@ -1,3 +1,4 @@
+-- The invariant: no tab stands before i, so i and the first tab from there on make the first tab of all.
 use borrow.Author.Needs.{needs}
 use native.Mathlib.Omega.{arith}
 use Prim.Native.Nat.{_≤_, _-_, _+_}

@@ -1,3 +1,4 @@
+-- Only NaN differs from itself; its pattern is the quiet one. Any other double has its own bits.
 use borrow.Author.Needs.{needs}
 use mathlib.Core.Path.{sym, ap, subst}
 use lib.Dec.{T}

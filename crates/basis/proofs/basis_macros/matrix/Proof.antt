@@ -1,3 +1,4 @@
+-- A case for each basis: the arm calls the function of that basis, whose contract is the definition's own case.
 use borrow.Author.Needs.{needs}
 use Rattle.basis.proofs.basis_macros.matrix.Statement.{statement}
 use Rattle.basis.proofs.basis_macros.matrix.Tie as tie

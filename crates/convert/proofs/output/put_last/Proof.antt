@@ -1,3 +1,4 @@
+-- A case for each number of values, 1 to 4: the places written are those of the definition's list, and the others stay.
 use mathlib.Core.Path.{_≡_}
 use Prim.Native.Nat.{ℕ, _≤_, _<_}
 use native.Mathlib.Omega.{arith}

@@ -1,3 +1,4 @@
+-- The invariant: the windows of the segments until s stand at the front, and behind them the buffer is as it was lent.
 use borrow.Author.Needs.{needs}
 use mathlib.Core.Path.{_≡_, refl, _∙_}
 use mathlib.Core.List.{_++_}

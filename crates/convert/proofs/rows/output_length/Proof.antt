@@ -1,3 +1,4 @@
+-- The product fits because there are at most 4,096 knots and a step is at most 4; `output-steps` names the steps.
 use native.Mathlib.Omega.{arith}
 use Rattle.convert.proofs.Verdicts.{few-steps, output-steps}
 use borrow.Author.Needs.{needs}

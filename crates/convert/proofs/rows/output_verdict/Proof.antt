@@ -1,3 +1,4 @@
+-- Each way out is the first row that applies: Linear as output, too little room, a knot out of range; or all of them passed.
 use borrow.Author.Tests.{lt-ltb, le-ltb}
 use mathlib.Core.Path.{sym, ap, _∙_}
 use Rattle.error.specs.declared.Refusal.{Refusal}

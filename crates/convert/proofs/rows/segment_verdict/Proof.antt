@@ -1,3 +1,4 @@
+-- A length that fails is told at once (`segment-stops`); otherwise the rows behind the lengths decide (`segment-goes-on`).
 use mathlib.Core.Path.{sym, _∙_}
 use Rattle.spline.proofs.Verdicts.{segment-length-passed}
 use Rattle.convert.proofs.Verdicts.{segment-stops, segment-goes-on}

@@ -1,3 +1,4 @@
+-- A length that fails is told at once (`spline-stops`); otherwise the rows behind the lengths decide (`spline-goes-on`).
 use mathlib.Core.Path.{sym, _∙_}
 use Rattle.spline.proofs.Verdicts.{length-passed}
 use Rattle.convert.proofs.Verdicts.{spline-stops, spline-goes-on}

@@ -1,3 +1,4 @@
+-- The invariant says that the answer lies from `low` to `high`; each comparison keeps it, and the distance between the two falls.
 use borrow.Author.Needs.{needs}
 use mathlib.Core.Path.{sym, ap, _∙_}
 use Prim.Native.Nat.{_+_, _-_, _/_}

@@ -1,3 +1,4 @@
+-- Only the bound 4096 is claimed, so only the wrapped difference needs a fact: the sum is no NaN, and so it has bits.
 use Rattle.doubles.proofs.Order.{no-nan}
 use borrow.Author.Needs.{needs}
 use Rattle.doubles.proofs.whole.guess.Statement.{statement}

@@ -1,3 +1,4 @@
+-- A guess that passes both comparisons is the answer (`confirmed`); any other is dropped, and halving gives it (`answered`).
 use Rattle.doubles.proofs.WholePart.{confirmed, answered}
 use borrow.Author.Needs.{needs}
 use Rattle.doubles.proofs.whole.whole_up_to.Statement.{statement}

@@ -1,3 +1,4 @@
+-- The invariant: no step before i turns back, so the first that does is looked for from i on.
 use mathlib.Core.Path.{_≡_, refl, sym, _∙_}
 use Prim.Native.Nat.{_+_, _-_, _≤_}
 use native.Mathlib.Omega.{arith}

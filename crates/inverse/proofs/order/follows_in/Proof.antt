@@ -1,3 +1,4 @@
+-- A case for each direction; the definition makes the same test.
 use Rattle.inverse.proofs.order.follows_in.Statement.{statement}
 use Rattle.inverse.proofs.order.follows_in.Tie as tie
 

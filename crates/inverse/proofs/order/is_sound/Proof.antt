@@ -1,3 +1,4 @@
+-- Where knots 0, 1 and the last are in range and each pair keeps its direction, every knot lies between two of these, and so in range.
 use mathlib.Core.Path.{sym, ap, _∙_}
 use mathlib.Core.Bool.{Bool}
 use Prim.Native.Nat.{_-_}

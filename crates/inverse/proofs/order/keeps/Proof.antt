@@ -1,3 +1,4 @@
+-- A case for each direction; the scan is the callee's contract.
 use mathlib.Core.Path.{sym, ap, _∙_}
 use mathlib.Core.Bool.{Bool}
 use lib.ListN.{drop}

@@ -1,3 +1,4 @@
+-- Each way out is the first of the two rows that applies, with its place; the quick scan only tells that neither does.
 use mathlib.Core.Path.{sym, _∙_}
 use Rattle.spline.specs.Rows.{allInRange, firstBad}
 use Rattle.inverse.specs.Order.{turnsBack, turningKnot}

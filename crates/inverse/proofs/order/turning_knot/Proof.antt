@@ -1,3 +1,4 @@
+-- The direction is the knots' own, and the first step against it is the callee's contract.
 use mathlib.Core.Path.{ap, _∙_}
 use mathlib.Core.Bool.{Bool}
 use Prim.Native.Nat.{ℕ}

@@ -1,3 +1,4 @@
+-- Each way out is the first row that applies: a length, what is asked, the knots; or none of them.
 use mathlib.Core.Path.{sym, _∙_}
 use lib.ListN.{length}
 use Rattle.spline.proofs.Verdicts.{length-passed}

@@ -1,3 +1,4 @@
+-- A case for each way through the tests; every way but one gives a half, as in the definition.
 use lib.Ieee.{ofBits}
 use Rattle.invert.specs.Round.{fraction, kept}
 use Rattle.invert.proofs.round.fraction.Statement.{statement}

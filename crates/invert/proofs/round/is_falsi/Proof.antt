@@ -1,3 +1,4 @@
+-- A case for each side of the first comparison; the second is the definition's.
 use borrow.Author.Tests.{lt-ltb, le-ltb}
 use Rattle.invert.proofs.round.is_falsi.Statement.{statement}
 use Rattle.invert.proofs.round.is_falsi.Tie as tie

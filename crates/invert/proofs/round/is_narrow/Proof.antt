@@ -1,3 +1,4 @@
+-- A case for each side of the test; the greater of the two is what the width is compared with.
 use lib.Ieee.{ofBits}
 use Rattle.invert.specs.Round.{narrow}
 use borrow.Author.Needs.{needs}

@@ -1,3 +1,4 @@
+-- A case for the end that moves and for whether it moved last; the count grows only on a repeated side.
 use native.Mathlib.Numerals.{add-one}
 use native.Mathlib.Omega.{arith}
 use borrow.Author.Tests.{eq-eqb, ne-eqb}

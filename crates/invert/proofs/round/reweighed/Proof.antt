@@ -1,3 +1,4 @@
+-- A case for each weighting; each is its function's contract.
 use borrow.Author.Needs.{needs}
 use Rattle.invert.proofs.round.reweighed.Statement.{statement}
 use Rattle.invert.proofs.round.reweighed.Tie as tie

@@ -1,3 +1,4 @@
+-- A case for each end; the operations are the definition's.
 use lib.Ieee.{ofBits}
 use Rattle.invert.specs.Round.{toward}
 use Rattle.invert.proofs.round.toward.Statement.{statement}

@@ -1,3 +1,4 @@
+-- Each way out is the first row that applies: NaN, a bad precision, no rounds; or none of them.
 use mathlib.Core.Path.{sym, _∙_}
 use borrow.Author.Tests.{eq-eqb, ne-eqb}
 use Rattle.doubles.proofs.Order.{ne-itself}

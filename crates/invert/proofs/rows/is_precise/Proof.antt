@@ -1,3 +1,4 @@
+-- A case for each side of the first comparison; the second is with infinity, which the code makes by a division.
 use lib.Ieee.{ofBits, div}
 use Rattle.invert.specs.Answer.{precise}
 use Rattle.invert.proofs.rows.is_precise.Statement.{statement}

@@ -1,3 +1,4 @@
+-- Each way out is the first row that applies: a length, what is asked, a knot out of range; or none of them.
 use mathlib.Core.Path.{sym, _∙_}
 use Rattle.invert.proofs.Verdicts.{by-length, by-asked, by-none, by-knots}
 use lib.ListN.{length}

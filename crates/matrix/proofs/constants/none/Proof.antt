@@ -1,3 +1,4 @@
+-- Linear's matrix has no pivot in some column: the elimination of the definition stops there, and its zeros are these.
 use mathlib.Core.Path.{refl}
 use lib.Ieee.{ofBits}
 use Rattle.matrix.specs.Elimination.{inverseOf}

@@ -1,3 +1,4 @@
+-- Segment s starts at s × STEP and its four knots lie inside the slice (`starts`). The parts of the definition are then put together.
 use mathlib.Core.Path.{refl}
 use native.Mathlib.Omega.{arith}
 use lib.ListN.{length, length-drop}

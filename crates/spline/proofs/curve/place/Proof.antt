@@ -1,3 +1,4 @@
+-- The clamp, the product and the whole part are the callees' contracts; `spotted` joins them to the definition's segment and local place.
 use native.Mathlib.Omega.{arith}
 use Rattle.spline.proofs.Parts.{spotted}
 use borrow.Author.Needs.{needs}

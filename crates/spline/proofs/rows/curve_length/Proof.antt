@@ -1,3 +1,4 @@
+-- A case for each way out; each is the first row of the lengths that applies.
 use mathlib.Core.Path.{sym, _∙_}
 use borrow.Author.Tests.{lt-ltb, le-ltb}
 use borrow.Author.Needs.{needs}

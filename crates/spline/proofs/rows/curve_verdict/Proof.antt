@@ -1,3 +1,4 @@
+-- Each way out is the first row that applies: a length, then NaN, then a knot out of range; or all of them passed.
 use mathlib.Core.Path.{sym, _∙_}
 use Rattle.spline.proofs.Verdicts.{curve-stops, curve-number, curve-passes, curve-knot, length-passed}
 use lib.ListN.{length}

@@ -1,3 +1,4 @@
+-- The invariant: the knots before i are in range, so i and the first bad one from there on make the first bad one of all.
 use mathlib.Core.Path.{_≡_, sym, _∙_}
 use Prim.Native.Nat.{_+_, _-_, _≤_}
 use native.Mathlib.Omega.{arith}

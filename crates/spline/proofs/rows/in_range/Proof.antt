@@ -1,3 +1,4 @@
+-- A case for each side of the first comparison; the definition makes both in the same order.
 use lib.Ieee.{ofBits, neg}
 use Rattle.spline.specs.Rows.{inRange}
 use Rattle.spline.proofs.rows.in_range.Statement.{statement}

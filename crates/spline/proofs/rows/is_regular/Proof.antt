@@ -1,3 +1,4 @@
+-- A case for each basis: a remainder by STEP, which is 0 where STEP is 1.
 use native.Mathlib.Nat.{mod-one}
 use borrow.Author.Needs.{needs}
 use Rattle.spline.proofs.rows.is_regular.Statement.{statement}

@@ -1,3 +1,4 @@
+-- A case for each way out; each is the first row of the lengths that applies.
 use borrow.Author.Tests.{lt-ltb, le-ltb}
 use Rattle.spline.proofs.rows.segment_length.Statement.{statement}
 use Rattle.spline.proofs.rows.segment_length.Tie as tie

@@ -1,3 +1,4 @@
+-- Each way out is the first row that applies: a length, then a parameter outside 0 to 1, then a knot out of range; or all passed.
 use mathlib.Core.Path.{sym, _∙_}
 use lib.Ieee.{ofBits}
 use Rattle.spline.proofs.Verdicts.{segment-stops, segment-below, segment-above, segment-passes, segment-knot, segment-length-passed}

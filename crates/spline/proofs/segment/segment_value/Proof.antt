@@ -1,3 +1,4 @@
+-- A case for each basis: its matrix is the definition's, and sums and cubic are the callees' contracts.
 use Rattle.spline.proofs.Parts.{by-basis-segment}
 use borrow.Author.Needs.{needs}
 use Rattle.spline.proofs.segment.segment_value.Statement.{statement}

@@ -1,3 +1,4 @@
+-- The code is the definition, operation by operation; what is left are the indices, all below 4.
 use mathlib.Core.Path.{refl}
 use borrow.Author.Needs.{needs}
 use Rattle.spline.proofs.segment.sums.Statement.{statement}

@@ -1,3 +1,4 @@
+-- A case for each basis: its matrix is the definition's, and the sums are the callee's contract.
 use borrow.Author.Needs.{needs}
 use Rattle.spline.proofs.segment.weights.Statement.{statement}
 use Rattle.spline.proofs.segment.weights.Tie as tie

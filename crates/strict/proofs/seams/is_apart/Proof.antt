@@ -1,3 +1,4 @@
+-- The code is the definition; the magnitude is the callee's contract.
 use mathlib.Core.Path.{ap}
 use lib.Ieee.{Float, lt}
 use borrow.Author.Needs.{needs}

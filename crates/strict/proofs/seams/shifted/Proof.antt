@@ -1,3 +1,4 @@
+-- A case for each step of the output, 1 to 4: what is left of the old window, then what is written of the new one.
 use native.Mathlib.Omega.{arith}
 use Rattle.strict.proofs.Scan.{shift-1, shift-2, shift-3, shift-4}
 use Rattle.strict.proofs.seams.shifted.Statement.{statement}

@@ -1,3 +1,4 @@
+-- The invariant says that the second lies from `low` to `high`; each comparison keeps it, and the distance between the two falls.
 use borrow.Author.Needs.{needs}
 use Prim.Native.Nat.{_+_, _-_, _/_}
 use native.Mathlib.Omega.{arith}
