@@ -1,6 +1,6 @@
 /* How deep each call goes: it runs on a painted stack of its own, and the lowest byte that lost its paint is told.
  * What the switch of stacks itself takes is measured with an empty call and taken off. Exits with 1 where a call goes
- * deeper than it should; c/simmerstoat.h says how deep it goes. */
+ * deeper than it should; c/simmerstoat.h says how deep it goes today. */
 #include "simmerstoat.h"
 
 #include <stdio.h>
@@ -10,8 +10,8 @@
 
 enum { SIZE = 1 << 15, PAINT = 0xA5, KNOTS = 4096 };
 
-/* The limits that the header tells, in bytes. */
-enum { EVALUATION = 96, INVERSION = 592, CONVERSION = 440, STRICT = 656 };
+/* The limits that are aimed at, in bytes; the header tells what each call takes today, which is more for some. */
+enum { EVALUATION = 96, INVERSION = 512, CONVERSION = 400, STRICT = 512 };
 
 static unsigned char *stack;
 static ucontext_t back, there;
