@@ -12,8 +12,8 @@ use Rattle.basis.specs.declared.Basis.{Basis}
 use Rattle.basis.specs.Basis.{stepOf}
 use Rattle.spline.specs.declared.Weights.{Weights}
 use Rattle.spline.specs.Segment.{weightsOf}
-use Rattle.matrix.specs.Matrix.{Matrix}
-use Rattle.matrix.specs.Elimination.{conversionOf}
+use Rattle.convert_matrix.specs.Matrix.{Matrix}
+use Rattle.convert_matrix.specs.Elimination.{conversionOf}
 use Rattle.convert.specs.declared.Converted.{Converted}
 use Rattle.convert.specs.declared.Converted.the-variants.{Written, Refused}
 use Rattle.convert.specs.Output.{windows, segmentOutput, splineOutput}

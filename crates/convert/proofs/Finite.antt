@@ -15,9 +15,9 @@ use Rattle.doubles.proofs.Bounds.{within-finite}
 use Rattle.spline.specs.Rows.{allInRange}
 use Rattle.spline.proofs.Finite.{Four, Small, Finite, none, more, joined, row-finite, knots-within}
 use Rattle.spline.proofs.Parts.{inside}
-use Rattle.matrix.specs.Matrix.{Matrix, row, applied}
-use Rattle.matrix.specs.Elimination.{conversionOf}
-use Rattle.matrix.proofs.Inverses.{conversion-small}
+use Rattle.convert_matrix.specs.Matrix.{Matrix, row, applied}
+use Rattle.convert_matrix.specs.Elimination.{conversionOf}
+use Rattle.convert_matrix.proofs.Inverses.{conversion-small}
 use Rattle.convert.specs.Output.{windows, segmentOutput, splineOutput}
 use Rattle.convert.specs.Conversion.{gives, convertSegmentUses, convertUses, convertedSegmentOf, convertedOf}
 use Rattle.convert.proofs.Kept.{given}

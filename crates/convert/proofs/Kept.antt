@@ -15,7 +15,7 @@ use Rattle.error.proofs.First.{never}
 use Rattle.basis.specs.declared.Basis.{Basis}
 use Rattle.basis.specs.declared.Basis.the-variants.{Bspline, Bezier, CatmullRom, Hermite, Linear, Power}
 use Rattle.basis.specs.Basis.{stepOf, segmentsOf}
-use Rattle.matrix.specs.Elimination.{conversionOf}
+use Rattle.convert_matrix.specs.Elimination.{conversionOf}
 use Rattle.convert.specs.Output.{segmentOutput, splineOutput, outputLength}
 use Rattle.convert.specs.Conversion.{gives, unless, convertSegmentUses, convertUses, convertedSegmentOf, convertedOf}
 use Rattle.convert.specs.Buffer.{bufferOf}

@@ -12,7 +12,7 @@ use lib.Ieee.{Float}
 use Rattle.spline.specs.declared.Weights.{Weights}
 use Rattle.spline.specs.Segment.{weightsOf}
 use Rattle.spline.proofs.Parts.{rest, inside, few}
-use Rattle.matrix.specs.Matrix.{Matrix, applied}
+use Rattle.convert_matrix.specs.Matrix.{Matrix, applied}
 use Rattle.convert.specs.Output.{windowOf, windows}
 use Rattle.convert.specs.Shown.{placed, listOf}
 

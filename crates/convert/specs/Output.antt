@@ -5,8 +5,8 @@ use lib.ListN.{length, drop}
 use lib.Ieee.{Float, add, mul}
 use Rattle.basis.specs.declared.Basis.{Basis}
 use Rattle.basis.specs.Basis.{stepOf, segmentsOf}
-use Rattle.matrix.specs.Matrix.{Matrix, applied}
-use Rattle.matrix.specs.Elimination.{conversionOf}
+use Rattle.convert_matrix.specs.Matrix.{Matrix, applied}
+use Rattle.convert_matrix.specs.Elimination.{conversionOf}
 
 -- segment s: the matrix applied to the four knots from place s × step onward
 abbrev pub windowOf : Matrix → ℕ → List Float → ℕ → List Float

@@ -23,7 +23,7 @@ pub fn convert_segment(from: Basis, to: Basis, cv: &[f64], out: &mut [f64]) -> C
     match v {
         Verdict::Failed(r) => Converted::Refused(r),
         Verdict::Passed => {
-            let m = matrix::conversion_matrix(from, to);
+            let m = convert_matrix::conversion_matrix(from, to);
             output::put_last(out, 0, spline::segment::sums(m, cv), 4);
             Converted::Written(4)
         }
@@ -38,7 +38,7 @@ pub fn convert_spline(from: Basis, to: Basis, knots: &[f64], out: &mut [f64]) ->
     match v {
         Verdict::Failed(r) => Converted::Refused(r),
         Verdict::Passed => {
-            let m = matrix::conversion_matrix(from, to);
+            let m = convert_matrix::conversion_matrix(from, to);
             Converted::Written(output::put_windows(
                 m,
                 basis::step(from),

@@ -7,25 +7,25 @@ use native.Mathlib.Nat.{lt-of-le-of-lt}
 use lib.Dec.{lit<}
 use lib.ListN.{length, replicate, length-replicate}
 use Rattle.doubles.specs.Numbers.{nought}
-use Rattle.invert.specs.Evaluations.{Evaluations}
+use Rattle.inverse_segment.specs.Evaluations.{Evaluations}
 use lib.Ieee.{Float, isNan}
 use Rattle.error.proofs.First.{never}
 use Rattle.basis.specs.declared.Basis.{Basis}
 use Rattle.basis.specs.Basis.{stepOf, segmentsOf}
 use Rattle.spline.specs.Segment.{segmentOf}
 use Rattle.spline.specs.Rows.{allInRange}
-use Rattle.invert.specs.declared.Place.{Place}
-use Rattle.invert.specs.declared.Inverted.the-variants.{At}
-use Rattle.invert.specs.Segment.{Outcome, off, placed}
-use Rattle.invert.specs.Answer.{answered, alone}
-use Rattle.invert.proofs.Enclosing.{Numbers}
-use Rattle.steady.specs.declared.Method.{Method}
-use Rattle.steady.specs.Method.{ruleOf}
-use Rattle.steady.proofs.Lawful.{lawful-of}
-use Rattle.search.specs.Trial.{trial}
-use Rattle.search.specs.Search.{find}
-use Rattle.search.proofs.Found.{Result, missed, got}
-use Rattle.search.proofs.Sound.{SoundIn, find-sound}
+use Rattle.inverse_segment.specs.declared.Place.{Place}
+use Rattle.inverse_segment.specs.declared.Inverted.the-variants.{At}
+use Rattle.inverse_segment.specs.Segment.{Outcome, off, placed}
+use Rattle.inverse_segment.specs.Answer.{answered, alone}
+use Rattle.inverse_segment.proofs.Enclosing.{Numbers}
+use Rattle.inverse_methods.specs.declared.Method.{Method}
+use Rattle.inverse_methods.specs.Method.{ruleOf}
+use Rattle.inverse_methods.proofs.Lawful.{lawful-of}
+use Rattle.inverse_search.specs.Trial.{trial}
+use Rattle.inverse_search.specs.Search.{find}
+use Rattle.inverse_search.proofs.Found.{Result, missed, got}
+use Rattle.inverse_search.proofs.Sound.{SoundIn, find-sound}
 use Rattle.inverse.proofs.Curve.{segments-some, segments-few, segments-fit, curve-numbers}
 
 module _ (b : Basis) (y ε : Float) (ks : List Float) (limit k : ℕ) (e : k ≡ segmentsOf b (length ks)) (long : 4 ≤ length ks) (short : length ks ≤ 4096) where

@@ -8,21 +8,21 @@ use lib.Ieee.{Float, lt}
 use types.Run.{OneOf, miss}
 use Rattle.error.proofs.First.{never}
 use Rattle.doubles.specs.Numbers.{nought, one}
-use Rattle.invert.specs.declared.Place.{Place}
-use Rattle.invert.specs.declared.Inverted.{Inverted}
-use Rattle.invert.specs.declared.Inverted.the-variants.{At}
-use Rattle.invert.specs.Segment.{Outcome, off, placed}
-use Rattle.invert.specs.Answer.{answered, alone}
+use Rattle.inverse_segment.specs.declared.Place.{Place}
+use Rattle.inverse_segment.specs.declared.Inverted.{Inverted}
+use Rattle.inverse_segment.specs.declared.Inverted.the-variants.{At}
+use Rattle.inverse_segment.specs.Segment.{Outcome, off, placed}
+use Rattle.inverse_segment.specs.Answer.{answered, alone}
 use Rattle.basis.specs.declared.Basis.{Basis}
 use Rattle.basis.specs.Basis.{stepOf, matrixOf, segmentsOf}
 use Rattle.spline.specs.declared.Weights.{Weights}
 use Rattle.spline.specs.Segment.{weightsOf, hornerOf, segmentOf}
-use Rattle.invert.specs.Evaluations.{Evaluations}
-use Rattle.steady.specs.declared.Method.{Method}
-use Rattle.invert.specs.Round.{Rule}
-use Rattle.steady.specs.Method.{ruleOf}
-use Rattle.search.specs.Trial.{trial}
-use Rattle.search.specs.Search.{find}
+use Rattle.inverse_segment.specs.Evaluations.{Evaluations}
+use Rattle.inverse_methods.specs.declared.Method.{Method}
+use Rattle.inverse_segment.specs.Round.{Rule}
+use Rattle.inverse_methods.specs.Method.{ruleOf}
+use Rattle.inverse_search.specs.Trial.{trial}
+use Rattle.inverse_search.specs.Search.{find}
 use Rattle.inverse.specs.declared.Ends.{Ends}
 use Rattle.inverse.specs.declared.EndsBy.{EndsBy}
 use Rattle.inverse.specs.declared.EndsBy.the-variants.{Knots, Curve}

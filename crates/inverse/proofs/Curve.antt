@@ -13,8 +13,8 @@ use Rattle.doubles.proofs.Tests.{holds, fails}
 use Rattle.spline.specs.Segment.{segmentOf}
 use Rattle.spline.specs.Rows.{allInRange}
 use Rattle.spline.proofs.Parts.{inside, few}
-use Rattle.invert.proofs.Enclosing.{Numbers}
-use Rattle.invert.proofs.Call.{segment-numbers}
+use Rattle.inverse_segment.proofs.Enclosing.{Numbers}
+use Rattle.inverse_segment.proofs.Call.{segment-numbers}
 
 module _ (b : Basis) (n : ℕ) where
   pub segments-some : 0 < segmentsOf b n

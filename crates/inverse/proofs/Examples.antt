@@ -15,14 +15,14 @@ use Rattle.doubles.specs.Lerp.{lerpOf}
 use Rattle.doubles.proofs.Tests.{each, each-at}
 use Rattle.spline.specs.Segment.{segmentOf}
 use Rattle.spline.specs.Rows.{inRange, allInRange}
-use Rattle.invert.specs.declared.Inverted.the-variants.{OffCurve}
-use Rattle.invert.specs.Round.{narrow, halving, weighed, chord, kept, fraction, moved, settled, probed, turn}
-use Rattle.invert.specs.Rounds.{rounds}
-use Rattle.invert.specs.Segment.{entered, enter}
-use Rattle.invert.specs.Answer.{precise, defaultLimit, defaultPrecision}
-use Rattle.search.specs.Bound.{bitsOf}
-use Rattle.search.specs.Search.{tries, last, halve, find}
-use Rattle.search.proofs.Found.{Holds, Straight}
+use Rattle.inverse_segment.specs.declared.Inverted.the-variants.{OffCurve}
+use Rattle.inverse_segment.specs.Round.{narrow, halving, weighed, chord, kept, fraction, moved, settled, probed, turn}
+use Rattle.inverse_segment.specs.Rounds.{rounds}
+use Rattle.inverse_segment.specs.Segment.{entered, enter}
+use Rattle.inverse_segment.specs.Answer.{precise, defaultLimit, defaultPrecision}
+use Rattle.inverse_search.specs.Bound.{bitsOf}
+use Rattle.inverse_search.specs.Search.{tries, last, halve, find}
+use Rattle.inverse_search.proofs.Found.{Holds, Straight}
 use Rattle.inverse.specs.Order.{ordered}
 use Rattle.inverse.specs.Curve.{parameterOf, located}
 use Rattle.inverse.specs.Inverse.{inverseBy, inverseOf}

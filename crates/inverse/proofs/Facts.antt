@@ -14,23 +14,23 @@ use Rattle.doubles.proofs.Order.{le-trans-float}
 use Rattle.doubles.proofs.Bounds.{InOne}
 use Rattle.doubles.proofs.Units.{InUnit, nought-in, one-in, nought-le}
 use Rattle.doubles.proofs.Share.{share-in}
-use Rattle.invert.specs.declared.Ground.{Ground}
-use Rattle.invert.specs.declared.Ground.the-variants.{End, Edge, Value, Width, Spent}
-use Rattle.invert.specs.declared.Place.{Place}
-use Rattle.invert.specs.declared.Inverted.{Inverted}
-use Rattle.invert.specs.declared.Inverted.the-variants.{Refused, OffCurve, At}
-use Rattle.invert.specs.Agreed.{Agreed}
-use Rattle.invert.specs.Evaluations.{Evaluations}
-use Rattle.invert.specs.Segment.{Outcome, off, placed, encloses, near, evaluationsOf}
-use Rattle.invert.specs.Answer.{answered, countTold}
-use Rattle.invert.proofs.Enclosing.{Numbers, Says}
-use Rattle.invert.proofs.Places.{bracket-encloses}
-use Rattle.invert.specs.Round.{Rule}
-use Rattle.search.specs.Trial.{trial}
-use Rattle.invert.proofs.Rules.{Lawful}
-use Rattle.search.specs.Search.{find}
-use Rattle.search.proofs.Found.{Holds}
-use Rattle.search.proofs.Listed.{find-grows, find-same}
+use Rattle.inverse_segment.specs.declared.Ground.{Ground}
+use Rattle.inverse_segment.specs.declared.Ground.the-variants.{End, Edge, Value, Width, Spent}
+use Rattle.inverse_segment.specs.declared.Place.{Place}
+use Rattle.inverse_segment.specs.declared.Inverted.{Inverted}
+use Rattle.inverse_segment.specs.declared.Inverted.the-variants.{Refused, OffCurve, At}
+use Rattle.inverse_segment.specs.Agreed.{Agreed}
+use Rattle.inverse_segment.specs.Evaluations.{Evaluations}
+use Rattle.inverse_segment.specs.Segment.{Outcome, off, placed, encloses, near, evaluationsOf}
+use Rattle.inverse_segment.specs.Answer.{answered, countTold}
+use Rattle.inverse_segment.proofs.Enclosing.{Numbers, Says}
+use Rattle.inverse_segment.proofs.Places.{bracket-encloses}
+use Rattle.inverse_segment.specs.Round.{Rule}
+use Rattle.inverse_search.specs.Trial.{trial}
+use Rattle.inverse_segment.proofs.Rules.{Lawful}
+use Rattle.inverse_search.specs.Search.{find}
+use Rattle.inverse_search.proofs.Found.{Holds}
+use Rattle.inverse_search.proofs.Listed.{find-grows, find-same}
 use Rattle.inverse.specs.declared.Ends.{Ends}
 use Rattle.inverse.specs.EndRule.{atLow, atHigh}
 use Rattle.inverse.specs.Curve.{parameterOf, ended, located, evaluations}

@@ -14,21 +14,21 @@ use Rattle.basis.specs.declared.Basis.{Basis}
 use Rattle.basis.specs.Basis.{segmentsOf}
 use Rattle.doubles.specs.Numbers.{nought, one}
 use Rattle.spline.specs.Segment.{segmentOf}
-use Rattle.invert.specs.declared.Place.{Place}
-use Rattle.invert.specs.declared.Inverted.{Inverted}
-use Rattle.invert.specs.declared.Inverted.the-variants.{Refused, OffCurve, At}
-use Rattle.invert.specs.Evaluations.{Evaluations}
-use Rattle.invert.specs.Round.{Rule}
-use Rattle.invert.specs.Rounds.{Placed}
-use Rattle.invert.specs.Segment.{Outcome}
-use Rattle.invert.specs.Answer.{placeOf, answered, inverted}
-use Rattle.steady.specs.declared.Method.{Method}
-use Rattle.steady.specs.Method.{ruleOf}
-use Rattle.invert.proofs.Later.{isEnd, More}
-use Rattle.search.specs.Search.{find}
-use Rattle.search.specs.Trial.{trial}
-use Rattle.search.specs.Twice.{trialTwice}
-use Rattle.search.proofs.Fewer as search
+use Rattle.inverse_segment.specs.declared.Place.{Place}
+use Rattle.inverse_segment.specs.declared.Inverted.{Inverted}
+use Rattle.inverse_segment.specs.declared.Inverted.the-variants.{Refused, OffCurve, At}
+use Rattle.inverse_segment.specs.Evaluations.{Evaluations}
+use Rattle.inverse_segment.specs.Round.{Rule}
+use Rattle.inverse_segment.specs.Rounds.{Placed}
+use Rattle.inverse_segment.specs.Segment.{Outcome}
+use Rattle.inverse_segment.specs.Answer.{placeOf, answered, inverted}
+use Rattle.inverse_methods.specs.declared.Method.{Method}
+use Rattle.inverse_methods.specs.Method.{ruleOf}
+use Rattle.inverse_segment.proofs.Later.{isEnd, More}
+use Rattle.inverse_search.specs.Search.{find}
+use Rattle.inverse_search.specs.Trial.{trial}
+use Rattle.inverse_search.specs.Twice.{trialTwice}
+use Rattle.inverse_search.proofs.Fewer as search
 use Rattle.inverse.specs.declared.Ends.{Ends}
 use Rattle.inverse.specs.declared.EndsBy.{EndsBy}
 use Rattle.inverse.specs.EndRule.{atLow, atHigh, endRuleOf}

@@ -10,19 +10,19 @@ use lib.Ieee.Bits.{is-false}
 use Rattle.basis.specs.declared.Basis.{Basis}
 use Rattle.basis.specs.Basis.{segmentsOf}
 use Rattle.spline.specs.Segment.{segmentOf}
-use Rattle.invert.specs.declared.Place.{Place}
-use Rattle.invert.specs.declared.Inverted.{Inverted}
-use Rattle.invert.specs.declared.Inverted.the-variants.{At}
-use Rattle.invert.specs.Rounds.{Placed}
-use Rattle.invert.specs.Segment.{Outcome, placed}
-use Rattle.invert.specs.Answer.{answered}
-use Rattle.search.proofs.Found.{Holds, Nothing}
-use Rattle.search.proofs.First.{first-entered}
-use Rattle.search.specs.Trial.{trial}
-use Rattle.steady.specs.declared.Method.{Method}
-use Rattle.steady.specs.Method.{ruleOf}
-use Rattle.steady.proofs.Lawful.{lawful-of}
-use Rattle.search.proofs.Sound.{SoundIn, trial-tried}
+use Rattle.inverse_segment.specs.declared.Place.{Place}
+use Rattle.inverse_segment.specs.declared.Inverted.{Inverted}
+use Rattle.inverse_segment.specs.declared.Inverted.the-variants.{At}
+use Rattle.inverse_segment.specs.Rounds.{Placed}
+use Rattle.inverse_segment.specs.Segment.{Outcome, placed}
+use Rattle.inverse_segment.specs.Answer.{answered}
+use Rattle.inverse_search.proofs.Found.{Holds, Nothing}
+use Rattle.inverse_search.proofs.First.{first-entered}
+use Rattle.inverse_search.specs.Trial.{trial}
+use Rattle.inverse_methods.specs.declared.Method.{Method}
+use Rattle.inverse_methods.specs.Method.{ruleOf}
+use Rattle.inverse_methods.proofs.Lawful.{lawful-of}
+use Rattle.inverse_search.proofs.Sound.{SoundIn, trial-tried}
 use Rattle.inverse.specs.declared.EndsBy.{EndsBy}
 use Rattle.inverse.specs.EndRule.{atLow, atHigh, endRuleOf}
 use Rattle.inverse.specs.Curve.{parameterOf, located}

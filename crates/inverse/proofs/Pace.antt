@@ -12,28 +12,28 @@ use lib.Ieee.Exact.{HasValue}
 use Rattle.doubles.specs.Numbers.{nought, one}
 use Rattle.doubles.proofs.Tests.{branch}
 use Rattle.doubles.proofs.Units.{nought-in, one-in}
-use Rattle.invert.specs.declared.Place.{Place}
-use Rattle.invert.specs.declared.Inverted.{Inverted}
-use Rattle.invert.specs.declared.Inverted.the-variants.{OffCurve, At}
-use Rattle.invert.specs.Evaluations.{Evaluations}
-use Rattle.invert.specs.Rounds.{Placed}
-use Rattle.invert.specs.Segment.{encloses, near, entered, enter, Outcome, off, placed}
-use Rattle.invert.specs.Answer.{answered, countTold}
-use Rattle.invert.proofs.Ends.{both}
-use Rattle.invert.proofs.Enclosing.{Numbers}
-use Rattle.search.specs.Bound.{bitsOf, boundOf}
-use Rattle.search.specs.Search.{find}
-use Rattle.search.specs.Trial.{trial}
-use Rattle.search.proofs.Found.{Nothing, Straight, Tried, shut, hit, Result, missed, got, probes, find-says}
+use Rattle.inverse_segment.specs.declared.Place.{Place}
+use Rattle.inverse_segment.specs.declared.Inverted.{Inverted}
+use Rattle.inverse_segment.specs.declared.Inverted.the-variants.{OffCurve, At}
+use Rattle.inverse_segment.specs.Evaluations.{Evaluations}
+use Rattle.inverse_segment.specs.Rounds.{Placed}
+use Rattle.inverse_segment.specs.Segment.{encloses, near, entered, enter, Outcome, off, placed}
+use Rattle.inverse_segment.specs.Answer.{answered, countTold}
+use Rattle.inverse_segment.proofs.Ends.{both}
+use Rattle.inverse_segment.proofs.Enclosing.{Numbers}
+use Rattle.inverse_search.specs.Bound.{bitsOf, boundOf}
+use Rattle.inverse_search.specs.Search.{find}
+use Rattle.inverse_search.specs.Trial.{trial}
+use Rattle.inverse_search.proofs.Found.{Nothing, Straight, Tried, shut, hit, Result, missed, got, probes, find-says}
 use Rattle.inverse.specs.declared.Ends.{Ends}
 use Rattle.inverse.specs.EndRule.{atLow, atHigh}
 use Rattle.inverse.specs.Curve.{parameterOf, ended, located}
 use Rattle.inverse.proofs.Facts.{AtPlace}
-use Rattle.invert.specs.Round.{Rule}
-use Rattle.invert.proofs.Rules.{Lawful}
-use Rattle.steady.specs.Steady.{paced}
-use Rattle.steady.proofs.Ending.{isSpent}
-use Rattle.steady.proofs.Timely as S
+use Rattle.inverse_segment.specs.Round.{Rule}
+use Rattle.inverse_segment.proofs.Rules.{Lawful}
+use Rattle.inverse_methods.specs.Steady.{paced}
+use Rattle.inverse_methods.proofs.Ending.{isSpent}
+use Rattle.inverse_methods.proofs.Timely as S
 
 -- with a precision of h units above 2^(5 - N) + 7·2^-53
 module _ (R : Rule) (lawful : Lawful R) (y ε : Float) (limit N K h : ℕ) (e-N : N + K ≡ low binary64 + 5) (v : HasValue ε false h (2 ^ low binary64)) (small : 2 ^ K + 7 * 2 ^ 1021 < h) where

@@ -17,17 +17,17 @@ use Rattle.error.specs.Refusals.{first}
 use Rattle.basis.specs.declared.Basis.{Basis}
 use Rattle.basis.specs.Basis.{segmentsOf}
 use Rattle.spline.specs.Segment.{segmentOf}
-use Rattle.invert.specs.declared.Place.{Place}
-use Rattle.invert.specs.declared.Inverted.{Inverted}
-use Rattle.invert.specs.declared.Inverted.the-variants.{Refused, OffCurve, At}
-use Rattle.invert.specs.Agreed.{Agreed}
-use Rattle.invert.specs.Answer.{inverted, countTold, unlessRefused}
-use Rattle.steady.specs.declared.Method.{Method}
-use Rattle.steady.specs.Method.{ruleOf}
-use Rattle.steady.proofs.Lawful.{lawful-of}
-use Rattle.invert.proofs.Enclosing.{Numbers}
-use Rattle.search.specs.Bound.{bitsOf, boundOf}
-use Rattle.search.proofs.Found.{Holds}
+use Rattle.inverse_segment.specs.declared.Place.{Place}
+use Rattle.inverse_segment.specs.declared.Inverted.{Inverted}
+use Rattle.inverse_segment.specs.declared.Inverted.the-variants.{Refused, OffCurve, At}
+use Rattle.inverse_segment.specs.Agreed.{Agreed}
+use Rattle.inverse_segment.specs.Answer.{inverted, countTold, unlessRefused}
+use Rattle.inverse_methods.specs.declared.Method.{Method}
+use Rattle.inverse_methods.specs.Method.{ruleOf}
+use Rattle.inverse_methods.proofs.Lawful.{lawful-of}
+use Rattle.inverse_segment.proofs.Enclosing.{Numbers}
+use Rattle.inverse_search.specs.Bound.{bitsOf, boundOf}
+use Rattle.inverse_search.proofs.Found.{Holds}
 use Rattle.inverse.specs.declared.EndsBy.{EndsBy}
 use Rattle.inverse.specs.declared.EndsBy.the-variants.{Knots, Curve}
 use Rattle.inverse.specs.EndRule.{EndRule, endRuleOf, own}

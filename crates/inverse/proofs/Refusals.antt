@@ -17,12 +17,12 @@ use Rattle.basis.specs.declared.Basis.{Basis}
 use Rattle.basis.specs.Basis.{segmentsOf}
 use Rattle.doubles.proofs.Tests.{branch}
 use Rattle.spline.specs.Segment.{segmentOf}
-use Rattle.invert.specs.declared.Inverted.the-variants.{Refused}
-use Rattle.invert.proofs.Verdicts.{Past, answered-past, refused-by}
-use Rattle.steady.specs.declared.Method.{Method}
-use Rattle.steady.specs.Method.{ruleOf}
-use Rattle.search.specs.Trial.{trial}
-use Rattle.search.specs.Search.{find}
+use Rattle.inverse_segment.specs.declared.Inverted.the-variants.{Refused}
+use Rattle.inverse_segment.proofs.Verdicts.{Past, answered-past, refused-by}
+use Rattle.inverse_methods.specs.declared.Method.{Method}
+use Rattle.inverse_methods.specs.Method.{ruleOf}
+use Rattle.inverse_search.specs.Trial.{trial}
+use Rattle.inverse_search.specs.Search.{find}
 use Rattle.inverse.specs.Order.{turnsBack, turningKnot}
 use Rattle.inverse.specs.declared.EndsBy.{EndsBy}
 use Rattle.inverse.specs.EndRule.{atLow, atHigh, endRuleOf}

@@ -16,14 +16,14 @@ use Rattle.basis.specs.declared.Basis.{Basis}
 use Rattle.basis.specs.Basis.{segmentsOf}
 use Rattle.doubles.proofs.Units.{clear}
 use Rattle.spline.specs.Segment.{segmentOf}
-use Rattle.invert.specs.declared.Inverted.{Inverted}
-use Rattle.invert.specs.Answer.{countTold, defaultPrecision}
-use Rattle.search.specs.Bound.{boundOf}
-use Rattle.steady.specs.declared.Method.the-variants.{Steady}
-use Rattle.steady.specs.Steady.{secant}
-use Rattle.steady.proofs.Lawful.{secant-lawful}
-use Rattle.steady.proofs.Ending.{isSpent}
-use Rattle.steady.proofs.Timely.{default-at, default-above, units-above}
+use Rattle.inverse_segment.specs.declared.Inverted.{Inverted}
+use Rattle.inverse_segment.specs.Answer.{countTold, defaultPrecision}
+use Rattle.inverse_search.specs.Bound.{boundOf}
+use Rattle.inverse_methods.specs.declared.Method.the-variants.{Steady}
+use Rattle.inverse_methods.specs.Steady.{secant}
+use Rattle.inverse_methods.proofs.Lawful.{secant-lawful}
+use Rattle.inverse_methods.proofs.Ending.{isSpent}
+use Rattle.inverse_methods.proofs.Timely.{default-at, default-above, units-above}
 use Rattle.inverse.specs.declared.EndsBy.{EndsBy}
 use Rattle.inverse.specs.EndRule.{endRuleOf, own}
 use Rattle.inverse.specs.Inverse.{inverseBy}

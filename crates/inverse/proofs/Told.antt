@@ -9,20 +9,20 @@ use lib.ListN.{length}
 use lib.Ieee.{Float, lt}
 use Rattle.doubles.specs.Numbers.{nought, one}
 use Rattle.doubles.proofs.Tests.{branch}
-use Rattle.invert.specs.declared.Place.{Place}
-use Rattle.invert.specs.declared.Inverted.{Inverted}
-use Rattle.invert.specs.declared.Inverted.the-variants.{OffCurve, At}
-use Rattle.invert.specs.Evaluations.{Evaluations}
-use Rattle.invert.specs.Segment.{Outcome, off, placed}
-use Rattle.invert.specs.Answer.{answered}
-use Rattle.invert.proofs.Enclosing.{Numbers, Sound}
-use Rattle.search.specs.Bound.{bitsOf, boundOf}
-use Rattle.invert.specs.Round.{Rule}
-use Rattle.search.specs.Trial.{trial}
-use Rattle.invert.proofs.Rules.{Lawful}
-use Rattle.search.specs.Search.{find}
-use Rattle.search.proofs.Found.{Holds, Nothing, Straight, Result, missed, got, probes}
-use Rattle.search.proofs.Sound.{SoundIn, find-sound}
+use Rattle.inverse_segment.specs.declared.Place.{Place}
+use Rattle.inverse_segment.specs.declared.Inverted.{Inverted}
+use Rattle.inverse_segment.specs.declared.Inverted.the-variants.{OffCurve, At}
+use Rattle.inverse_segment.specs.Evaluations.{Evaluations}
+use Rattle.inverse_segment.specs.Segment.{Outcome, off, placed}
+use Rattle.inverse_segment.specs.Answer.{answered}
+use Rattle.inverse_segment.proofs.Enclosing.{Numbers, Sound}
+use Rattle.inverse_search.specs.Bound.{bitsOf, boundOf}
+use Rattle.inverse_segment.specs.Round.{Rule}
+use Rattle.inverse_search.specs.Trial.{trial}
+use Rattle.inverse_segment.proofs.Rules.{Lawful}
+use Rattle.inverse_search.specs.Search.{find}
+use Rattle.inverse_search.proofs.Found.{Holds, Nothing, Straight, Result, missed, got, probes}
+use Rattle.inverse_search.proofs.Sound.{SoundIn, find-sound}
 use Rattle.inverse.specs.declared.Ends.{Ends}
 use Rattle.inverse.specs.EndRule.{atLow, atHigh}
 use Rattle.inverse.specs.Curve.{parameterOf, ended, located}

@@ -12,7 +12,7 @@ use Rattle.doubles.proofs.Rounding.{le-or-lt}
 use lib.Seq.{getD-drop}
 use lib.Ieee.{Float, nan}
 use lib.Ieee.Fits.{and-l, and-r}
-use Rattle.search.specs.Search.{before}
+use Rattle.inverse_search.specs.Search.{before}
 use Rattle.inverse.specs.Order.{knot, rises, ordered, turnsBack, turnsAt, turningKnot}
 use Rattle.inverse.proofs.Scan.{next}
 

@@ -18,12 +18,12 @@ use Rattle.basis.specs.Basis.{segmentsOf}
 use Rattle.doubles.proofs.Tests.{holds, fails}
 use Rattle.spline.specs.Segment.{segmentOf}
 use Rattle.spline.specs.Rows.{inRange, allInRange, firstBad, curveLength}
-use Rattle.invert.specs.declared.Inverted.{Inverted}
-use Rattle.invert.specs.declared.Inverted.the-variants.{Refused}
-use Rattle.invert.specs.Answer.{asked}
-use Rattle.steady.specs.declared.Method.{Method}
-use Rattle.steady.specs.Method.{ruleOf}
-use Rattle.invert.proofs.Verdicts.{askedRows, lastRows}
+use Rattle.inverse_segment.specs.declared.Inverted.{Inverted}
+use Rattle.inverse_segment.specs.declared.Inverted.the-variants.{Refused}
+use Rattle.inverse_segment.specs.Answer.{asked}
+use Rattle.inverse_methods.specs.declared.Method.{Method}
+use Rattle.inverse_methods.specs.Method.{ruleOf}
+use Rattle.inverse_segment.proofs.Verdicts.{askedRows, lastRows}
 use Rattle.inverse.specs.declared.EndsBy.{EndsBy}
 use Rattle.inverse.specs.Order.{rises, turnsBack, turningKnot}
 use Rattle.inverse.specs.EndRule.{endRuleOf}

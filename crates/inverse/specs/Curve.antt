@@ -5,14 +5,14 @@ use Prim.Native.Nat.{ℕ, _-_}
 use lib.Ieee.{Float, binary64, add, mul, div}
 use Rattle.doubles.specs.Numbers.{nought, one}
 use Rattle.doubles.specs.Whole.{double}
-use Rattle.invert.specs.declared.Ground.the-variants.{End}
-use Rattle.invert.specs.declared.Inverted.{Inverted}
-use Rattle.invert.specs.Evaluations.{Evaluations}
-use Rattle.invert.specs.Segment.{placed, evaluationsOf}
-use Rattle.invert.specs.Answer.{answered, alone}
-use Rattle.invert.specs.Round.{Rule}
-use Rattle.search.specs.Search.{find}
-use Rattle.search.specs.Trial.{trial}
+use Rattle.inverse_segment.specs.declared.Ground.the-variants.{End}
+use Rattle.inverse_segment.specs.declared.Inverted.{Inverted}
+use Rattle.inverse_segment.specs.Evaluations.{Evaluations}
+use Rattle.inverse_segment.specs.Segment.{placed, evaluationsOf}
+use Rattle.inverse_segment.specs.Answer.{answered, alone}
+use Rattle.inverse_segment.specs.Round.{Rule}
+use Rattle.inverse_search.specs.Search.{find}
+use Rattle.inverse_search.specs.Trial.{trial}
 use Rattle.inverse.specs.declared.Ends.{Ends}
 use Rattle.inverse.specs.EndRule.{atLow, atHigh}
 

@@ -8,7 +8,7 @@ use lib.Ieee.{Float, lt, le}
 use Rattle.basis.specs.declared.Basis.{Basis}
 use Rattle.basis.specs.Basis.{stepOf, segmentsOf}
 use Rattle.doubles.specs.Numbers.{nought, one}
-use Rattle.invert.specs.Evaluations.{Evaluations, see}
+use Rattle.inverse_segment.specs.Evaluations.{Evaluations, see}
 use Rattle.inverse.specs.declared.Ends.{Ends}
 use Rattle.inverse.specs.declared.EndsBy.{EndsBy}
 use Rattle.inverse.specs.declared.EndsBy.the-variants.{Knots, Curve}

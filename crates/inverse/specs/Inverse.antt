@@ -9,12 +9,12 @@ use Rattle.basis.specs.declared.Basis.{Basis}
 use Rattle.basis.specs.Basis.{segmentsOf}
 use Rattle.spline.specs.Segment.{segmentOf}
 use Rattle.spline.specs.Rows.{curveLength, badKnot}
-use Rattle.invert.specs.declared.Inverted.{Inverted}
-use Rattle.invert.specs.Evaluations.{Evaluations}
-use Rattle.invert.specs.Answer.{inverted, asked, unlessRefused}
-use Rattle.steady.specs.declared.Method.{Method}
-use Rattle.steady.specs.declared.Method.the-variants.{AsCrate}
-use Rattle.steady.specs.Method.{ruleOf}
+use Rattle.inverse_segment.specs.declared.Inverted.{Inverted}
+use Rattle.inverse_segment.specs.Evaluations.{Evaluations}
+use Rattle.inverse_segment.specs.Answer.{inverted, asked, unlessRefused}
+use Rattle.inverse_methods.specs.declared.Method.{Method}
+use Rattle.inverse_methods.specs.declared.Method.the-variants.{AsCrate}
+use Rattle.inverse_methods.specs.Method.{ruleOf}
 use Rattle.inverse.specs.declared.EndsBy.{EndsBy}
 use Rattle.inverse.specs.declared.EndsBy.the-variants.{Knots}
 use Rattle.inverse.specs.Order.{turnBack}

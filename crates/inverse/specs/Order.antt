@@ -6,7 +6,7 @@ use lib.ListN.{length, getD, drop}
 use lib.Ieee.{Float, nan, lt}
 use Rattle.error.specs.declared.Refusal.{Refusal}
 use Rattle.error.specs.declared.Refusal.the-variants.{TurnsBack}
-use Rattle.search.specs.Search.{before}
+use Rattle.inverse_search.specs.Search.{before}
 
 abbrev pub knot : List Float → ℕ → Float
 knot ks i = getD ks i nan

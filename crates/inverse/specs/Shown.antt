@@ -7,13 +7,13 @@ use lib.ListN.{length}
 use lib.Ieee.{Float}
 use Rattle.basis.specs.declared.Basis.{Basis}
 use Rattle.spline.specs.Segment.{segmentOf}
-use Rattle.invert.specs.declared.Inverted.{Inverted}
-use Rattle.invert.specs.Evaluations.{Evaluations}
-use Rattle.steady.specs.declared.Method.{Method}
-use Rattle.steady.specs.Method.{ruleOf}
-use Rattle.invert.specs.Answer.{answered}
-use Rattle.search.specs.Search.{find}
-use Rattle.search.specs.Trial.{trial}
+use Rattle.inverse_segment.specs.declared.Inverted.{Inverted}
+use Rattle.inverse_segment.specs.Evaluations.{Evaluations}
+use Rattle.inverse_methods.specs.declared.Method.{Method}
+use Rattle.inverse_methods.specs.Method.{ruleOf}
+use Rattle.inverse_segment.specs.Answer.{answered}
+use Rattle.inverse_search.specs.Search.{find}
+use Rattle.inverse_search.specs.Trial.{trial}
 use Rattle.inverse.specs.declared.Ends.{Ends}
 use Rattle.inverse.specs.Curve.{parameterOf, ended, located}
 

@@ -7,18 +7,18 @@ ghost use lib.Ieee.{isNan};
 ghost use Rattle.basis.specs.Basis.{segmentsOf};
 ghost use Rattle.spline.specs.Segment.{segmentOf};
 ghost use Rattle.spline.specs.Rows.{allInRange};
-ghost use Rattle.invert.specs.Answer.{defaultLimit, defaultPrecision};
-ghost use Rattle.steady.specs.Method.{ruleOf};
+ghost use Rattle.inverse_segment.specs.Answer.{defaultLimit, defaultPrecision};
+ghost use Rattle.inverse_methods.specs.Method.{ruleOf};
 ghost use Rattle.inverse.specs.EndRule.{atLow, atHigh, knotEnds, curveRule, endRuleOf, own};
 ghost use Rattle.inverse.specs.Curve.{parameterOf, located};
 ghost use Rattle.inverse.specs.Inverse.{inverseBy, inverseOf};
 ghost use Rattle.inverse.specs.Shown.{EndedIs, SearchedIs, LocatedIs};
 use basis::Basis;
 use error::Verdict;
-use invert::Ground;
-use invert::Inverted;
-use invert::Place;
-use steady::Method;
+use inverse_methods::Method;
+use inverse_segment::Ground;
+use inverse_segment::Inverted;
+use inverse_segment::Place;
 
 pub mod order;
 
@@ -81,8 +81,8 @@ fn curve_ends(b: Basis, knots: &[f64], k: usize) -> Ends
     requires { ⌜ (k ≡ segmentsOf b (length (now knots))) × (4 ≤ length (now knots)) × (length (now knots) ≤ 4096) ⌝ }
     ensures { λ r. ⌜ r ≡ curveRule (segmentOf b (now (knots .entry))) k .ends ⌝ }
 {
-    let start = spline::segment::horner(search::weights_at(b, knots, 0), 0.0);
-    let end = spline::segment::horner(search::weights_at(b, knots, k - 1), 1.0);
+    let start = spline::segment::horner(inverse_search::weights_at(b, knots, 0), 0.0);
+    let end = spline::segment::horner(inverse_search::weights_at(b, knots, k - 1), 1.0);
     Ends {
         rising: start < end,
         low: start,
@@ -127,7 +127,7 @@ fn searched(
     requires { ⌜ (k ≡ segmentsOf b (length (now knots))) × (4 ≤ length (now knots)) × (length (now knots) ≤ 4096) × (isNan y ≡ false) × (allInRange (now knots) ≡ true) × (n ≤ 1000) ⌝ }
     ensures { λ r. ⌜ SearchedIs how b y (now (knots .entry)) limit precision rising k n r ⌝ }
 {
-    let a = search::find(how, b, knots, y, precision, limit, rising, k, n);
+    let a = inverse_search::find(how, b, knots, y, precision, limit, rising, k, n);
     let Inverted::At(p) = a else {
         return a;
     };

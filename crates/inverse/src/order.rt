@@ -72,7 +72,7 @@ fn first_turn(rising: bool, knots: &[f64]) -> usize
 {
     let mut i = 1;
     while i + 1 < knots.len() {
-        if search::lies_before(rising, knots[i + 1], knots[i]) {
+        if inverse_search::lies_before(rising, knots[i + 1], knots[i]) {
             return i;
         }
         i += 1;
@@ -116,7 +116,7 @@ pub fn verdict(b: Basis, y: f64, knots: &[f64], check: bool, limit: u16, precisi
     let Verdict::Passed = l else {
         return l;
     };
-    let a = invert::rows::asked(y, limit, precision);
+    let a = inverse_segment::rows::asked(y, limit, precision);
     let Verdict::Passed = a else {
         return a;
     };

@@ -8,24 +8,24 @@ use borrow.Author.Tests.{le-leb, leb-true, leb-false, ne-eqb}
 use lib.Dec.{T, leb, ltb}
 use lib.ListN.{length, length-append}
 use lib.Ieee.{Float, fits, toBits, binary64}
-use Rattle.answer.specs.Answer.{places, Curve, on, bare, afterOf}
-use Rattle.answer.proofs.Records.{endsBefore, curve-silent, span-silent, knot-silent}
+use Rattle.lines_answer.specs.Answer.{places, Curve, on, bare, afterOf}
+use Rattle.lines_answer.proofs.Records.{endsBefore, curve-silent, span-silent, knot-silent}
 use Rattle.basis.specs.declared.Basis.{Basis}
 use Rattle.error.proofs.First.{never}
 use Rattle.basis.specs.declared.Basis.the-variants.{Bspline, Bezier, CatmullRom, Hermite, Linear, Power}
-use Rattle.decimals.proofs.ReadBack.{number-back, dec-length}
+use Rattle.text_decimals.proofs.ReadBack.{number-back, dec-length}
 use Rattle.inverse.specs.declared.EndsBy.{EndsBy}
-use Rattle.record.specs.declared.Record.{Record}
-use Rattle.record.specs.declared.Record.the-variants.{Curve as CurveOf, Span, Knot}
-use Rattle.record.specs.Record.{nameOf, wordOf, namedOf, meaningOf, ofFields, recordOf}
-use Rattle.reply.specs.Reply.{spansText, knotsText, curve, textOf}
+use Rattle.lines_record.specs.declared.Record.{Record}
+use Rattle.lines_record.specs.declared.Record.the-variants.{Curve as CurveOf, Span, Knot}
+use Rattle.lines_record.specs.Record.{nameOf, wordOf, namedOf, meaningOf, ofFields, recordOf}
+use Rattle.lines_reply.specs.Reply.{spansText, knotsText, curve, textOf}
 use Rattle.table.specs.declared.Table.{Table}
 use Rattle.table.specs.Second.{day, goodSpan, spansOf}
 use Rattle.text.specs.Text.{bytes, same, LF, TAB, onto, fieldsOf, tabOf, glyphOf, hexText, decText, doubleText}
 use Rattle.text.proofs.Fields.{fields-one}
 use Rattle.text.proofs.ReadBack.{length-hex, hex-out-in}
-use Rattle.machine.specs.Program.{linesOf, widest}
-use Rattle.machine.proofs.Breaking.{Free, free-append, freeb, free-of, broken}
+use Rattle.lines_machine.specs.Program.{linesOf, widest}
+use Rattle.lines_machine.proofs.Breaking.{Free, free-append, freeb, free-of, broken}
 use Rattle.lines.specs.Lines.{says}
 use Rattle.lines.proofs.Replies.{saysOf, curveAfter}
 

@@ -4,13 +4,13 @@ use mathlib.Core.List.{List, [], _∷_, _++_}
 use Prim.Native.Nat.{ℕ, suc, _<_}
 use borrow.Author.Tests.{lt-leb}
 use lib.ListN.{length}
-use Rattle.answer.specs.Answer.{Curve, replyTo, afterOf}
-use Rattle.answer.proofs.Records.{refused-changes-nothing}
+use Rattle.lines_answer.specs.Answer.{Curve, replyTo, afterOf}
+use Rattle.lines_answer.proofs.Records.{refused-changes-nothing}
 use Rattle.error.specs.declared.Refusal.{Refusal}
-use Rattle.record.specs.declared.Record.{Record}
-use Rattle.record.specs.declared.Record.the-variants.{Bad}
-use Rattle.reply.specs.Reply.{Reply, refused, textOf}
-use Rattle.machine.specs.Program.{linesOf, widest, lineOf, printsOf, outputOf}
+use Rattle.lines_record.specs.declared.Record.{Record}
+use Rattle.lines_record.specs.declared.Record.the-variants.{Bad}
+use Rattle.lines_reply.specs.Reply.{Reply, refused, textOf}
+use Rattle.lines_machine.specs.Program.{linesOf, widest, lineOf, printsOf, outputOf}
 use Rattle.lines.specs.Lines.{says, lineProgram}
 
 -- what a line of any length says

@@ -6,17 +6,17 @@ use native.Mathlib.Omega.{arith}
 use borrow.Author.Tests.{le-leb, lt-leb}
 use lib.ListN.{take}
 use lib.Ieee.{Float}
-use Rattle.answer.specs.declared.Answered.{Answered}
-use Rattle.answer.specs.Answer.{Curve, replyTo, afterOf}
-use Rattle.answer.specs.Held.{curveOf, Answers}
-use Rattle.record.specs.declared.Record.{Record}
-use Rattle.record.specs.declared.Record.the-variants.{Bad}
-use Rattle.record.specs.Record.{recordOf}
-use Rattle.reply.specs.Reply.{Reply, textOf}
-use Rattle.reply.specs.Told.{replyOf}
+use Rattle.lines_answer.specs.declared.Answered.{Answered}
+use Rattle.lines_answer.specs.Answer.{Curve, replyTo, afterOf}
+use Rattle.lines_answer.specs.Held.{curveOf, Answers}
+use Rattle.lines_record.specs.declared.Record.{Record}
+use Rattle.lines_record.specs.declared.Record.the-variants.{Bad}
+use Rattle.lines_record.specs.Record.{recordOf}
+use Rattle.lines_reply.specs.Reply.{Reply, textOf}
+use Rattle.lines_reply.specs.Told.{replyOf}
 use Rattle.text.specs.Wrote.{Wrote}
-use Rattle.machine.specs.Program.{widest, Line}
-use Rattle.machine.specs.Held.{openOf}
+use Rattle.lines_machine.specs.Program.{widest, Line}
+use Rattle.lines_machine.specs.Held.{openOf}
 use Rattle.lines.specs.Lines.{says, lineProgram}
 
 pub said-so : (n : ℕ) (line : List ℕ) → n ≤ widest → recordOf (take (n - 0) line) ≡ says (openOf n line)

@@ -1,12 +1,12 @@
 -- The line program: what a line gets, and the curve after it. Definitions only.
 use mathlib.Core.List.{List, []}
 use Prim.Native.Nat.{ℕ}
-use Rattle.answer.specs.Answer.{Curve, replyTo, afterOf}
-use Rattle.record.specs.declared.Record.{Record}
-use Rattle.record.specs.declared.Record.the-variants.{Bad}
-use Rattle.record.specs.Record.{recordOf}
-use Rattle.reply.specs.Reply.{textOf}
-use Rattle.machine.specs.Program.{Line, so, over, Program}
+use Rattle.lines_answer.specs.Answer.{Curve, replyTo, afterOf}
+use Rattle.lines_record.specs.declared.Record.{Record}
+use Rattle.lines_record.specs.declared.Record.the-variants.{Bad}
+use Rattle.lines_record.specs.Record.{recordOf}
+use Rattle.lines_reply.specs.Reply.{textOf}
+use Rattle.lines_machine.specs.Program.{Line, so, over, Program}
 
 -- what a line says; one that is too long is no record
 unfoldable pub says : Line → Record

@@ -2,15 +2,15 @@
 ghost use mathlib.Core.Path.{_≡_};
 ghost use Prim.Native.Nat.{_+_, _≤_};
 ghost use lib.ListN.{length};
-ghost use Rattle.answer.specs.Answer.{places};
-ghost use Rattle.answer.specs.Held.{curveOf, countOf};
-ghost use Rattle.reply.specs.Told.{longest};
+ghost use Rattle.lines_answer.specs.Answer.{places};
+ghost use Rattle.lines_answer.specs.Held.{curveOf, countOf};
+ghost use Rattle.lines_reply.specs.Told.{longest};
 ghost use Rattle.text.specs.Wrote.{Wrote};
-ghost use Rattle.machine.specs.Program.{widest};
-ghost use Rattle.machine.specs.Held.{openOf};
+ghost use Rattle.lines_machine.specs.Program.{widest};
+ghost use Rattle.lines_machine.specs.Held.{openOf};
 ghost use Rattle.lines.specs.Lines.{says, lineProgram};
-use answer::Held;
-use record::Record;
+use lines_answer::Held;
+use lines_record::Record;
 
 // What is held after a line, and the place behind its reply.
 pub struct Lined {
@@ -24,7 +24,7 @@ fn said(len: usize, line: &[u8]) -> Record
     ensures { λ r. ⌜ r ≡ says (openOf len (now (line .entry))) ⌝ }
 {
     if len <= 64 {
-        return record::record_of(&line[0..len]);
+        return lines_record::record_of(&line[0..len]);
     }
     Record::Bad
 }
@@ -48,10 +48,10 @@ pub fn line(
     ensures short { λ r. ⌜ r .at ≤ at + longest ⌝ }
 {
     let r = said(len, line);
-    let a = answer::answer(held, r, table, &mut *turned);
+    let a = lines_answer::answer(held, r, table, &mut *turned);
     let after = a.held;
     let told = a.told;
-    let next = reply::put_reply(told, &turned[..], out, at);
+    let next = lines_reply::put_reply(told, &turned[..], out, at);
     Lined {
         held: after,
         at: next,

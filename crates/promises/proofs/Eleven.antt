@@ -8,10 +8,10 @@ use Prim.Native.Nat.{ℕ}
 use denote.Ref.{now}
 use lib.Ieee.{Float}
 use Rattle.basis.specs.declared.Basis.{Basis}
-use Rattle.invert.specs.declared.Inverted.{Inverted}
-use Rattle.invert.specs.Answer.{numberTold, defaultLimit, defaultPrecision}
-use Rattle.steady.specs.declared.Method.{Method}
-use Rattle.steady.specs.declared.Method.the-variants.{AsCrate}
+use Rattle.inverse_segment.specs.declared.Inverted.{Inverted}
+use Rattle.inverse_segment.specs.Answer.{numberTold, defaultLimit, defaultPrecision}
+use Rattle.inverse_methods.specs.declared.Method.{Method}
+use Rattle.inverse_methods.specs.declared.Method.the-variants.{AsCrate}
 use Rattle.inverse.specs.declared.EndsBy.{EndsBy}
 use Rattle.inverse.specs.declared.EndsBy.the-variants.{Knots}
 use Rattle.inverse.specs.Inverse.{inverseUses}

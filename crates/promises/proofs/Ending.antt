@@ -9,14 +9,14 @@ use lib.Dec.{T}
 use lib.Ieee.{Float, fin, binary64, le, fits}
 use Rattle.basis.specs.declared.Basis.{Basis}
 use Rattle.doubles.proofs.Units.{clear}
-use Rattle.invert.specs.declared.Inverted.{Inverted}
-use Rattle.invert.specs.Answer.{inverseSegmentBy, defaultPrecision}
-use Rattle.steady.specs.declared.Method.{Method}
-use Rattle.steady.specs.declared.Method.the-variants.{Steady}
-use Rattle.steady.specs.Method.{ruleOf}
-use Rattle.steady.specs.Steady.{steady}
-use Rattle.steady.proofs.Timely.{SegmentWithin, default-segment-timely, any-segment-timely}
-use Rattle.steady.proofs.spline_inverse_segment_by.Reads as spline_inverse_segment_by
+use Rattle.inverse_segment.specs.declared.Inverted.{Inverted}
+use Rattle.inverse_segment.specs.Answer.{inverseSegmentBy, defaultPrecision}
+use Rattle.inverse_methods.specs.declared.Method.{Method}
+use Rattle.inverse_methods.specs.declared.Method.the-variants.{Steady}
+use Rattle.inverse_methods.specs.Method.{ruleOf}
+use Rattle.inverse_methods.specs.Steady.{steady}
+use Rattle.inverse_methods.proofs.Timely.{SegmentWithin, default-segment-timely, any-segment-timely}
+use Rattle.inverse_methods.proofs.spline_inverse_segment_by.Reads as spline_inverse_segment_by
 use Rattle.inverse.specs.declared.EndsBy.{EndsBy}
 use Rattle.inverse.specs.Inverse.{inverseBy}
 use Rattle.inverse.proofs.Timely.{Within, default-timely, any-timely}

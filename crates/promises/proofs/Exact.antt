@@ -21,9 +21,9 @@ use Rattle.spline.specs.Curve.{segmentAt, localAt}
 use Rattle.spline.specs.Evaluation.{splineSegmentOf}
 use Rattle.spline.proofs.spline.Reads as spline
 use Rattle.spline.proofs.spline_segment.Reads as spline_segment
-use Rattle.exact.specs.Exact.{isExact, exactOf, WholeKnots, Answers}
-use Rattle.exact.proofs.Calls.{segment-answers, curve-answers}
-use Rattle.exact.proofs.Bspline.{ones, belowOne, bspline-answers}
+use Rattle.spline_exact.specs.Exact.{isExact, exactOf, WholeKnots, Answers}
+use Rattle.spline_exact.proofs.Calls.{segment-answers, curve-answers}
+use Rattle.spline_exact.proofs.Bspline.{ones, belowOne, bspline-answers}
 use Rattle.promises.specs.Calls.{Keeps}
 
 -- four whole knots at j/256: the call answers a value, and 2^25 times it is the cubic's whole number

@@ -9,9 +9,9 @@ use Rattle.basis.specs.declared.Basis.{Basis}
 use Rattle.spline.specs.declared.Evaluated.{Evaluated}
 use Rattle.spline.specs.declared.Evaluated.the-variants as E
 use Rattle.spline.specs.Evaluation.{splineOf, splineSegmentOf}
-use Rattle.invert.specs.declared.Inverted.{Inverted}
-use Rattle.invert.specs.declared.Inverted.the-variants as I
-use Rattle.invert.specs.Answer.{inverseSegmentOf, defaultLimit, defaultPrecision}
+use Rattle.inverse_segment.specs.declared.Inverted.{Inverted}
+use Rattle.inverse_segment.specs.declared.Inverted.the-variants as I
+use Rattle.inverse_segment.specs.Answer.{inverseSegmentOf, defaultLimit, defaultPrecision}
 use Rattle.inverse.specs.Inverse.{inverseOf}
 use Rattle.convert.specs.Conversion.{Conversion, gives, refuses, convertedOf, convertedSegmentOf}
 use Rattle.convert.specs.Buffer.{answerOf, bufferOf}

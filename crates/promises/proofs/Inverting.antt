@@ -10,18 +10,18 @@ use Rattle.error.specs.declared.Verdict.the-variants.{Passed}
 use Rattle.error.specs.Refusals.{first}
 use Rattle.basis.specs.declared.Basis.{Basis}
 use Rattle.spline.specs.Segment.{segmentOf}
-use Rattle.invert.specs.declared.Inverted.{Inverted}
-use Rattle.invert.specs.Agreed.{Agreed}
-use Rattle.invert.specs.Segment.{enter, outcomeOf}
-use Rattle.invert.specs.Answer.{countTold, answered, alone, inverted, inverseSegmentUses, inverseSegmentBy, segmentEvaluationsBy, defaultLimit, defaultPrecision}
-use Rattle.invert.proofs.Call.{Owed, inverse-segment-listed, inverse-segment-unlisted, inverse-segment-owed, inverse-segment-count}
-use Rattle.invert.proofs.spline_inverse_segment_with.Reads as spline_inverse_segment_with
-use Rattle.invert.proofs.spline_inverse_segment.Reads as spline_inverse_segment
-use Rattle.steady.specs.declared.Method.{Method}
-use Rattle.steady.specs.declared.Method.the-variants.{AsCrate}
-use Rattle.steady.specs.Method.{ruleOf}
-use Rattle.steady.proofs.Lawful.{lawful-of}
-use Rattle.steady.proofs.spline_inverse_segment_by.Reads as spline_inverse_segment_by
+use Rattle.inverse_segment.specs.declared.Inverted.{Inverted}
+use Rattle.inverse_segment.specs.Agreed.{Agreed}
+use Rattle.inverse_segment.specs.Segment.{enter, outcomeOf}
+use Rattle.inverse_segment.specs.Answer.{countTold, answered, alone, inverted, inverseSegmentUses, inverseSegmentBy, segmentEvaluationsBy, defaultLimit, defaultPrecision}
+use Rattle.inverse_segment.proofs.Call.{Owed, inverse-segment-listed, inverse-segment-unlisted, inverse-segment-owed, inverse-segment-count}
+use Rattle.inverse_segment.proofs.spline_inverse_segment_with.Reads as spline_inverse_segment_with
+use Rattle.inverse_segment.proofs.spline_inverse_segment.Reads as spline_inverse_segment
+use Rattle.inverse_methods.specs.declared.Method.{Method}
+use Rattle.inverse_methods.specs.declared.Method.the-variants.{AsCrate}
+use Rattle.inverse_methods.specs.Method.{ruleOf}
+use Rattle.inverse_methods.proofs.Lawful.{lawful-of}
+use Rattle.inverse_methods.proofs.spline_inverse_segment_by.Reads as spline_inverse_segment_by
 use Rattle.inverse.specs.declared.EndsBy.the-variants.{Knots}
 use Rattle.inverse.proofs.Promises.{Promised, reply-promised}
 use Rattle.inverse.proofs.spline_inverse_by.Reads as spline_inverse_by

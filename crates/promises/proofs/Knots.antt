@@ -15,9 +15,9 @@ use Rattle.error.proofs.First.{First, first-applies}
 use Rattle.spline.specs.declared.Evaluated.the-variants as E
 use Rattle.spline.specs.Rows.{inRange, allInRange, firstBad}
 use Rattle.spline.specs.Evaluation.{splineUses, splineSegmentUses}
-use Rattle.invert.specs.declared.Inverted.the-variants as I
-use Rattle.invert.specs.Answer.{inverseSegmentUses, defaultLimit, defaultPrecision}
-use Rattle.steady.specs.declared.Method.the-variants.{AsCrate}
+use Rattle.inverse_segment.specs.declared.Inverted.the-variants as I
+use Rattle.inverse_segment.specs.Answer.{inverseSegmentUses, defaultLimit, defaultPrecision}
+use Rattle.inverse_methods.specs.declared.Method.the-variants.{AsCrate}
 use Rattle.inverse.specs.declared.EndsBy.the-variants.{Knots}
 use Rattle.inverse.specs.Inverse.{inverseUses}
 use Rattle.inverse.proofs.TurnsBack.{AgainstAt}
@@ -26,9 +26,9 @@ use Rattle.convert.specs.declared.Converted.the-variants as C
 use Rattle.convert.specs.Conversion.{convertSegmentUses, convertUses}
 use Rattle.spline.proofs.spline.Reads as spline
 use Rattle.spline.proofs.spline_segment.Reads as spline_segment
-use Rattle.invert.proofs.spline_inverse_segment_with.Reads as spline_inverse_segment_with
-use Rattle.invert.proofs.spline_inverse_segment.Reads as spline_inverse_segment
-use Rattle.steady.proofs.spline_inverse_segment_by.Reads as spline_inverse_segment_by
+use Rattle.inverse_segment.proofs.spline_inverse_segment_with.Reads as spline_inverse_segment_with
+use Rattle.inverse_segment.proofs.spline_inverse_segment.Reads as spline_inverse_segment
+use Rattle.inverse_methods.proofs.spline_inverse_segment_by.Reads as spline_inverse_segment_by
 use Rattle.inverse.proofs.spline_inverse_by.Reads as spline_inverse_by
 use Rattle.inverse.proofs.spline_inverse_with.Reads as spline_inverse_with
 use Rattle.inverse.proofs.spline_inverse.Reads as spline_inverse

@@ -19,11 +19,11 @@ use Rattle.spline.specs.declared.Evaluated.the-variants as E
 use Rattle.spline.specs.Evaluation.{evaluatedNumber, splineUses, splineSegmentUses}
 use Rattle.spline.proofs.spline.Reads as spline
 use Rattle.spline.proofs.spline_segment.Reads as spline_segment
-use Rattle.invert.specs.declared.Inverted.{Inverted}
-use Rattle.invert.specs.declared.Inverted.the-variants as I
-use Rattle.invert.specs.Answer.{numberTold, inverseSegmentUses, defaultLimit, defaultPrecision}
-use Rattle.invert.proofs.spline_inverse_segment_with.Reads as spline_inverse_segment_with
-use Rattle.invert.proofs.spline_inverse_segment.Reads as spline_inverse_segment
+use Rattle.inverse_segment.specs.declared.Inverted.{Inverted}
+use Rattle.inverse_segment.specs.declared.Inverted.the-variants as I
+use Rattle.inverse_segment.specs.Answer.{numberTold, inverseSegmentUses, defaultLimit, defaultPrecision}
+use Rattle.inverse_segment.proofs.spline_inverse_segment_with.Reads as spline_inverse_segment_with
+use Rattle.inverse_segment.proofs.spline_inverse_segment.Reads as spline_inverse_segment
 use Rattle.inverse.specs.Inverse.{inverseUses}
 use Rattle.inverse.proofs.spline_inverse_by.Reads as spline_inverse_by
 use Rattle.inverse.proofs.spline_inverse_with.Reads as spline_inverse_with

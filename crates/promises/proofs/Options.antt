@@ -6,11 +6,11 @@ use Prim.Native.Nat.{ℕ}
 use denote.Ref.{now}
 use lib.Ieee.{Float}
 use Rattle.basis.specs.declared.Basis.{Basis}
-use Rattle.invert.specs.declared.Inverted.{Inverted}
-use Rattle.invert.specs.declared.Inverted.the-variants as I
-use Rattle.invert.specs.Answer.{inverseSegmentBy}
-use Rattle.steady.specs.declared.Method.{Method}
-use Rattle.steady.specs.Method.{ruleOf}
+use Rattle.inverse_segment.specs.declared.Inverted.{Inverted}
+use Rattle.inverse_segment.specs.declared.Inverted.the-variants as I
+use Rattle.inverse_segment.specs.Answer.{inverseSegmentBy}
+use Rattle.inverse_methods.specs.declared.Method.{Method}
+use Rattle.inverse_methods.specs.Method.{ruleOf}
 use Rattle.inverse.specs.declared.EndsBy.{EndsBy}
 use Rattle.inverse.specs.Inverse.{inverseBy}
 use Rattle.simmerstoat.specs.declared.Chosen.{Chosen}

@@ -9,7 +9,7 @@ use Rattle.error.specs.Refusals.{Uses}
 use Rattle.error.proofs.Orders.{orderOf, named, once}
 use Rattle.basis.specs.declared.Basis.{Basis}
 use Rattle.spline.specs.Evaluation.{splineUses, splineSegmentUses}
-use Rattle.invert.specs.Answer.{inverseSegmentUses}
+use Rattle.inverse_segment.specs.Answer.{inverseSegmentUses}
 use Rattle.inverse.specs.Inverse.{inverseUses}
 use Rattle.convert.specs.Conversion.{convertSegmentUses, convertUses}
 

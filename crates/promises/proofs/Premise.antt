@@ -14,8 +14,8 @@ use Rattle.doubles.specs.Numbers.{nought, one, half}
 use Rattle.doubles.proofs.Tests.{each, each-at}
 use Rattle.spline.specs.Segment.{segmentOf}
 use Rattle.spline.specs.Rows.{inRange, allInRange, firstBad}
-use Rattle.invert.specs.Answer.{precise, defaultLimit, defaultPrecision}
-use Rattle.steady.specs.declared.Method.the-variants.{AsCrate}
+use Rattle.inverse_segment.specs.Answer.{precise, defaultLimit, defaultPrecision}
+use Rattle.inverse_methods.specs.declared.Method.the-variants.{AsCrate}
 use Rattle.inverse.specs.declared.EndsBy.the-variants.{Knots}
 use Rattle.inverse.specs.Order.{ordered, turnsAt}
 use Rattle.inverse.proofs.Promises.{Pass, Quiet, Premise}

@@ -5,20 +5,20 @@ use Prim.Native.Nat.{ℕ}
 use denote.Ref.{now}
 use lib.ListN.{take, drop, take-append-drop}
 use lib.Ieee.{Float}
-use Rattle.answer.specs.Answer.{none}
+use Rattle.lines_answer.specs.Answer.{none}
 use Rattle.text.specs.Wrote.{Wrote}
-use Rattle.machine.specs.Program.{Program, outputOf}
-use Rattle.machine.specs.Bytes.{State, start, toldOf, ranOf, endOf}
-use Rattle.machine.proofs.Whole.{ran-append, told-append, whole, Within, within-output}
+use Rattle.lines_machine.specs.Program.{Program, outputOf}
+use Rattle.lines_machine.specs.Bytes.{State, start, toldOf, ranOf, endOf}
+use Rattle.lines_machine.proofs.Whole.{ran-append, told-append, whole, Within, within-output}
 use Rattle.sheet.specs.Sheet.{unbegun}
-use Rattle.programs.specs.declared.Reader.{Reader}
-use Rattle.programs.specs.Programs.{Running, asking, reading, running}
-use Rattle.programs.specs.Held.{stateOf}
-use Rattle.programs.proofs.line_program.Reads as line_program
-use Rattle.programs.proofs.sheet_program.Reads as sheet_program
-use Rattle.programs.proofs.step.Reads as step
-use Rattle.programs.proofs.finish.Reads as finish
-use Rattle.programs.proofs.feed.Reads as feed
+use Rattle.lines_programs.specs.declared.Reader.{Reader}
+use Rattle.lines_programs.specs.Programs.{Running, asking, reading, running}
+use Rattle.lines_programs.specs.Held.{stateOf}
+use Rattle.lines_programs.proofs.line_program.Reads as line_program
+use Rattle.lines_programs.proofs.sheet_program.Reads as sheet_program
+use Rattle.lines_programs.proofs.step.Reads as step
+use Rattle.lines_programs.proofs.finish.Reads as finish
+use Rattle.lines_programs.proofs.feed.Reads as feed
 use Rattle.promises.specs.Calls.{Keeps, OneReply}
 
 one : {A : Type 0} {d x x′ : A} → x ≡ d → x′ ≡ d → x ≡ x′

@@ -24,19 +24,19 @@ use Rattle.spline.specs.Curve.{curveValue}
 use Rattle.spline.specs.Evaluation.{evaluated, splineUses, splineOf, splineSegmentUses, splineSegmentOf}
 use Rattle.spline.proofs.spline.Reads as spline
 use Rattle.spline.proofs.spline_segment.Reads as spline_segment
-use Rattle.invert.specs.declared.Inverted.the-variants as I
-use Rattle.steady.specs.declared.Method.the-variants.{AsCrate}
-use Rattle.invert.specs.Round.{Rule, asCrate}
-use Rattle.invert.specs.Segment.{Outcome, enter, outcomeOf}
+use Rattle.inverse_segment.specs.declared.Inverted.the-variants as I
+use Rattle.inverse_methods.specs.declared.Method.the-variants.{AsCrate}
+use Rattle.inverse_segment.specs.Round.{Rule, asCrate}
+use Rattle.inverse_segment.specs.Segment.{Outcome, enter, outcomeOf}
 use Rattle.inverse.specs.declared.EndsBy.the-variants.{Knots}
-use Rattle.invert.specs.Answer.{answered, inverted, alone, inverseSegmentUses, inverseSegmentBy, defaultLimit, defaultPrecision}
-use Rattle.invert.proofs.Verdicts.{answered-past, refused-by}
-use Rattle.invert.proofs.spline_inverse_segment_with.Reads as spline_inverse_segment_with
-use Rattle.invert.proofs.spline_inverse_segment.Reads as spline_inverse_segment
+use Rattle.inverse_segment.specs.Answer.{answered, inverted, alone, inverseSegmentUses, inverseSegmentBy, defaultLimit, defaultPrecision}
+use Rattle.inverse_segment.proofs.Verdicts.{answered-past, refused-by}
+use Rattle.inverse_segment.proofs.spline_inverse_segment_with.Reads as spline_inverse_segment_with
+use Rattle.inverse_segment.proofs.spline_inverse_segment.Reads as spline_inverse_segment
 use Rattle.inverse.specs.Inverse.{inverseUses, inverseOf}
 use Rattle.inverse.proofs.Refusals.{inverse-refused-only, inverse-refused-where}
-use Rattle.steady.specs.Method.{ruleOf}
-use Rattle.steady.proofs.spline_inverse_segment_by.Reads as spline_inverse_segment_by
+use Rattle.inverse_methods.specs.Method.{ruleOf}
+use Rattle.inverse_methods.proofs.spline_inverse_segment_by.Reads as spline_inverse_segment_by
 use Rattle.inverse.proofs.spline_inverse_by.Reads as spline_inverse_by
 use Rattle.inverse.proofs.spline_inverse_with.Reads as spline_inverse_with
 use Rattle.inverse.proofs.spline_inverse.Reads as spline_inverse

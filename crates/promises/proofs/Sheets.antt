@@ -4,11 +4,11 @@ use mathlib.Core.List.{List, [], _∷_}
 use Prim.Native.Nat.{ℕ}
 use lib.Ieee.{Float}
 use native.Mathlib.Omega.{arith}
-use Rattle.answer.specs.Answer.{Curve, on, bare}
-use Rattle.answer.proofs.Records.{endsBefore}
+use Rattle.lines_answer.specs.Answer.{Curve, on, bare}
+use Rattle.lines_answer.proofs.Records.{endsBefore}
 use Rattle.basis.specs.declared.Basis.{Basis}
-use Rattle.reply.specs.Reply.{curve, textOf}
-use Rattle.machine.specs.Program.{linesOf, outputOf}
+use Rattle.lines_reply.specs.Reply.{curve, textOf}
+use Rattle.lines_machine.specs.Program.{linesOf, outputOf}
 use Rattle.lines.proofs.Replies.{curveAfter}
 use Rattle.lines.proofs.Again.{turn-again}
 use Rattle.sheet.specs.Sheet.{unbegun, endsOf, sheetProgram}

@@ -17,31 +17,31 @@ use Rattle.basis.specs.Basis.{segmentsOf}
 use Rattle.doubles.specs.Numbers.{nought, one, magnitudeOf}
 use Rattle.doubles.proofs.Tests.{branch}
 use Rattle.spline.specs.Segment.{segmentOf}
-use Rattle.invert.specs.declared.Ground.{Ground}
-use Rattle.invert.specs.declared.Ground.the-variants.{End, Edge, Value, Width, Spent}
-use Rattle.invert.specs.declared.Inverted.{Inverted}
-use Rattle.invert.specs.declared.State.{State}
-use Rattle.invert.specs.Evaluations.{Evaluations}
-use Rattle.invert.specs.Round.{Rule, narrow, Turn, found, on, turn, probed, settled}
-use Rattle.invert.specs.Rounds.{Placed, rounds}
-use Rattle.invert.specs.Segment.{encloses, near, start, opening, entered, Entry, outside, inside, enter, Outcome, off, placed, orElse, outcomeOf, evaluationsOf}
-use Rattle.invert.specs.Answer.{answered, alone, inverted, unlessRefused, inverseSegmentUses, inverseSegmentBy, segmentEvaluationsBy, defaultLimit, defaultPrecision}
-use Rattle.invert.proofs.Ends.{both}
-use Rattle.search.specs.Bound.{bitsOf}
-use Rattle.search.specs.Search.{before, Trial, tries, last, halve, find}
-use Rattle.search.specs.Trial.{trial}
-use Rattle.steady.specs.declared.Method.{Method}
-use Rattle.steady.specs.declared.Method.the-variants.{AsCrate}
-use Rattle.steady.specs.Method.{ruleOf}
+use Rattle.inverse_segment.specs.declared.Ground.{Ground}
+use Rattle.inverse_segment.specs.declared.Ground.the-variants.{End, Edge, Value, Width, Spent}
+use Rattle.inverse_segment.specs.declared.Inverted.{Inverted}
+use Rattle.inverse_segment.specs.declared.State.{State}
+use Rattle.inverse_segment.specs.Evaluations.{Evaluations}
+use Rattle.inverse_segment.specs.Round.{Rule, narrow, Turn, found, on, turn, probed, settled}
+use Rattle.inverse_segment.specs.Rounds.{Placed, rounds}
+use Rattle.inverse_segment.specs.Segment.{encloses, near, start, opening, entered, Entry, outside, inside, enter, Outcome, off, placed, orElse, outcomeOf, evaluationsOf}
+use Rattle.inverse_segment.specs.Answer.{answered, alone, inverted, unlessRefused, inverseSegmentUses, inverseSegmentBy, segmentEvaluationsBy, defaultLimit, defaultPrecision}
+use Rattle.inverse_segment.proofs.Ends.{both}
+use Rattle.inverse_search.specs.Bound.{bitsOf}
+use Rattle.inverse_search.specs.Search.{before, Trial, tries, last, halve, find}
+use Rattle.inverse_search.specs.Trial.{trial}
+use Rattle.inverse_methods.specs.declared.Method.{Method}
+use Rattle.inverse_methods.specs.declared.Method.the-variants.{AsCrate}
+use Rattle.inverse_methods.specs.Method.{ruleOf}
 use Rattle.inverse.specs.declared.EndsBy.{EndsBy}
 use Rattle.inverse.specs.declared.EndsBy.the-variants.{Knots}
 use Rattle.inverse.specs.EndRule.{atLow, atHigh, EndRule, endRuleOf}
 use Rattle.inverse.specs.Curve.{parameterOf, ended, located, evaluations}
 use Rattle.inverse.specs.Inverse.{inverseUses, inverseBy, evaluationsBy}
 use Rattle.inverse.proofs.Facts.{AtPlace}
-use Rattle.invert.proofs.spline_inverse_segment_with.Reads as spline_inverse_segment_with
-use Rattle.invert.proofs.spline_inverse_segment.Reads as spline_inverse_segment
-use Rattle.steady.proofs.spline_inverse_segment_by.Reads as spline_inverse_segment_by
+use Rattle.inverse_segment.proofs.spline_inverse_segment_with.Reads as spline_inverse_segment_with
+use Rattle.inverse_segment.proofs.spline_inverse_segment.Reads as spline_inverse_segment
+use Rattle.inverse_methods.proofs.spline_inverse_segment_by.Reads as spline_inverse_segment_by
 use Rattle.inverse.proofs.spline_inverse_by.Reads as spline_inverse_by
 use Rattle.inverse.proofs.spline_inverse_with.Reads as spline_inverse_with
 use Rattle.inverse.proofs.spline_inverse.Reads as spline_inverse

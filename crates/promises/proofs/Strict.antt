@@ -16,16 +16,16 @@ use Rattle.error.proofs.First.{never, First, first-sound, first-complete}
 use Rattle.basis.specs.declared.Basis.{Basis}
 use Rattle.basis.specs.declared.Basis.the-variants.{Power}
 use Rattle.basis.specs.Basis.{stepOf, segmentsOf}
-use Rattle.matrix.specs.Elimination.{conversionOf}
+use Rattle.convert_matrix.specs.Elimination.{conversionOf}
 use Rattle.convert.specs.declared.Converted.{Converted}
 use Rattle.convert.specs.declared.Converted.the-variants as C
 use Rattle.convert.specs.Output.{windowOf}
 use Rattle.convert.specs.Conversion.{Conversion, gives, refuses, convertedOf}
 use Rattle.convert.specs.Buffer.{answerOf, bufferOf}
-use Rattle.strict.specs.Seams.{isApart}
-use Rattle.strict.specs.Strict.{strictUses, strictOf}
-use Rattle.strict.proofs.Call.{SeamLost, strict-refuses, refused-by, strict-is-plain, lost-only, lost-where, power-keeps, kept-within}
-use Rattle.strict.proofs.convert_spline_strict.Reads as convert_spline_strict
+use Rattle.convert_strict.specs.Seams.{isApart}
+use Rattle.convert_strict.specs.Strict.{strictUses, strictOf}
+use Rattle.convert_strict.proofs.Call.{SeamLost, strict-refuses, refused-by, strict-is-plain, lost-only, lost-where, power-keeps, kept-within}
+use Rattle.convert_strict.proofs.convert_spline_strict.Reads as convert_spline_strict
 use Rattle.simmerstoat.specs.Replies.{chosenOf}
 use Rattle.simmerstoat.proofs.seams.simmerstoat_convert_spline_strict.Reads as c_convert_spline_strict
 use Rattle.promises.proofs.Orders.{Ordered}

@@ -9,19 +9,19 @@ use lib.Ieee.Fits.{add-fits}
 use Rattle.error.specs.Refusals.{first}
 use Rattle.basis.specs.declared.Basis.{Basis}
 use Rattle.basis.specs.Basis.{stepOf, segmentsOf}
-use Rattle.matrix.specs.Matrix.{Matrix, applied}
-use Rattle.matrix.specs.Elimination.{conversionOf}
+use Rattle.convert_matrix.specs.Matrix.{Matrix, applied}
+use Rattle.convert_matrix.specs.Elimination.{conversionOf}
 use Rattle.convert.specs.Output.{windows, windowOf, splineOutput}
 use Rattle.convert.specs.Conversion.{Conversion, gives, convertUses, convertedOf}
 use Rattle.convert.proofs.Kept.{given, spline-length}
 use Rattle.inverse.specs.declared.EndsBy.{EndsBy}
 use Rattle.table.specs.declared.Table.{Table}
 use Rattle.table.specs.Second.{day}
-use Rattle.answer.specs.Answer.{Curve, none, on, places, curveReply, replyTo, afterOf}
-use Rattle.answer.proofs.Records.{endsBefore, SpanHeld, held-after}
-use Rattle.record.specs.declared.Record.the-variants.{Turn}
-use Rattle.reply.specs.Reply.{textOf}
-use Rattle.machine.specs.Program.{linesOf}
+use Rattle.lines_answer.specs.Answer.{Curve, none, on, places, curveReply, replyTo, afterOf}
+use Rattle.lines_answer.proofs.Records.{endsBefore, SpanHeld, held-after}
+use Rattle.lines_record.specs.declared.Record.the-variants.{Turn}
+use Rattle.lines_reply.specs.Reply.{textOf}
+use Rattle.lines_machine.specs.Program.{linesOf}
 use Rattle.lines.proofs.Replies.{saysOf, curveAfter}
 use Rattle.lines.proofs.Again.{Fit, turn-again}
 

@@ -16,9 +16,9 @@ use Rattle.basis.specs.Basis.{segmentsOf}
 use Rattle.spline.specs.declared.Evaluated.the-variants.{Value}
 use Rattle.spline.specs.Curve.{curveValue}
 use Rattle.spline.specs.Evaluation.{splineOf}
-use Rattle.invert.specs.declared.Place.{Place}
-use Rattle.invert.specs.declared.Inverted.the-variants as I
-use Rattle.search.specs.Bound.{bitsOf}
+use Rattle.inverse_segment.specs.declared.Place.{Place}
+use Rattle.inverse_segment.specs.declared.Inverted.the-variants as I
+use Rattle.inverse_search.specs.Bound.{bitsOf}
 use Rattle.inverse.specs.Inverse.{inverseUses, inverseOf, inverseEvaluations}
 use Rattle.uneven.specs.declared.Sounded.{Sounded}
 use Rattle.uneven.specs.declared.Sounded.the-variants.{Refused, OffCurve, At}

@@ -24,9 +24,9 @@ use Rattle.spline.proofs.Parts.{inside}
 use Rattle.spline.proofs.Values.{spline-finite, spline-segment-finite}
 use Rattle.spline.proofs.spline.Reads as spline
 use Rattle.spline.proofs.spline_segment.Reads as spline_segment
-use Rattle.matrix.specs.Matrix.{Matrix, row}
-use Rattle.matrix.specs.Elimination.{conversionOf}
-use Rattle.matrix.proofs.Inverses.{conversion-small}
+use Rattle.convert_matrix.specs.Matrix.{Matrix, row}
+use Rattle.convert_matrix.specs.Elimination.{conversionOf}
+use Rattle.convert_matrix.proofs.Inverses.{conversion-small}
 use Rattle.convert.specs.declared.Converted.{Converted}
 use Rattle.convert.specs.declared.Converted.the-variants as C
 use Rattle.convert.specs.Output.{segmentOutput, splineOutput, outputLength}

@@ -19,7 +19,7 @@ use Rattle.error.specs.Refusals.{Uses, rows, first}
 use Rattle.error.proofs.First.{never, First, first-sound, first-complete}
 use Rattle.basis.specs.declared.Basis.the-variants.{Bspline}
 use Rattle.basis.specs.Basis.{wholeOf}
-use Rattle.exact.specs.Cubic.{wholeSum, cubic}
+use Rattle.spline_exact.specs.Cubic.{wholeSum, cubic}
 use Rattle.valve.specs.declared.Mixture.{Mixture}
 use Rattle.valve.specs.declared.Mixture.the-variants.{Refused, Mixed}
 use Rattle.valve.specs.Mix.{weightOf, mixOf, mixUses, mixture, mixtureOf, mixtureReply, sumLeft}

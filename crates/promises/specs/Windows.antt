@@ -6,8 +6,8 @@ use lib.Ieee.{Float}
 use Rattle.basis.specs.declared.Basis.{Basis}
 use Rattle.basis.specs.Basis.{stepOf}
 use Rattle.spline.specs.Segment.{rowSteps}
-use Rattle.matrix.specs.Matrix.{Matrix, row}
-use Rattle.matrix.specs.Elimination.{conversionOf}
+use Rattle.convert_matrix.specs.Matrix.{Matrix, row}
+use Rattle.convert_matrix.specs.Elimination.{conversionOf}
 
 -- every product and every sum, as rounded, of a matrix applied to four knots
 abbrev pub appliedSteps : Matrix → List Float → List Float

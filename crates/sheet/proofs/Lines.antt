@@ -14,16 +14,16 @@ use Rattle.basis.specs.declared.Basis.{Basis}
 use Rattle.text.specs.declared.Hexed.{Hexed}
 use Rattle.text.specs.declared.Hexed.the-variants as H
 use Rattle.text.specs.Text.{tabOf}
-use Rattle.decimals.specs.Decimals.{MINUS, thousandthsOf}
-use Rattle.decimals.proofs.Digits.{thousandths-small}
-use Rattle.depth.specs.Depth.{depthOf}
+use Rattle.text_decimals.specs.Decimals.{MINUS, thousandthsOf}
+use Rattle.text_decimals.proofs.Digits.{thousandths-small}
+use Rattle.sheet_depth.specs.Depth.{depthOf}
 use Rattle.sheet.specs.declared.Depth.{Depth}
 use Rattle.sheet.specs.declared.Depth.the-variants.{Is, Nothing}
 use Rattle.error.specs.declared.Refusal.{Refusal}
 use Rattle.error.specs.declared.Refusal.the-variants.{TooMany}
-use Rattle.machine.specs.Program.{widest, Line, so, over}
-use Rattle.machine.specs.Held.{openOf}
-use Rattle.record.specs.Record.{namedOf}
+use Rattle.lines_machine.specs.Program.{widest, Line, so, over}
+use Rattle.lines_machine.specs.Held.{openOf}
+use Rattle.lines_record.specs.Record.{namedOf}
 use Rattle.error.specs.declared.Refusal.the-variants.{BadSheet}
 use Rattle.sheet.specs.Sheet.{Sheet, unbegun, on, faulty, most, signed, depthIn, depthLine, named, added, afterOf}
 

@@ -14,13 +14,13 @@ use Rattle.basis.specs.declared.Basis.{Basis}
 use Rattle.error.specs.declared.Refusal.{Refusal}
 use Rattle.error.specs.declared.Refusal.the-variants.{TooMany, BadSheet}
 use Rattle.doubles.specs.Numbers.{nought}
-use Rattle.depth.specs.Depth.{greatest, depthOf}
-use Rattle.depth.specs.Nearest.{Nearer}
-use Rattle.depth.proofs.Decimal.{depth-nearest, zero-depth}
-use Rattle.record.specs.declared.Named.{Named}
-use Rattle.record.specs.declared.Named.the-variants as N
-use Rattle.record.specs.Record.{namedOf}
-use Rattle.machine.specs.Program.{linesOf, Line, so, over, lineOf, printsOf, outputOf}
+use Rattle.sheet_depth.specs.Depth.{greatest, depthOf}
+use Rattle.sheet_depth.specs.Nearest.{Nearer}
+use Rattle.sheet_depth.proofs.Decimal.{depth-nearest, zero-depth}
+use Rattle.lines_record.specs.declared.Named.{Named}
+use Rattle.lines_record.specs.declared.Named.the-variants as N
+use Rattle.lines_record.specs.Record.{namedOf}
+use Rattle.lines_machine.specs.Program.{linesOf, Line, so, over, lineOf, printsOf, outputOf}
 use Rattle.sheet.specs.declared.Depth.{Depth}
 use Rattle.sheet.specs.declared.Depth.the-variants.{Is, Nothing}
 use Rattle.sheet.specs.Sheet.{Sheet, unbegun, on, faulty, most, depthLine, named, added, afterOf, endsOf, sheetProgram}

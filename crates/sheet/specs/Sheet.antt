@@ -11,13 +11,13 @@ use Rattle.error.specs.declared.Refusal.the-variants.{TooMany, BadSheet}
 use Rattle.text.specs.declared.Hexed.{Hexed}
 use Rattle.text.specs.declared.Hexed.the-variants as H
 use Rattle.text.specs.Text.{tabOf}
-use Rattle.decimals.specs.Decimals.{MINUS, thousandthsOf}
-use Rattle.depth.specs.Depth.{depthOf}
-use Rattle.record.specs.declared.Named.{Named}
-use Rattle.record.specs.declared.Named.the-variants as N
-use Rattle.record.specs.Record.{namedOf}
-use Rattle.reply.specs.Reply.{refused, curve, textOf}
-use Rattle.machine.specs.Program.{Line, so, over, Program}
+use Rattle.text_decimals.specs.Decimals.{MINUS, thousandthsOf}
+use Rattle.sheet_depth.specs.Depth.{depthOf}
+use Rattle.lines_record.specs.declared.Named.{Named}
+use Rattle.lines_record.specs.declared.Named.the-variants as N
+use Rattle.lines_record.specs.Record.{namedOf}
+use Rattle.lines_reply.specs.Reply.{refused, curve, textOf}
+use Rattle.lines_machine.specs.Program.{Line, so, over, Program}
 use Rattle.sheet.specs.declared.Depth.{Depth}
 use Rattle.sheet.specs.declared.Depth.the-variants.{Is, Nothing}
 

@@ -5,18 +5,18 @@ ghost use lib.ListN.{length, take, getD};
 ghost use lib.Dec.{eqb};
 ghost use lib.Ieee.{Float};
 ghost use mathlib.Core.List.{List};
-ghost use Rattle.decimals.specs.Decimals.{MINUS};
+ghost use Rattle.text_decimals.specs.Decimals.{MINUS};
 ghost use Rattle.text.specs.Wrote.{Wrote};
-ghost use Rattle.reply.specs.Told.{longest};
-ghost use Rattle.machine.specs.Program.{widest};
-ghost use Rattle.machine.specs.Held.{openOf};
+ghost use Rattle.lines_reply.specs.Told.{longest};
+ghost use Rattle.lines_machine.specs.Program.{widest};
+ghost use Rattle.lines_machine.specs.Held.{openOf};
 ghost use Rattle.sheet.specs.Sheet.{most, depthIn, depthLine, named, added, afterOf, endsOf};
 ghost use Rattle.sheet.specs.Held.{sheetOf, countOf};
-ghost use Rattle.record.specs.Record.{namedOf};
+ghost use Rattle.lines_record.specs.Record.{namedOf};
 use basis::Basis;
 use error::Refusal;
-use record::Named;
-use reply::Told;
+use lines_record::Named;
+use lines_reply::Told;
 use table::Table;
 use text::Hexed;
 
@@ -46,12 +46,12 @@ fn depth_in(s: &[u8]) -> Depth
     ensures { λ r. ⌜ r ≡ depthIn (now (s .entry)) ⌝ }
 {
     if is_minus(s) {
-        let Hexed::Is(n) = decimals::thousandths(&s[1..]) else {
+        let Hexed::Is(n) = text_decimals::thousandths(&s[1..]) else {
             return Depth::Nothing;
         };
         return Depth::Is(true, n);
     }
-    let Hexed::Is(n) = decimals::thousandths(s) else {
+    let Hexed::Is(n) = text_decimals::thousandths(s) else {
         return Depth::Nothing;
     };
     Depth::Is(false, n)
@@ -78,7 +78,7 @@ fn depth_line(l: &[u8]) -> Depth
 fn first(l: &[u8]) -> Held
     ensures { λ r. ⌜ ((t : List Float) → sheetOf r t ≡ named (namedOf (now (l .entry)))) × (countOf r ≤ most) ⌝ }
 {
-    let Named::Is(b) = record::basis_named(l) else {
+    let Named::Is(b) = lines_record::basis_named(l) else {
         return Held::Faulty(Refusal::BadSheet);
     };
     Held::On(b, 0)
@@ -93,7 +93,7 @@ fn add(b: Basis, n: usize, l: &[u8], table: &mut [f64]) -> Held
         return Held::Faulty(Refusal::BadSheet);
     };
     if n < 4096 {
-        table[n] = depth::depth(minus, k);
+        table[n] = sheet_depth::depth(minus, k);
         let next = n + 1;
         return Held::On(b, next);
     }
@@ -128,11 +128,11 @@ pub fn end(h: Held, table: &[f64], out: &mut [u8], at: usize) -> usize
     ensures { λ r. ⌜ Wrote (now (out .entry)) at (endsOf (sheetOf h (now (table .entry)))) (now (out .exit)) r × (r ≤ at + longest) ⌝ }
 {
     match h {
-        Held::Unbegun => reply::put_reply(Told::Refused(Refusal::BadSheet), table, out, at),
+        Held::Unbegun => lines_reply::put_reply(Told::Refused(Refusal::BadSheet), table, out, at),
         Held::On(b, n) => {
             let bare = Table { basis: b, span: 0 };
-            reply::put_reply(Told::Curve(bare, n), table, out, at)
+            lines_reply::put_reply(Told::Curve(bare, n), table, out, at)
         }
-        Held::Faulty(r) => reply::put_reply(Told::Refused(r), table, out, at),
+        Held::Faulty(r) => lines_reply::put_reply(Told::Refused(r), table, out, at),
     }
 }

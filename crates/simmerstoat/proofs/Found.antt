@@ -3,7 +3,7 @@ use mathlib.Core.Path.{_≡_, sym, ap, _∙_}
 use Rattle.basis.specs.declared.Basis.{Basis}
 use Rattle.simmerstoat.specs.declared.Chosen.{Chosen}
 use Rattle.simmerstoat.specs.declared.Chosen.the-variants.{Known, Unknown}
-use Rattle.steady.specs.declared.Method.{Method}
+use Rattle.inverse_methods.specs.declared.Method.{Method}
 use Rattle.inverse.specs.declared.EndsBy.{EndsBy}
 use Rattle.simmerstoat.specs.declared.options.Way.{Way}
 use Rattle.simmerstoat.specs.declared.options.Way.the-variants as W

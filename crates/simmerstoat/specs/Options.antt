@@ -3,8 +3,8 @@ use mathlib.Core.List.{List, [], _∷_, map}
 use Prim.Native.Nat.{ℕ}
 use lib.ListN.{getD}
 use Rattle.basis.specs.declared.Basis.{Basis}
-use Rattle.steady.specs.declared.Method.{Method}
-use Rattle.steady.specs.declared.Method.the-variants.{AsCrate, Taught, Steady}
+use Rattle.inverse_methods.specs.declared.Method.{Method}
+use Rattle.inverse_methods.specs.declared.Method.the-variants.{AsCrate, Taught, Steady}
 use Rattle.inverse.specs.declared.EndsBy.{EndsBy}
 use Rattle.inverse.specs.declared.EndsBy.the-variants.{Knots, Curve}
 use Rattle.simmerstoat.specs.declared.options.Way.{Way}

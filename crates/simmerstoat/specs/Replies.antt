@@ -9,10 +9,10 @@ use Rattle.basis.specs.declared.Basis.{Basis}
 use Rattle.basis.specs.declared.Basis.the-variants.{Bspline, Bezier, CatmullRom, Hermite, Linear, Power}
 use Rattle.spline.specs.declared.Evaluated.{Evaluated}
 use Rattle.spline.specs.declared.Evaluated.the-variants.{Value, Refused}
-use Rattle.invert.specs.declared.Ground.{Ground}
-use Rattle.invert.specs.declared.Ground.the-variants.{End, Edge, Value as ByValue, Width, Spent}
-use Rattle.invert.specs.declared.Inverted.{Inverted}
-use Rattle.invert.specs.declared.Inverted.the-variants.{Refused as NotInverted, OffCurve, At}
+use Rattle.inverse_segment.specs.declared.Ground.{Ground}
+use Rattle.inverse_segment.specs.declared.Ground.the-variants.{End, Edge, Value as ByValue, Width, Spent}
+use Rattle.inverse_segment.specs.declared.Inverted.{Inverted}
+use Rattle.inverse_segment.specs.declared.Inverted.the-variants.{Refused as NotInverted, OffCurve, At}
 use Rattle.convert.specs.declared.Converted.{Converted}
 use Rattle.convert.specs.declared.Converted.the-variants.{Written, Refused as NotConverted}
 use Rattle.simmerstoat.specs.declared.Chosen.{Chosen}

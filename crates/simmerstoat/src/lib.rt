@@ -5,7 +5,7 @@ ghost use mathlib.Core.Bool.{cond};
 ghost use lib.ListN.{length};
 ghost use Rattle.basis.specs.Basis.{lengthOk};
 ghost use Rattle.spline.specs.Evaluation.{splineOf, splineSegmentOf};
-ghost use Rattle.invert.specs.Answer.{inverseSegmentOf, defaultLimit, defaultPrecision};
+ghost use Rattle.inverse_segment.specs.Answer.{inverseSegmentOf, defaultLimit, defaultPrecision};
 ghost use Rattle.inverse.specs.Inverse.{inverseOf};
 ghost use Rattle.convert.specs.Conversion.{convertedOf, convertedSegmentOf};
 ghost use Rattle.convert.specs.Buffer.{answerOf, bufferOf};
@@ -25,8 +25,8 @@ ghost use Rattle.simmerstoat.specs.Replies.{
 use basis::Basis;
 use convert::Converted;
 use error::Refusal;
-use invert::Ground;
-use invert::Inverted;
+use inverse_segment::Ground;
+use inverse_segment::Inverted;
 use spline::Evaluated;
 
 pub mod hours;
@@ -201,7 +201,11 @@ pub extern "C" fn simmerstoat_spline_inverse_segment(
     let Chosen::Known(b) = c else {
         return 255;
     };
-    place_told(invert::spline_inverse_segment(b, y, cv), place, whole)
+    place_told(
+        inverse_segment::spline_inverse_segment(b, y, cv),
+        place,
+        whole,
+    )
 }
 
 // One segment's inversion with a limit and a precision.
@@ -224,7 +228,7 @@ pub extern "C" fn simmerstoat_spline_inverse_segment_with(
         return 255;
     };
     place_told(
-        invert::spline_inverse_segment_with(b, y, cv, limit, precision),
+        inverse_segment::spline_inverse_segment_with(b, y, cv, limit, precision),
         place,
         whole,
     )

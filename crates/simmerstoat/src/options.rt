@@ -1,14 +1,14 @@
 // Inversion with every option, each by its number.
 ghost use mathlib.Core.Path.{_≡_};
-ghost use Rattle.invert.specs.Answer.{inverseSegmentBy};
-ghost use Rattle.steady.specs.Method.{ruleOf};
+ghost use Rattle.inverse_segment.specs.Answer.{inverseSegmentBy};
+ghost use Rattle.inverse_methods.specs.Method.{ruleOf};
 ghost use Rattle.inverse.specs.Inverse.{inverseBy};
 ghost use Rattle.simmerstoat.specs.Replies.{noBasis, invertedReply, placeLeft, wholeLeft};
 ghost use Rattle.simmerstoat.specs.Options.{methodOf, wayOf, chosenBy};
 use crate::Chosen;
 use inverse::EndsBy;
 use inverse::Options;
-use steady::Method;
+use inverse_methods::Method;
 
 pub enum Way {
     Known(EndsBy, Method),
@@ -98,7 +98,7 @@ pub extern "C" fn simmerstoat_spline_inverse_segment_by(
         return 255;
     };
     crate::place_told(
-        steady::spline_inverse_segment_by(b, y, cv, limit, precision, m),
+        inverse_methods::spline_inverse_segment_by(b, y, cv, limit, precision, m),
         place,
         whole,
     )

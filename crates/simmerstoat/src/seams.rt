@@ -2,7 +2,7 @@
 ghost use mathlib.Core.Path.{_≡_};
 ghost use lib.ListN.{length};
 ghost use Rattle.convert.specs.Buffer.{answerOf, bufferOf};
-ghost use Rattle.strict.specs.Strict.{strictOf};
+ghost use Rattle.convert_strict.specs.Strict.{strictOf};
 ghost use Rattle.simmerstoat.specs.Replies.{chosenOf, noBasis, chosen, convertedReply, lengthLeft};
 use crate::Chosen;
 
@@ -29,7 +29,7 @@ pub extern "C" fn simmerstoat_convert_spline_strict(
         return 255;
     };
     crate::length_told(
-        strict::convert_spline_strict(f, t, knots, allowance, out),
+        convert_strict::convert_spline_strict(f, t, knots, allowance, out),
         written,
     )
 }

@@ -21,9 +21,9 @@ use Rattle.error.proofs.First.{never}
 use Rattle.error.proofs.Orders.{orderOf}
 use Rattle.inverse.specs.declared.EndsBy.{EndsBy}
 use Rattle.inverse.specs.Inverse.{inverseUses, inverseBy}
-use Rattle.invert.specs.Answer.{inverted}
-use Rattle.invert.specs.declared.Inverted.{Inverted}
-use Rattle.steady.specs.declared.Method.{Method}
+use Rattle.inverse_segment.specs.Answer.{inverted}
+use Rattle.inverse_segment.specs.declared.Inverted.{Inverted}
+use Rattle.inverse_methods.specs.declared.Method.{Method}
 use Rattle.spline.specs.Evaluation.{evaluated, splineUses, splineOf}
 use Rattle.spline.specs.Rows.{curveLength}
 use Rattle.spline.specs.declared.Evaluated.the-variants as E

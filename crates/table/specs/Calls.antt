@@ -13,9 +13,9 @@ use Rattle.error.specs.declared.Verdict.the-variants.{Passed, Failed}
 use Rattle.error.specs.Refusals.{Uses, first}
 use Rattle.inverse.specs.declared.EndsBy.{EndsBy}
 use Rattle.inverse.specs.Inverse.{inverseUses, inverseBy}
-use Rattle.invert.specs.declared.Inverted.{Inverted}
-use Rattle.invert.specs.declared.Inverted.the-variants as I
-use Rattle.steady.specs.declared.Method.{Method}
+use Rattle.inverse_segment.specs.declared.Inverted.{Inverted}
+use Rattle.inverse_segment.specs.declared.Inverted.the-variants as I
+use Rattle.inverse_methods.specs.declared.Method.{Method}
 use Rattle.spline.specs.Evaluation.{splineUses, splineOf}
 use Rattle.spline.specs.declared.Evaluated.{Evaluated}
 use Rattle.spline.specs.declared.Evaluated.the-variants as E

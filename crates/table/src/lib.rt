@@ -8,8 +8,8 @@ ghost use Rattle.error.specs.declared.Refusal.the-variants.{BadSpan};
 ghost use Rattle.error.specs.declared.Verdict.the-variants.{Failed};
 ghost use Rattle.error.specs.Refusals.{first};
 ghost use Rattle.inverse.specs.declared.EndsBy.the-variants.{Knots};
-ghost use Rattle.invert.specs.Answer.{defaultLimit, defaultPrecision};
-ghost use Rattle.steady.specs.declared.Method.the-variants.{AsCrate};
+ghost use Rattle.inverse_segment.specs.Answer.{defaultLimit, defaultPrecision};
+ghost use Rattle.inverse_methods.specs.declared.Method.the-variants.{AsCrate};
 ghost use Rattle.spline.specs.Rows.{curveLength};
 ghost use Rattle.table.specs.Second.{goodSpan, secondsOf, secondsIn};
 ghost use Rattle.table.specs.Calls.{timedOf, tableSplineOf, tableInverseBy, tableConvertedOf, handedOf};
@@ -19,10 +19,10 @@ use error::Refusal;
 use error::Verdict;
 use inverse::EndsBy;
 use inverse::Options;
-use invert::Inverted;
-use invert::Place;
+use inverse_methods::Method;
+use inverse_segment::Inverted;
+use inverse_segment::Place;
 use spline::Evaluated;
-use steady::Method;
 
 pub mod second;
 

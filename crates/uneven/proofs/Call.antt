@@ -21,12 +21,12 @@ use Rattle.spline.specs.declared.Evaluated.the-variants.{Value, Refused as NoVa
 use Rattle.spline.specs.Rows.{allInRange}
 use Rattle.spline.specs.Curve.{curveValue}
 use Rattle.spline.specs.Evaluation.{evaluated, splineUses, splineOf}
-use Rattle.invert.specs.declared.Place.{Place}
-use Rattle.invert.specs.declared.Inverted.{Inverted}
-use Rattle.invert.specs.declared.Inverted.the-variants.{Refused as NotInverted, OffCurve as Off, At as Found}
-use Rattle.invert.specs.Answer.{countTold}
-use Rattle.steady.specs.declared.Method.the-variants.{AsCrate}
-use Rattle.search.specs.Bound.{bitsOf, boundOf}
+use Rattle.inverse_segment.specs.declared.Place.{Place}
+use Rattle.inverse_segment.specs.declared.Inverted.{Inverted}
+use Rattle.inverse_segment.specs.declared.Inverted.the-variants.{Refused as NotInverted, OffCurve as Off, At as Found}
+use Rattle.inverse_segment.specs.Answer.{countTold}
+use Rattle.inverse_methods.specs.declared.Method.the-variants.{AsCrate}
+use Rattle.inverse_search.specs.Bound.{bitsOf, boundOf}
 use Rattle.inverse.specs.declared.EndsBy.the-variants.{Knots}
 use Rattle.inverse.specs.Inverse.{inverseUses, inverseOf, inverseEvaluations}
 use Rattle.inverse.proofs.Facts.{AtPlace, Proper}

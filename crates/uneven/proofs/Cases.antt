@@ -18,10 +18,10 @@ use Rattle.basis.specs.declared.Basis.{Basis}
 use Rattle.basis.specs.Basis.{stepOf, segmentsOf}
 use Rattle.spline.specs.Rows.{curveLength, allInRange, firstBad}
 use Rattle.spline.specs.Evaluation.{splineOf}
-use Rattle.invert.specs.declared.Inverted.{Inverted}
-use Rattle.invert.specs.Answer.{countTold}
-use Rattle.steady.specs.declared.Method.the-variants.{AsCrate}
-use Rattle.search.specs.Bound.{bitsOf, boundOf}
+use Rattle.inverse_segment.specs.declared.Inverted.{Inverted}
+use Rattle.inverse_segment.specs.Answer.{countTold}
+use Rattle.inverse_methods.specs.declared.Method.the-variants.{AsCrate}
+use Rattle.inverse_search.specs.Bound.{bitsOf, boundOf}
 use Rattle.inverse.specs.declared.EndsBy.the-variants.{Knots}
 use Rattle.inverse.specs.Inverse.{inverseOf}
 use Rattle.inverse.proofs.Promises.{inverse-bounded}

@@ -16,9 +16,9 @@ use Rattle.spline.specs.declared.Evaluated.{Evaluated}
 use Rattle.spline.specs.declared.Evaluated.the-variants.{Value, Refused as NoValue}
 use Rattle.spline.specs.Rows.{curveLength, badKnot}
 use Rattle.spline.specs.Evaluation.{splineOf}
-use Rattle.invert.specs.declared.Place.{Place}
-use Rattle.invert.specs.declared.Inverted.{Inverted}
-use Rattle.invert.specs.declared.Inverted.the-variants.{Refused as NotInverted, OffCurve as Off, At as Found}
+use Rattle.inverse_segment.specs.declared.Place.{Place}
+use Rattle.inverse_segment.specs.declared.Inverted.{Inverted}
+use Rattle.inverse_segment.specs.declared.Inverted.the-variants.{Refused as NotInverted, OffCurve as Off, At as Found}
 use Rattle.inverse.specs.Inverse.{inverseOf}
 use Rattle.uneven.specs.declared.Named.the-variants.{Times, Depths}
 use Rattle.uneven.specs.declared.Sounded.{Sounded}

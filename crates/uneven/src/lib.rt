@@ -5,13 +5,13 @@ ghost use lib.ListN.{length};
 ghost use Rattle.error.specs.Refusals.{first};
 ghost use Rattle.basis.specs.Basis.{segmentsOf};
 ghost use Rattle.spline.specs.Evaluation.{splineOf};
-ghost use Rattle.invert.specs.Answer.{countTold};
+ghost use Rattle.inverse_segment.specs.Answer.{countTold};
 ghost use Rattle.uneven.specs.Uneven.{depthUses, depthAt, suited, unsuited, depthOf};
 use basis::Basis;
 use error::Refusal;
 use error::Verdict;
-use invert::Inverted;
-use invert::Place;
+use inverse_segment::Inverted;
+use inverse_segment::Place;
 use spline::Evaluated;
 
 // The table that a refusal is of.

@@ -1,4 +1,4 @@
-//! `store` prints a list of the judge's answers for crates/replay, which that crate's README.md describes.
+//! `store` prints a list of the judge's answers for crates/test_replay, which that crate's README.md describes.
 //!
 //! Values, parameters, conversions and the crate's own refusals are its answers. The rest of an inversion's record is
 //! the model's, and so is what the crate does not have: the place of a refusal, other ends and methods, a bad knot.

@@ -5,10 +5,10 @@ use lib.Dec.{lit≤}
 use denote.Enum.Declared
 use native.Mathlib.Omega.{arith}
 use Rattle.spline.specs.Segment.{segmentOf}
-use Rattle.invert.proofs.Inverted
-use Rattle.steady.specs.Method.{ruleOf}
-use Rattle.search.specs.Trial.{trial}
-use Rattle.search.specs.Search.{find}
+use Rattle.inverse_segment.proofs.Inverted
+use Rattle.inverse_methods.specs.Method.{ruleOf}
+use Rattle.inverse_search.specs.Trial.{trial}
+use Rattle.inverse_search.specs.Search.{find}
 use Rattle.inverse.specs.Curve.{parameterOf}
 use Rattle.inverse.proofs.Calls.{refusal-kept, with-parameter}
 use Rattle.inverse.proofs.Below.{k-fits, k-few, k-some, found-below}

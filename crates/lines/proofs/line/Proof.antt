@@ -1,15 +1,15 @@
 -- The line's record is answered, and the reply written.
 use native.Mathlib.Omega.{arith}
-use Rattle.machine.specs.Held.{openOf}
+use Rattle.lines_machine.specs.Held.{openOf}
 use Rattle.lines.proofs.Saying.{line-state, line-wrote}
 use borrow.Author.Needs.{needs}
 use Rattle.lines.proofs.line.Statement.{statement}
 use Rattle.lines.proofs.line.Tie as tie
 use Rattle.lines.proofs.line.Reads as reads
 use Rattle.lines.proofs.line.Lts as lts
-use Rattle.answer.proofs.answer.Reads as answer-reads
+use Rattle.lines_answer.proofs.answer.Reads as answer-reads
 use Rattle.lines.proofs.said.Reads as said-reads
-use Rattle.reply.proofs.put_reply.Reads as put-reply-reads
+use Rattle.lines_reply.proofs.put_reply.Reads as put-reply-reads
 
 said-requires : tie.Need-said-requires
 said-requires c κs = search needs

@@ -7,7 +7,7 @@ use Rattle.lines.proofs.said.Statement.{statement}
 use Rattle.lines.proofs.said.Tie as tie
 use Rattle.lines.proofs.said.Reads as reads
 use Rattle.lines.proofs.said.Lts as lts
-use Rattle.record.proofs.record_of.Reads as record-of-reads
+use Rattle.lines_record.proofs.record_of.Reads as record-of-reads
 
 sub-record-of : tie.Need-sub-record-of
 sub-record-of c = search needs

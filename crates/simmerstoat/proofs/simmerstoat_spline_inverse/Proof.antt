@@ -1,6 +1,6 @@
 -- A number that is no basis writes nothing (`unfound`); for any other the call's contract is carried over to what C sees (`found`).
 use mathlib.Core.Path.{ap, _∙_}
-use Rattle.invert.specs.Answer.{defaultLimit, defaultPrecision}
+use Rattle.inverse_segment.specs.Answer.{defaultLimit, defaultPrecision}
 use Rattle.inverse.specs.Inverse.{inverseOf}
 use Rattle.simmerstoat.specs.Replies.{noBasis, placeLeft, wholeLeft, invertedReply}
 use Rattle.simmerstoat.proofs.Found.{found, unfound}

@@ -2,8 +2,8 @@
 use mathlib.Core.Path.{sym, ap, subst, _∙_}
 use Prim.Native.Nat.{_<_}
 use Rattle.spline.specs.Evaluation.{splineOf}
-use Rattle.invert.specs.declared.Inverted.{Inverted}
-use Rattle.invert.specs.Answer.{countTold}
+use Rattle.inverse_segment.specs.declared.Inverted.{Inverted}
+use Rattle.inverse_segment.specs.Answer.{countTold}
 use Rattle.uneven.specs.Uneven.{depthAt, suited}
 use borrow.Author.Needs.{needs}
 use Rattle.uneven.proofs.suited.Statement.{statement}

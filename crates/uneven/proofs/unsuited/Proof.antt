@@ -1,6 +1,6 @@
 -- By the inversion: its own refusal, or that of the depths. Assumes nothing.
 use mathlib.Core.Path.{sym, ap}
-use Rattle.invert.specs.declared.Inverted.{Inverted}
+use Rattle.inverse_segment.specs.declared.Inverted.{Inverted}
 use Rattle.uneven.specs.Uneven.{unsuited}
 use borrow.Author.Needs.{needs}
 use Rattle.uneven.proofs.unsuited.Statement.{statement}

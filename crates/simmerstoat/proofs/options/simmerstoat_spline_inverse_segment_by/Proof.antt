@@ -1,7 +1,7 @@
 -- `simmerstoat::options::simmerstoat_spline_inverse_segment_by` meets its contract: the numbers name a basis and a method, or all stays. Assumes nothing.
 use mathlib.Core.Path.{ap, _∙_}
-use Rattle.invert.specs.Answer.{inverseSegmentBy}
-use Rattle.steady.specs.Method.{ruleOf}
+use Rattle.inverse_segment.specs.Answer.{inverseSegmentBy}
+use Rattle.inverse_methods.specs.Method.{ruleOf}
 use Rattle.simmerstoat.specs.Replies.{noBasis, invertedReply, placeLeft, wholeLeft}
 use Rattle.simmerstoat.specs.Options.{wayOf, way}
 use Rattle.simmerstoat.proofs.Found.{found, unfound, way-found, way-unfound}

@@ -1,7 +1,7 @@
 -- A number that is no basis writes nothing (`unfound`); for any other the call's contract is carried over to what C sees (`found`).
 use mathlib.Core.Path.{ap, _∙_}
 use lib.ListN.{length}
-use Rattle.strict.specs.Strict.{strictOf}
+use Rattle.convert_strict.specs.Strict.{strictOf}
 use Rattle.convert.specs.Buffer.{answerOf, bufferOf}
 use Rattle.simmerstoat.specs.Replies.{chosenOf, noBasis, chosen, lengthLeft, convertedReply}
 use Rattle.simmerstoat.proofs.Found.{found, unfound}

@@ -1,8 +1,8 @@
 -- A number that is no basis writes nothing (`unfound`); for any other the call's contract is carried over to what C sees (`found`).
 use mathlib.Core.Path.{ap, _∙_}
-use Rattle.invert.specs.Answer.{defaultLimit, defaultPrecision}
+use Rattle.inverse_segment.specs.Answer.{defaultLimit, defaultPrecision}
 use Rattle.inverse.specs.declared.EndsBy.the-variants.{Knots}
-use Rattle.steady.specs.declared.Method.the-variants.{AsCrate}
+use Rattle.inverse_methods.specs.declared.Method.the-variants.{AsCrate}
 use Rattle.table.specs.Calls.{tableInverseBy}
 use Rattle.simmerstoat.specs.Replies.{noBasis}
 use Rattle.simmerstoat.specs.Tables.{tableOf, timedReply, timedPlace, timedWhole}

@@ -1,0 +1,65 @@
+-- The invariant: the rows passed have a zero in the column, so the first other one is looked for from k on.
+use borrow.Author.Needs.{needs}
+use lib.Ieee.{ofBits}
+use mathlib.Core.Path.{_≡_, refl, _∙_}
+use Prim.Native.Nat.{_≤_, _-_}
+use native.Mathlib.Omega.{arith}
+use Rattle.convert_matrix.specs.Elimination.{firstNonzero}
+use Rattle.convert_matrix.proofs.Steps.{from, passed-by, found, none-left}
+use Rattle.convert_matrix.proofs.pivot_row.Statement.{statement}
+use Rattle.convert_matrix.proofs.pivot_row.Tie as tie
+
+abbrev Inv-loop : tie.InvT-loop
+Inv-loop i a k₀ k = (k ≤ 4) × (firstNonzero (from k) a i ≡ firstNonzero (from i) a i)
+
+abbrev μ-loop : tie.MeasureT-loop
+μ-loop i a k₀ k = 4 - k
+
+loop-holds : tie.Need-loop-holds Inv-loop μ-loop
+loop-holds c = (omega arith, refl)
+
+mul-if1 : tie.Need-mul-if1 Inv-loop μ-loop
+mul-if1 c = search needs
+
+mul-if1-2 : tie.Need-mul-if1-2 Inv-loop μ-loop
+mul-if1-2 c = search needs
+
+index-1-if1 : tie.Need-index-1-if1 Inv-loop μ-loop
+index-1-if1 c = search needs
+
+index-2-if1 : tie.Need-index-2-if1 Inv-loop μ-loop
+index-2-if1 c = search needs
+
+add-k : tie.Need-add-k Inv-loop μ-loop
+add-k c = search needs
+
+loop-less : tie.Need-loop-less Inv-loop μ-loop
+loop-less c = search needs
+
+loop-again : tie.Need-loop-again Inv-loop μ-loop
+unfolding ofBits
+loop-again c = (omega arith, passed-by _ _ _ (c .before .before .loop-test .taken) (c .if1 .taken) ∙ c .before .before .before .loop .inv .1)
+
+returns : tie.Need-returns Inv-loop μ-loop
+unfolding ofBits
+returns c = (found _ _ _ (c .before .before .loop-test .taken) (c .if1 .left) ∙ c .before .before .before .loop .inv .1, c .before .before .loop-test .taken)
+
+returns-2 : tie.Need-returns-2 Inv-loop μ-loop
+returns-2 c = (none-left _ _ _ (c .loop-test .left) ∙ c .before .loop .inv .1, tt)
+
+pub pivot-row-spec : {M : Type 1} → statement M
+pivot-row-spec =
+    tie.close
+    (tie.spec
+    Inv-loop
+    μ-loop
+    loop-holds
+    mul-if1
+    mul-if1-2
+    index-1-if1
+    index-2-if1
+    add-k
+    loop-less
+    loop-again
+    returns
+    returns-2)

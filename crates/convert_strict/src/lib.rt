@@ -1,0 +1,29 @@
+// Strict conversion: a knot vector is converted only where no seam loses more than an allowance.
+ghost use mathlib.Core.Path.{_≡_};
+ghost use lib.ListN.{length};
+ghost use Rattle.convert.specs.Buffer.{answerOf, bufferOf};
+ghost use Rattle.convert_strict.specs.Strict.{strictOf};
+use basis::Basis;
+use convert::Converted;
+use error::Verdict;
+
+pub mod rows;
+pub mod seams;
+
+// Where nothing is refused, `convert::convert_spline` writes.
+pub fn convert_spline_strict(
+    from: Basis,
+    to: Basis,
+    knots: &[f64],
+    allowance: f64,
+    out: &mut [f64],
+) -> Converted
+    ensures answer { λ r. ⌜ r ≡ answerOf (strictOf from to (now (knots .entry)) allowance (length (now (out .entry)))) ⌝ }
+    ensures buffer { λ _. ⌜ now (out .exit) ≡ bufferOf (strictOf from to (now (knots .entry)) allowance (length (now (out .entry)))) (now (out .entry)) ⌝ }
+{
+    let v = rows::strict_verdict(from, to, knots, allowance, out.len());
+    match v {
+        Verdict::Failed(r) => Converted::Refused(r),
+        Verdict::Passed => convert::convert_spline(from, to, knots, out),
+    }
+}

@@ -1,0 +1,96 @@
+// The seams of a conversion: what a later segment would drop, beside what stands at its place of the output.
+ghost use mathlib.Core.Path.{_≡_};
+ghost use mathlib.Core.List.{_++_};
+ghost use Prim.Native.Nat.{_-_, _*_, _/_, _+_, _≤_, _<_};
+ghost use lib.ListN.{length, drop, getD};
+ghost use lib.Ieee.{nan};
+ghost use Rattle.convert.specs.Shown.{listOf};
+ghost use Rattle.convert_strict.specs.Seams.{isApart, any, lostSeam};
+use spline::Weights;
+
+fn is_apart(allowance: f64, a: f64, b: f64) -> bool
+    ensures { λ r. ⌜ r ≡ isApart allowance a b ⌝ }
+{
+    allowance < doubles::magnitude(a - b)
+}
+
+// Whether one of the doubles that a window w would drop is apart from what stands there: the last of h.
+fn loses(allowance: f64, gap: usize, w: Weights, h: Weights) -> bool
+    requires { ⌜ (0 < gap) × (gap ≤ 4) ⌝ }
+    ensures { λ r. ⌜ r ≡ any (4 - gap) (λ j. isApart allowance (getD (listOf w) j nan) (getD (listOf h) (gap + j) nan)) ⌝ }
+{
+    if gap == 1 {
+        if is_apart(allowance, w.w0, h.w1) {
+            return true;
+        }
+        if is_apart(allowance, w.w1, h.w2) {
+            return true;
+        }
+        return is_apart(allowance, w.w2, h.w3);
+    }
+    if gap == 2 {
+        if is_apart(allowance, w.w0, h.w2) {
+            return true;
+        }
+        return is_apart(allowance, w.w1, h.w3);
+    }
+    if gap == 3 {
+        return is_apart(allowance, w.w0, h.w3);
+    }
+    false
+}
+
+// The four doubles of the output that begin where w's window does, once its last gap are written.
+fn shifted(gap: usize, h: Weights, w: Weights) -> Weights
+    requires { ⌜ (0 < gap) × (gap ≤ 4) ⌝ }
+    ensures { λ r. ⌜ listOf r ≡ drop gap (listOf h) ++ drop (4 - gap) (listOf w) ⌝ }
+{
+    if gap == 1 {
+        return Weights {
+            w0: h.w1,
+            w1: h.w2,
+            w2: h.w3,
+            w3: w.w3,
+        };
+    }
+    if gap == 2 {
+        return Weights {
+            w0: h.w2,
+            w1: h.w3,
+            w2: w.w2,
+            w3: w.w3,
+        };
+    }
+    if gap == 3 {
+        return Weights {
+            w0: h.w3,
+            w1: w.w1,
+            w2: w.w2,
+            w3: w.w3,
+        };
+    }
+    w
+}
+
+// The lowest segment at whose seam a double is lost; 0 where none is. Nothing is written:
+// `held` is the part of the output that the next seam overlaps.
+pub fn lost_seam(m: [[f64; 4]; 4], step: usize, knots: &[f64], gap: usize, allowance: f64) -> usize
+    requires { ⌜ (0 < step) × (0 < gap) × (gap ≤ 4) × (4 ≤ length (now knots)) × (length (now knots) ≤ 4096) ⌝ }
+    ensures lowest { λ r. ⌜ r ≡ lostSeam m step gap allowance (now (knots .entry)) ((length (now (knots .entry)) - 4) / step) ⌝ }
+    ensures small { λ r. ⌜ r ≤ 4092 ⌝ }
+{
+    let last = (knots.len() - 4) / step;
+    let mut held = spline::segment::sums(m, knots);
+    let mut s = 0;
+    while s < last {
+        s += 1;
+        let start = s * step;
+        let w = spline::segment::sums(m, &knots[start..]);
+        if loses(allowance, gap, w, held) {
+            return s;
+        }
+        let next = shifted(gap, held, w);
+        held = next;
+    }
+    0
+}

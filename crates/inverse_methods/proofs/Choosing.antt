@@ -1,0 +1,55 @@
+-- The steady rule's choice by what the code's calls give. Assumes nothing.
+use mathlib.Core.Path.{_≡_, refl, sym, ap, _∙_}
+use mathlib.Core.Bool.{true, false}
+use Prim.Native.Nat.{ℕ, _+_}
+use native.Mathlib.Numerals.{add-one}
+use lib.IntN.{pos}
+use lib.Ieee.{Float, fin, binary64, sub, mul, div, lt}
+use Rattle.doubles.specs.Numbers.{half}
+use Rattle.doubles.specs.Lerp.{lerpOf}
+use Rattle.inverse_segment.specs.declared.Bracket.{Bracket}
+use Rattle.inverse_segment.specs.declared.State.{State}
+use Rattle.inverse_segment.specs.Round.{toward, midpoint, weighed}
+use Rattle.spline.specs.declared.Weights.{Weights}
+use Rattle.spline.specs.Segment.{hornerOf}
+use Rattle.inverse_segment.specs.declared.Place.{Place}
+use Rattle.inverse_segment.specs.declared.Weighing.the-variants.{Value, Distance}
+use Rattle.inverse_segment.specs.Segment.{entered}
+use Rattle.inverse_segment.specs.Answer.{placeOf, alone}
+use Rattle.inverse_segment.specs.Shown.{EnteredIs as ChordIs}
+use Rattle.inverse_methods.specs.declared.Method.{Method}
+use Rattle.inverse_methods.specs.declared.Method.the-variants.{AsCrate, Taught, Steady}
+use Rattle.inverse_methods.specs.Method.{ruleOf}
+use Rattle.inverse_methods.specs.Shown.{EnteredIs, EnteredBy}
+use Rattle.inverse_methods.specs.Steady.{allowed, inner, secant, paced, steady}
+
+module _ (limit i : ℕ) (y width : Float) (st : State) (e : width ≡ allowed i) where
+  pub choose-middle : (x : Float) → lt width (sub binary64 (st .bracket .upper) (st .bracket .lower)) ≡ true → x ≡ midpoint (st .bracket)
+      → (st .bracket ≡ steady limit i y st .bracket) × (x ≡ steady limit i y st .place)
+  unfolding paced secant
+  choose-middle x h m = (simp (← e, h), simp (← e, h, m))
+
+  pub choose-chord : (a : Bracket) (t p x : Float) → lt width (sub binary64 (st .bracket .upper) (st .bracket .lower)) ≡ false → a ≡ weighed toward y true st
+      → t ≡ div binary64 (sub binary64 y (a .v0)) (sub binary64 (a .v1) (a .v0)) → p ≡ lerpOf (a .lower) (a .upper) t → x ≡ inner a p → (a ≡ steady limit i y st .bracket) × (x ≡ steady limit i y st .place)
+  unfolding paced secant
+  choose-chord a t p x h e-a e-t e-p e-x = (simp (← e, h) e-a, simp (← e, h) (cc))
+
+-- the width allowed at first, and in the next round
+pub first-width : fin false 1 (pos 4) ≡ allowed 0
+unfolding allowed
+first-width = refl
+
+pub next-width : (i : ℕ) {width : Float} → width ≡ allowed i → mul binary64 width half ≡ allowed (i + 1)
+unfolding allowed
+next-width i e = rw (add-one) (ap (λ (z : Float). mul binary64 z half) e)
+
+-- ---- by a method
+module _ (w : Weights) (s : ℕ) (y ε : Float) (limit : ℕ) (v0 v1 : Float) (n : ℕ) (how : Method) {r : Place} where
+  pub by-crate : how ≡ AsCrate → ChordIs Value w s y ε limit v0 v1 n r → EnteredBy how w s y ε limit v0 v1 n r
+  by-crate e i ev k = i ev k ∙ ap (λ (m : Method). placeOf alone (entered (ruleOf m) (hornerOf w) s y ε limit v0 v1 ev)) (sym e)
+
+  pub by-taught : how ≡ Taught → ChordIs Distance w s y ε limit v0 v1 n r → EnteredBy how w s y ε limit v0 v1 n r
+  by-taught e i ev k = i ev k ∙ ap (λ (m : Method). placeOf alone (entered (ruleOf m) (hornerOf w) s y ε limit v0 v1 ev)) (sym e)
+
+  pub by-steady : how ≡ Steady → EnteredIs w s y ε limit v0 v1 n r → EnteredBy how w s y ε limit v0 v1 n r
+  by-steady e i ev k = i ev k ∙ ap (λ (m : Method). placeOf alone (entered (ruleOf m) (hornerOf w) s y ε limit v0 v1 ev)) (sym e)

@@ -1,0 +1,41 @@
+-- The rule's results as the code has them: the width allowed stands for the round's number. Definitions only.
+use mathlib.Core.Path.{_≡_}
+use mathlib.Core.Bool.{Bool}
+use Prim.Native.Nat.{ℕ}
+use lib.ListN.{length}
+use lib.Ieee.{Float}
+use Rattle.spline.specs.declared.Weights.{Weights}
+use Rattle.spline.specs.Segment.{hornerOf}
+use Rattle.inverse_segment.specs.declared.Bracket.{Bracket}
+use Rattle.inverse_segment.specs.declared.State.{State}
+use Rattle.inverse_segment.specs.declared.Turned.{Turned}
+use Rattle.inverse_segment.specs.declared.Place.{Place}
+use Rattle.inverse_segment.specs.declared.Tried.{Tried}
+use Rattle.inverse_segment.specs.Evaluations.{Evaluations}
+use Rattle.inverse_segment.specs.Round.{on, turn}
+use Rattle.inverse_segment.specs.Rounds.{rounds}
+use Rattle.inverse_segment.specs.Segment.{start, entered, enter}
+use Rattle.inverse_segment.specs.Answer.{placeOf, alone}
+use Rattle.inverse_segment.specs.Shown.{shown, tried}
+use Rattle.inverse_methods.specs.declared.Chosen.{Chosen}
+use Rattle.inverse_methods.specs.declared.Method.{Method}
+use Rattle.inverse_methods.specs.Steady.{allowed, steady}
+use Rattle.inverse_methods.specs.Method.{ruleOf}
+
+abbrev pub ChosenIs : Float → Float → State → Chosen → Type 0
+ChosenIs y width st r = (limit i : ℕ) → width ≡ allowed i → (r .bracket ≡ steady limit i y st .bracket) × (r .place ≡ steady limit i y st .place)
+
+abbrev pub TurnIs : Weights → Float → Float → Bool → Float → State → ℕ → Turned → Type 0
+TurnIs w y ε rising width st n r = (limit i : ℕ) → width ≡ allowed i → (s : ℕ) (ev : Evaluations) → length ev ≡ n → r ≡ shown (turn steady (hornerOf w) s y ε rising limit i st ev)
+
+abbrev pub RoundsIs : Weights → ℕ → Float → Float → Bool → Bracket → ℕ → ℕ → Place → Type 0
+RoundsIs w s y ε rising b limit n r = (ev : Evaluations) → length ev ≡ n → r ≡ placeOf alone (rounds steady (hornerOf w) s y ε rising limit limit 0 (on (start b) ev))
+
+abbrev pub EnteredIs : Weights → ℕ → Float → Float → ℕ → Float → Float → ℕ → Place → Type 0
+EnteredIs w s y ε limit v0 v1 n r = (ev : Evaluations) → length ev ≡ n → r ≡ placeOf alone (entered steady (hornerOf w) s y ε limit v0 v1 ev)
+
+abbrev pub EnteredBy : Method → Weights → ℕ → Float → Float → ℕ → Float → Float → ℕ → Place → Type 0
+EnteredBy how w s y ε limit v0 v1 n r = (ev : Evaluations) → length ev ≡ n → r ≡ placeOf alone (entered (ruleOf how) (hornerOf w) s y ε limit v0 v1 ev)
+
+abbrev pub EnterIs : Method → Weights → ℕ → Float → Float → ℕ → ℕ → Tried → Type 0
+EnterIs how w s y ε limit n r = (ev : Evaluations) → length ev ≡ n → r ≡ tried (enter (ruleOf how) (hornerOf w) s y ε limit ev)

@@ -1,0 +1,273 @@
+// Inversion of one segment by each method; the steady rule.
+ghost use mathlib.Core.Path.{_≡_};
+ghost use Prim.Native.Nat.{_≤_, _<_, _+_};
+ghost use mathlib.Core.Bool.{true};
+ghost use Rattle.inverse_segment.specs.Round.{toward, weighed};
+ghost use Rattle.inverse_segment.specs.Shown.{repeatsAfter, countAfter};
+ghost use Rattle.inverse_segment.specs.Answer.{inverseSegmentBy};
+ghost use Rattle.inverse_methods.specs.Method.{ruleOf};
+ghost use Rattle.inverse_methods.specs.Steady.{inner};
+ghost use Rattle.inverse_methods.specs.Shown.{ChosenIs, TurnIs, RoundsIs, EnteredIs, EnteredBy, EnterIs};
+use basis::Basis;
+use error::Verdict;
+use inverse_segment::Bracket;
+use inverse_segment::Ground;
+use inverse_segment::Inverted;
+use inverse_segment::Place;
+use inverse_segment::State;
+use inverse_segment::Tried;
+use inverse_segment::Turned;
+use inverse_segment::Weighing;
+use spline::Weights;
+
+// How the next place is chosen: as the crate does, with the weighting as it is taught, or at the pace.
+pub enum Method {
+    AsCrate,
+    Taught,
+    Steady,
+}
+
+// The bracket as weighed, and the place that is evaluated.
+pub struct Chosen {
+    pub bracket: Bracket,
+    pub place: f64,
+}
+
+pub fn weighed(y: f64, st: State) -> Bracket
+    ensures { λ r. ⌜ r ≡ weighed toward y true st ⌝ }
+{
+    if 0 < st.repeats {
+        return inverse_segment::round::toward(y, st.side == 1, st.bracket);
+    }
+    st.bracket
+}
+
+pub fn inner(b: Bracket, x: f64) -> f64
+    ensures { λ r. ⌜ r ≡ inner b x ⌝ }
+{
+    if b.lower < x {
+        if x < b.upper {
+            return x;
+        }
+        return doubles::lerp(b.lower, b.upper, 0.5);
+    }
+    doubles::lerp(b.lower, b.upper, 0.5)
+}
+
+pub fn choose(y: f64, width: f64, st: State) -> Chosen
+    ensures { λ r. ⌜ ChosenIs y width st r ⌝ }
+{
+    let b = st.bracket;
+    if width < b.upper - b.lower {
+        return Chosen {
+            bracket: b,
+            place: doubles::lerp(b.lower, b.upper, 0.5),
+        };
+    }
+    let a = weighed(y, st);
+    let t = (y - a.v0) / (a.v1 - a.v0);
+    Chosen {
+        bracket: a,
+        place: inner(a, doubles::lerp(a.lower, a.upper, t)),
+    }
+}
+
+// n evaluations have been made before the round.
+pub fn turn(
+    w: Weights,
+    y: f64,
+    precision: f64,
+    rising: bool,
+    width: f64,
+    st: State,
+    n: u32,
+) -> Turned
+    requires { ⌜ (st .repeats < 65536) × (n < 2000000) ⌝ }
+    ensures { λ r. ⌜ (TurnIs w y precision rising width st n r) × (repeatsAfter r ≤ st .repeats + 1) × (countAfter r ≤ n + 1) ⌝ }
+{
+    let b = st.bracket;
+    if inverse_segment::round::is_narrow(precision, b) {
+        return Turned::Done(Ground::Width, doubles::lerp(b.lower, b.upper, 0.5), b, n);
+    }
+    let c = choose(y, width, st);
+    let a = c.bracket;
+    let x = c.place;
+    let v = spline::segment::horner(w, x);
+    let next = inverse_segment::round::moved((v < y) == rising, a, st, x, v);
+    if doubles::magnitude(v - y) < precision {
+        let e = next.bracket;
+        return Turned::Done(Ground::Value, x, e, n + 1);
+    }
+    Turned::Next(next, n + 1)
+}
+
+// The rounds, from the bracket that is given; n evaluations have been made before them.
+pub fn rounds(
+    w: Weights,
+    s: usize,
+    y: f64,
+    precision: f64,
+    rising: bool,
+    first: Bracket,
+    limit: u16,
+    n: u32,
+) -> Place
+    requires { ⌜ n ≤ 1000000 ⌝ }
+    ensures { λ r. ⌜ RoundsIs w s y precision rising first limit n r ⌝ }
+{
+    let most = limit as u32;
+    let mut st = State {
+        bracket: first,
+        side: 0,
+        repeats: 0,
+    };
+    let mut width = 16.0;
+    let mut i: u32 = 0;
+    let mut count = n;
+    while i < most {
+        let t = turn(w, y, precision, rising, width, st, count);
+        match t {
+            Turned::Next(next, k) => {
+                st = next;
+                count = k;
+            }
+            Turned::Done(ground, x, b, k) => {
+                return inverse_segment::told_at(s, ground, x, b, k);
+            }
+        }
+        width = width * 0.5;
+        i += 1;
+    }
+    let b = st.bracket;
+    inverse_segment::told_at(
+        s,
+        Ground::Spent,
+        doubles::lerp(b.lower, b.upper, 0.5),
+        b,
+        count,
+    )
+}
+
+// The place in segment s, whose end values v0 and v1 enclose y; n evaluations have been made, those of its ends among them.
+pub fn entered(
+    w: Weights,
+    s: usize,
+    y: f64,
+    precision: f64,
+    limit: u16,
+    v0: f64,
+    v1: f64,
+    n: u32,
+) -> Place
+    requires { ⌜ n ≤ 1000000 ⌝ }
+    ensures { λ r. ⌜ EnteredIs w s y precision limit v0 v1 n r ⌝ }
+{
+    let whole = Bracket {
+        lower: 0.0,
+        upper: 1.0,
+        v0: v0,
+        v1: v1,
+    };
+    if inverse_segment::is_near(y, v0, precision) {
+        return inverse_segment::told_at(s, Ground::Edge, 0.0, whole, n);
+    }
+    if inverse_segment::is_near(y, v1, precision) {
+        return inverse_segment::told_at(s, Ground::Edge, 1.0, whole, n);
+    }
+    rounds(w, s, y, precision, v0 < v1, whole, limit, n)
+}
+
+// By the method that is asked for.
+pub fn entered_by(
+    how: Method,
+    w: Weights,
+    s: usize,
+    y: f64,
+    precision: f64,
+    limit: u16,
+    v0: f64,
+    v1: f64,
+    n: u32,
+) -> Place
+    requires { ⌜ n ≤ 1000000 ⌝ }
+    ensures { λ r. ⌜ EnteredBy how w s y precision limit v0 v1 n r ⌝ }
+{
+    match how {
+        Method::AsCrate => inverse_segment::entered(
+            Weighing::Value,
+            w,
+            s,
+            y,
+            precision,
+            limit,
+            v0,
+            v1,
+            n,
+        ),
+        Method::Taught => inverse_segment::entered(
+            Weighing::Distance,
+            w,
+            s,
+            y,
+            precision,
+            limit,
+            v0,
+            v1,
+            n,
+        ),
+        Method::Steady => entered(w, s, y, precision, limit, v0, v1, n),
+    }
+}
+
+// Segment s is tried: both its ends are evaluated, once, and it is entered where they enclose y. `count` evaluations have been made before.
+pub fn enter(
+    how: Method,
+    w: Weights,
+    s: usize,
+    y: f64,
+    precision: f64,
+    limit: u16,
+    count: u32,
+) -> Tried
+    requires { ⌜ count < 900000 ⌝ }
+    ensures { λ r. ⌜ EnterIs how w s y precision limit count r ⌝ }
+{
+    let v0 = spline::segment::horner(w, 0.0);
+    let v1 = spline::segment::horner(w, 1.0);
+    if inverse_segment::encloses(v0, v1, y) {
+        return Tried::Inside(entered_by(how, w, s, y, precision, limit, v0, v1, count + 2));
+    }
+    Tried::Outside(v0)
+}
+
+// The place of y on the segment whose four knots are cv, by the method that is asked for.
+pub fn spline_inverse_segment_by(
+    b: Basis,
+    y: f64,
+    cv: &[f64],
+    limit: u16,
+    precision: f64,
+    how: Method,
+) -> Inverted
+    ensures { λ r. ⌜ r ≡ inverseSegmentBy (ruleOf how) b y (now (cv .entry)) limit precision ⌝ }
+{
+    let v = inverse_segment::rows::segment_verdict(y, cv, limit, precision);
+    match v {
+        Verdict::Failed(r) => Inverted::Refused(r),
+        Verdict::Passed => {
+            let t = enter(
+                how,
+                spline::segment::weights(b, cv),
+                0,
+                y,
+                precision,
+                limit,
+                0,
+            );
+            let Tried::Inside(p) = t else {
+                return Inverted::OffCurve(2);
+            };
+            Inverted::At(p)
+        }
+    }
+}

@@ -1,0 +1,31 @@
+-- From left − 1, at least 0, at most two segments are tried; they lie below k.
+use native.Mathlib.Omega.{arith}
+use Rattle.inverse_search.proofs.Calls.{fits-le, last-tried}
+use borrow.Author.Needs.{needs}
+use Rattle.inverse_search.proofs.last_tries.Statement.{statement}
+use Rattle.inverse_search.proofs.last_tries.Tie as tie
+
+one-less-requires : tie.Need-one-less-requires
+one-less-requires c κs = search needs
+
+add-lesser : tie.Need-add-lesser
+add-lesser c = search needs
+
+lesser-requires : tie.Need-lesser-requires
+lesser-requires c κs = search needs
+
+tries-requires : tie.Need-tries-requires
+tries-requires c κs =
+    let p = c .before .before .before .before .before .pre in
+    (fits-le (c .before .before .lesser .result) (c .before .before .before .before .before .args .k) _ _ (omega arith) (p .0), p .1, omega arith, omega arith, omega arith, omega arith)
+
+returns : tie.Need-returns
+returns c =
+    let a = c .before .before .before .before .before .before .args in
+    let first = c .before .before .before .before .one-less in
+    let end = c .before .before .before .lesser in
+    (last-tried (a .b) (a .knots .now) (a .y) (a .k) (a .left) (first .result) (end .result) (first .ensures) (end .ensures) (c .tries .ensures .0), omega arith)
+
+pub last-tries-spec : {M : Type 1} → statement M
+last-tries-spec =
+    tie.close (tie.spec one-less-requires add-lesser lesser-requires tries-requires returns)

@@ -1,0 +1,248 @@
+// The search for the segment of a curve to enter. Rust: the two searches of `spline_inverse` in src/spline_trait.rs.
+ghost use mathlib.Core.Path.{_≡_};
+ghost use Prim.Native.Nat.{_+_, _-_, _*_, _≤_, _<_};
+ghost use lib.ListN.{length, drop};
+ghost use Rattle.basis.specs.Basis.{stepOf, matrixOf};
+ghost use Rattle.spline.specs.Segment.{weightsOf};
+ghost use Rattle.inverse_search.specs.Bound.{bitsOf, boundOf};
+ghost use Rattle.inverse_search.specs.Search.{before};
+ghost use Rattle.inverse_search.specs.Shown.{SettledIs, TestedIs, TriesIs, LastIs, HalveIs, SoughtIs, FindIs};
+use basis::Basis;
+use inverse_methods::Method;
+use inverse_segment::Inverted;
+use spline::Weights;
+
+// The binary digits of k up to the highest one.
+pub fn bits(k: usize) -> u32
+    ensures { λ r. ⌜ (r ≡ bitsOf k) × (r ≤ 64) ⌝ }
+{
+    64 - usize::leading_zeros(k)
+}
+
+// The most evaluations that an inversion of k segments makes.
+pub fn most_evaluations(k: usize, limit: u16) -> u32
+    ensures { λ r. ⌜ r ≡ boundOf k limit ⌝ }
+{
+    if k <= 12 {
+        limit as u32 + 24
+    } else {
+        limit as u32 + 2 * bits(k) + 4
+    }
+}
+
+// The row sums of segment s: the part of the knots that starts at its place is lent, and nothing copied.
+pub fn weights_at(b: Basis, knots: &[f64], s: usize) -> Weights
+    requires { ⌜ (s * stepOf b + 4 ≤ length (now knots)) × (length (now knots) ≤ 4096) ⌝ }
+    ensures { λ r. ⌜ r ≡ weightsOf (matrixOf b) (drop (s * stepOf b) (now (knots .entry))) ⌝ }
+{
+    let start = s * basis::step(b);
+    spline::segment::weights(b, &knots[start..])
+}
+
+// Both ends of the segment with these row sums are evaluated, once, and kept behind them: do they enclose y?
+fn settle(w: Weights, y: f64, ends: &mut [f64; 6]) -> bool
+    ensures { λ r. ⌜ SettledIs w y (now (ends .exit)) r ⌝ }
+{
+    let v0 = spline::segment::horner(w, 0.0);
+    let v1 = spline::segment::horner(w, 1.0);
+    *ends = [w.w0, w.w1, w.w2, w.w3, v0, v1];
+    inverse_segment::encloses(v0, v1, y)
+}
+
+// A match on the basis, so that each matrix is known where it is used, and no row sum is computed through memory.
+fn settle_by(b: Basis, cv: &[f64], y: f64, ends: &mut [f64; 6]) -> bool
+    requires { ⌜ 4 ≤ length (now cv) ⌝ }
+    ensures { λ r. ⌜ SettledIs (weightsOf (matrixOf b) (now (cv .entry))) y (now (ends .exit)) r ⌝ }
+{
+    match b {
+        Basis::Bspline => settle(
+            spline::segment::sums(basis::basis_macros::bspline(), cv),
+            y,
+            ends,
+        ),
+        Basis::Bezier => settle(
+            spline::segment::sums(basis::basis_macros::bezier(), cv),
+            y,
+            ends,
+        ),
+        Basis::CatmullRom => settle(
+            spline::segment::sums(basis::basis_macros::catmull_rom(), cv),
+            y,
+            ends,
+        ),
+        Basis::Hermite => settle(
+            spline::segment::sums(basis::basis_macros::hermite(), cv),
+            y,
+            ends,
+        ),
+        Basis::Linear => settle(
+            spline::segment::sums(basis::basis_macros::linear(), cv),
+            y,
+            ends,
+        ),
+        Basis::Power => settle(
+            spline::segment::sums(basis::basis_macros::power(), cv),
+            y,
+            ends,
+        ),
+    }
+}
+
+// Segment s is tested.
+pub fn probe(b: Basis, knots: &[f64], s: usize, y: f64, ends: &mut [f64; 6]) -> bool
+    requires { ⌜ (s * stepOf b + 4 ≤ length (now knots)) × (length (now knots) ≤ 4096) ⌝ }
+    ensures { λ r. ⌜ TestedIs b (now (knots .entry)) s y (now (ends .exit)) r ⌝ }
+{
+    let start = s * basis::step(b);
+    settle_by(b, &knots[start..], y, ends)
+}
+
+// The segments from `first` up to below `end`, in order: the first whose ends enclose the target; k, where none has such ends.
+pub fn tries(
+    b: Basis,
+    knots: &[f64],
+    y: f64,
+    k: usize,
+    first: usize,
+    end: usize,
+    made: &mut u32,
+    ends: &mut [f64; 6],
+) -> usize
+    requires { ⌜ (end * stepOf b + 4 ≤ length (now knots) + stepOf b) × (length (now knots) ≤ 4096) × (end ≤ k) × (k ≤ 4096) × (first ≤ end) × (now made ≤ 100000) ⌝ }
+    ensures { λ r. ⌜ (TriesIs b (now (knots .entry)) y (end - first) first k (now (made .entry)) r (now (made .exit)) (now (ends .exit))) × (now (made .exit) ≤ now (made .entry) + 2 * (end - first)) ⌝ }
+{
+    let mut s = first;
+    while s < end {
+        let holds = probe(b, knots, s, y, &mut *ends);
+        *made = *made + 2;
+        if holds {
+            return s;
+        }
+        s += 1;
+    }
+    k
+}
+
+fn one_less(n: usize) -> usize
+    ensures { λ r. ⌜ r ≡ n - 1 ⌝ }
+{
+    if 0 < n { n - 1 } else { 0 }
+}
+
+// Nothing is open any more, at `left` of k segments: those beside it are tried once more.
+pub fn last_tries(
+    b: Basis,
+    knots: &[f64],
+    y: f64,
+    k: usize,
+    left: usize,
+    made: &mut u32,
+    ends: &mut [f64; 6],
+) -> usize
+    requires { ⌜ (k * stepOf b + 4 ≤ length (now knots) + stepOf b) × (length (now knots) ≤ 4096) × (0 < k) × (k ≤ 4096) × (left ≤ k) × (now made ≤ 90000) ⌝ }
+    ensures { λ r. ⌜ (LastIs b (now (knots .entry)) y k left (now (made .entry)) r (now (made .exit)) (now (ends .exit))) × (now (made .exit) ≤ now (made .entry) + 4) ⌝ }
+{
+    let first = one_less(left);
+    let end = doubles::whole::lesser(first + 2, k);
+    tries(b, knots, y, k, first, end, made, ends)
+}
+
+pub fn lies_before(rising: bool, y: f64, v: f64) -> bool
+    ensures { λ r. ⌜ r ≡ before rising y v ⌝ }
+{
+    if rising { y < v } else { v < y }
+}
+
+// The `wide` segments from `left` on are open: the middle one is tested, then the part before it or the part after it is searched.
+// The knots stand behind a second reference and the answer is a number: so a level hands on words alone, and the compiler makes a loop of
+// it.
+pub fn halve(
+    b: Basis,
+    knots: &&[f64],
+    y: f64,
+    rising: bool,
+    k: usize,
+    left: usize,
+    wide: usize,
+    made: &mut u32,
+    ends: &mut [f64; 6],
+) -> usize
+    requires { ⌜ (k * stepOf b + 4 ≤ length (now (now knots)) + stepOf b) × (length (now (now knots)) ≤ 4096) × (0 < k) × (k ≤ 4096) × (left + wide ≤ k) × (now made + 2 * wide ≤ 90000) ⌝ }
+    ensures { λ r. ⌜ (HalveIs b (now (now (knots .entry))) y rising k left wide (now (made .entry)) r (now (made .exit)) (now (ends .exit))) × (now (made .exit) ≤ now (made .entry) + 2 * wide + 4) ⌝ }
+{
+    if wide == 0 {
+        return last_tries(b, *knots, y, k, left, made, ends);
+    }
+    let half = (wide - 1) / 2;
+    let mid = left + half;
+    let holds = probe(b, *knots, mid, y, &mut *ends);
+    *made = *made + 2;
+    if holds {
+        return mid;
+    }
+    if lies_before(rising, y, ends[4]) {
+        halve(b, knots, y, rising, k, left, half, made, ends)
+    } else {
+        halve(b, knots, y, rising, k, mid + 1, wide - 1 - half, made, ends)
+    }
+}
+
+// The segment to enter, or k: up to 12 segments in order, above by halving.
+fn sought(
+    b: Basis,
+    knots: &[f64],
+    y: f64,
+    rising: bool,
+    k: usize,
+    made: &mut u32,
+    ends: &mut [f64; 6],
+) -> usize
+    requires { ⌜ (k * stepOf b + 4 ≤ length (now knots) + stepOf b) × (length (now knots) ≤ 4096) × (0 < k) × (k ≤ 4096) × (now made ≤ 1000) ⌝ }
+    ensures { λ r. ⌜ (SoughtIs b (now (knots .entry)) y rising k (now (made .entry)) r (now (made .exit)) (now (ends .exit))) × (now (made .exit) ≤ 10000) ⌝ }
+{
+    if k <= 12 {
+        return tries(b, knots, y, k, 0, k, made, ends);
+    }
+    let lent = knots;
+    halve(b, &lent, y, rising, k, 0, k, made, ends)
+}
+
+// The search, and the place in the segment that it comes to; `count` evaluations have been made before.
+pub fn find(
+    how: Method,
+    b: Basis,
+    knots: &[f64],
+    y: f64,
+    precision: f64,
+    limit: u16,
+    rising: bool,
+    k: usize,
+    count: u32,
+) -> Inverted
+    requires { ⌜ (k * stepOf b + 4 ≤ length (now knots) + stepOf b) × (length (now knots) ≤ 4096) × (0 < k) × (k ≤ 4096) × (count ≤ 1000) ⌝ }
+    ensures { λ r. ⌜ FindIs how b (now (knots .entry)) y precision limit rising k count r ⌝ }
+{
+    let mut made = count;
+    let mut ends = [0.0, 0.0, 0.0, 0.0, 0.0, 0.0];
+    let s = sought(b, knots, y, rising, k, &mut made, &mut ends);
+    if s < k {
+        let w = Weights {
+            w0: ends[0],
+            w1: ends[1],
+            w2: ends[2],
+            w3: ends[3],
+        };
+        return Inverted::At(inverse_methods::entered_by(
+            how,
+            w,
+            s,
+            y,
+            precision,
+            limit,
+            ends[4],
+            ends[5],
+            made,
+        ));
+    }
+    Inverted::OffCurve(made as usize)
+}

@@ -1,0 +1,164 @@
+-- A round, the rounds and the segment, by what the code's calls give. Assumes nothing.
+use mathlib.Core.Path.{_≡_, refl, sym, ap, _∙_}
+use mathlib.Core.List.{_∷_}
+use mathlib.Core.Bool.{Bool, true, false, cond, _&&_, Bool·beq}
+use Prim.Native.Nat.{ℕ, zero, suc, _+_, _-_, _*_, _/_, _<_, _≤_}
+use native.Mathlib.Numerals.{add-one}
+use native.Mathlib.Omega.{arith}
+use lib.Dec.{ltb}
+use lib.ListN.{length}
+use lib.Ieee.{Float, binary64, sub, lt}
+use Rattle.error.proofs.First.{never}
+use Rattle.doubles.specs.Numbers.{nought, one, magnitudeOf}
+use Rattle.doubles.specs.Lerp.{lerpOf}
+use Rattle.inverse_segment.specs.declared.Ground.{Ground}
+use Rattle.inverse_segment.specs.declared.Ground.the-variants.{Edge, Value, Width, Spent}
+use Rattle.inverse_segment.specs.declared.Bracket.{Bracket}
+use Rattle.inverse_segment.specs.declared.State.{State}
+use Rattle.inverse_segment.specs.declared.Turned.{Turned}
+use Rattle.inverse_segment.specs.declared.Turned.the-variants.{Done, Next}
+use Rattle.inverse_segment.specs.declared.Place.{Place}
+use Rattle.inverse_segment.specs.declared.Tried.{Tried}
+use Rattle.inverse_segment.specs.declared.Tried.the-variants.{Outside, Inside}
+use Rattle.inverse_segment.specs.Evaluations.{Evaluations}
+use Rattle.inverse_segment.specs.Round.{Weighting, Rule, chord, midpoint, narrow, falsi, weighed, fraction, moved, Turn, found, on, settled, probed, turn}
+use Rattle.inverse_segment.specs.Rounds.{Placed, rounds}
+use Rattle.inverse_segment.specs.Segment.{encloses, near, opening, start, entered, Entry, outside, inside, enter}
+use Rattle.inverse_segment.specs.Answer.{placeOf, alone}
+use Rattle.inverse_segment.specs.Shown.{shown, toldAt, tried}
+use Rattle.inverse_segment.proofs.Ends.{both}
+
+-- ---- a round
+module _ (y ε : Float) (rising : Bool) (b : Bracket) (st : State) (x v : Float) (ev : Evaluations) where
+  settled-value : lt (magnitudeOf (sub binary64 v y)) ε ≡ true → settled y ε rising b st x v ev ≡ found Value x (moved (Bool·beq (lt v y) rising) b st x v .bracket) ev
+  unfolding settled
+  settled-value h = simp h
+
+  settled-on : lt (magnitudeOf (sub binary64 v y)) ε ≡ false → settled y ε rising b st x v ev ≡ on (moved (Bool·beq (lt v y) rising) b st x v) ev
+  unfolding settled
+  settled-on h = simp h
+
+module _ (W : Weighting) (f : Float → Float) (y ε : Float) (rising regula : Bool) (st : State) (n limit i : ℕ) (e-r : regula ≡ falsi limit i st) (s : ℕ) (ev : Evaluations) (k : length ev ≡ n) where
+  pub turn-width : {x : Float} → true ≡ narrow ε (st .bracket) → x ≡ midpoint (st .bracket) → Done Width x (st .bracket) n ≡ shown (turn (chord W) f s y ε rising limit i st ev)
+  unfolding turn
+  turn-width h e = simp (← h, e, k)
+
+  turn-probed : false ≡ narrow ε (st .bracket) → (a : Bracket) (t x v : Float) → a ≡ weighed W y regula st → t ≡ fraction y regula a → x ≡ lerpOf (a .lower) (a .upper) t → v ≡ f x
+      → turn (chord W) f s y ε rising limit i st ev ≡ settled y ε rising a st x v ((s, x) ∷ ev)
+  unfolding turn probed chord
+  turn-probed h a t x v e-a e-t e-x e-v = simp (← h, ← e-r) (cc)
+
+  module _ {a : Bracket} {t x v g : Float} {next : State} (h : false ≡ narrow ε (st .bracket)) (e-a : a ≡ weighed W y regula st) (e-t : t ≡ fraction y regula a) (e-x : x ≡ lerpOf (a .lower) (a .upper) t) (e-v : v ≡ f x)
+      (e-n : next ≡ moved (Bool·beq (lt v y) rising) a st x v) (e-g : g ≡ magnitudeOf (sub binary64 v y)) where
+    pub turn-value : lt g ε ≡ true → Done Value x (next .bracket) (n + 1) ≡ shown (turn (chord W) f s y ε rising limit i st ev)
+    turn-value l =
+        let r : turn (chord W) f s y ε rising limit i st ev ≡ found Value x (next .bracket) ((s, x) ∷ ev) = turn-probed h a t x v e-a e-t e-x e-v ∙ settled-value y ε rising a st x v ((s, x) ∷ ev) (rw (← e-g) l) ∙ ap (λ (z : State). found Value x (z .bracket) ((s, x) ∷ ev)) (sym e-n) in
+        rw r (rw (add-one, k))
+
+    pub turn-next : lt g ε ≡ false → Next next (n + 1) ≡ shown (turn (chord W) f s y ε rising limit i st ev)
+    turn-next l =
+        let r : turn (chord W) f s y ε rising limit i st ev ≡ on next ((s, x) ∷ ev) = turn-probed h a t x v e-a e-t e-x e-v ∙ settled-on y ε rising a st x v ((s, x) ∷ ev) (rw (← e-g) l) ∙ ap (λ (z : State). on z ((s, x) ∷ ev)) (sym e-n) in
+        rw r (rw (add-one, k))
+
+-- whether a round goes by regula falsi, as the code has it
+pub regula-is : (limit i : ℕ) (st : State) {regula : Bool} {early : ℕ} → regula ≡ (ltb i early && ltb (st .repeats) 3) → early ≡ 3 * limit / 4 → regula ≡ falsi limit i st
+regula-is limit i st e d = e ∙ ap (λ (z : ℕ). ltb i z && ltb (st .repeats) 3) d
+
+-- ---- the rounds
+-- what the code tells of them
+abbrev pub Told : Rule → (Float → Float) → ℕ → Float → Float → Bool → ℕ → ℕ → ℕ → Turn → Place
+Told R f s y ε rising limit n i t = placeOf alone (rounds R f s y ε rising limit n i t)
+
+-- i rounds have led from the state `first`, after n evaluations, to the state st, after m
+abbrev pub Led : Rule → (Float → Float) → ℕ → Float → Float → Bool → ℕ → State → ℕ → ℕ → State → ℕ → Type 0
+Led R f s y ε rising limit first n i st m =
+    (ev : Evaluations) → length ev ≡ n → (t : Evaluations) × (length t ≡ m) × (Told R f s y ε rising limit limit 0 (on first ev) ≡ Told R f s y ε rising limit (limit - i) i (on st t))
+
+next-of : (t : Turn) (st : State) (k : ℕ) → Next st k ≡ shown t → (ev : Evaluations) × (t ≡ on st ev) × (length ev ≡ k)
+next-of (found g x b ev) st k e = never (cc)
+next-of (on st' ev) st k e = let p : st ≡ st' = cc in let q : length ev ≡ k = cc in (ev, (ap (λ (z : State). on z ev) (sym p)), q)
+
+module _ (R : Rule) (f : Float → Float) (s : ℕ) (y ε : Float) (rising : Bool) (limit : ℕ) where
+  stop-of : (n i : ℕ) (t : Turn) {g : Ground} {x : Float} {b : Bracket} {k : ℕ} → Done g x b k ≡ shown t → toldAt s g x b k ≡ Told R f s y ε rising limit n i t
+  unfolding rounds
+  stop-of zero i (found g' x' b' ev) {g} {x} {b} {k} e = let p : g ≡ g' = cc in let q : x ≡ x' = cc in let r : b ≡ b' = cc in let w : k ≡ length ev = cc in rw (p, q, r, w)
+  stop-of (suc n) i (found g' x' b' ev) {g} {x} {b} {k} e = let p : g ≡ g' = cc in let q : x ≡ x' = cc in let r : b ≡ b' = cc in let w : k ≡ length ev = cc in rw (p, q, r, w)
+  stop-of zero i (on st ev) e = never (cc)
+  stop-of (suc n) i (on st ev) e = never (cc)
+
+  open-round : (n i : ℕ) (st : State) (ev : Evaluations) → Told R f s y ε rising limit (suc n) i (on st ev) ≡ Told R f s y ε rising limit n (suc i) (turn R f s y ε rising limit i st ev)
+  unfolding rounds
+  open-round n i st ev = refl
+
+  one-more : (n i : ℕ) (st : State) (ev : Evaluations) → i < limit → n ≡ limit - (i + 1) → Told R f s y ε rising limit (limit - i) i (on st ev) ≡ Told R f s y ε rising limit n (i + 1) (turn R f s y ε rising limit i st ev)
+  one-more n i st ev h e = let q : limit - i ≡ suc n = omega arith in rw (q, add-one) (open-round n i st ev)
+
+  module _ (first : State) (n : ℕ) where
+    pub led-start : Led R f s y ε rising limit first n 0 first n
+    led-start ev k = let q : limit ≡ limit - 0 = omega arith in (ev, k, ap (λ (z : ℕ). Told R f s y ε rising limit z 0 (on first ev)) q)
+
+    pub led-spent : (i m : ℕ) (st : State) {x : Float} → limit ≤ i → x ≡ midpoint (st .bracket) → Led R f s y ε rising limit first n i st m
+        → (ev : Evaluations) → length ev ≡ n → toldAt s Spent x (st .bracket) m ≡ Told R f s y ε rising limit limit 0 (on first ev)
+    unfolding rounds
+    led-spent i m st h e l ev k = let r = l ev k in let q : limit - i ≡ 0 = omega arith in rw (r .2, q, e, ← (r .1))
+
+    -- the round i
+    module _ (i m : ℕ) (st : State) {res : Turned} (h : i < limit) (l : Led R f s y ε rising limit first n i st m) (e : (s : ℕ) (ev : Evaluations) → length ev ≡ m → res ≡ shown (turn R f s y ε rising limit i st ev)) where
+      pub led-on : {st' : State} {m' : ℕ} → res ≡ Next st' m' → Led R f s y ε rising limit first n (i + 1) st' m'
+      led-on {st'} {m'} d ev k =
+          let r = l ev k in
+          let t = turn R f s y ε rising limit i st (r .0) in
+          let q = next-of t st' m' (sym d ∙ e s (r .0) (r .1)) in
+          (q .0, q .2, r .2 ∙ one-more (limit - (i + 1)) i st (r .0) h refl ∙ ap (λ (z : Turn). Told R f s y ε rising limit (limit - (i + 1)) (i + 1) z) (q .1))
+
+      pub led-done : {g : Ground} {x : Float} {b : Bracket} {m' : ℕ} → res ≡ Done g x b m'
+          → (ev : Evaluations) → length ev ≡ n → toldAt s g x b m' ≡ Told R f s y ε rising limit limit 0 (on first ev)
+      led-done d ev k =
+          let r = l ev k in
+          let t = turn R f s y ε rising limit i st (r .0) in
+          rw (r .2, one-more (limit - (i + 1)) i st (r .0) h refl) (stop-of (limit - (i + 1)) (i + 1) t (sym d ∙ e s (r .0) (r .1)))
+
+-- ---- the segment
+module _ (R : Rule) (f : Float → Float) (s : ℕ) (y ε : Float) (limit n : ℕ) (v0 v1 : Float) (ev : Evaluations) (k : length ev ≡ n) where
+  pub left-edge : true ≡ near y v0 ε → toldAt s Edge nought (opening v0 v1) n ≡ placeOf alone (entered R f s y ε limit v0 v1 ev)
+  unfolding entered
+  left-edge p = simp (← p, k)
+
+  module _ (p : false ≡ near y v0 ε) where
+    pub right-edge : true ≡ near y v1 ε → toldAt s Edge one (opening v0 v1) n ≡ placeOf alone (entered R f s y ε limit v0 v1 ev)
+    unfolding entered
+    right-edge q = simp (← p, ← q, k)
+
+    pub by-rounds : (r : Place) → false ≡ near y v1 ε → r ≡ placeOf alone (rounds R f s y ε (lt v0 v1) limit limit 0 (on (start (opening v0 v1)) ev)) → r ≡ placeOf alone (entered R f s y ε limit v0 v1 ev)
+    unfolding entered
+    by-rounds r q u = simp (← p, ← q) u
+
+-- ---- the ends
+module _ (R : Rule) (f : Float → Float) (s : ℕ) (y ε : Float) (limit : ℕ) {v0 v1 : Float} (e0 : v0 ≡ f nought) (e1 : v1 ≡ f one) (ev : Evaluations) where
+  pub left-out : false ≡ encloses v0 v1 y → Outside v0 ≡ tried (enter R f s y ε limit ev)
+  unfolding enter
+  left-out h = simp (← e0, ← e1, ← h)
+
+  pub taken-in : {n : ℕ} (r : Place) → true ≡ encloses v0 v1 y → length ev ≡ n → ((t : Evaluations) → length t ≡ n + 2 → r ≡ placeOf alone (entered R f s y ε limit v0 v1 t)) → Inside r ≡ tried (enter R f s y ε limit ev)
+  unfolding enter
+  taken-in {n} r h k u = let q : length (both s ev) ≡ n + 2 = omega arith in simp (← e0, ← e1, ← h) (ap Inside (u (both s ev) q))
+
+-- ---- what a segment's trial tells of it
+module _ (R : Rule) (f : Float → Float) (s : ℕ) (y ε : Float) (limit : ℕ) (ev : Evaluations) where
+  -- its ends do not enclose y
+  pub was-outside : {v : Float} → Outside v ≡ tried (enter R f s y ε limit ev) → (v ≡ f nought) × (enter R f s y ε limit ev ≡ outside v (both s ev))
+  unfolding enter
+  was-outside {v} = go (encloses (f nought) (f one) y)
+    where
+      go : (t : Bool) → Outside v ≡ tried (cond t (inside (entered R f s y ε limit (f nought) (f one) (both s ev))) (outside (f nought) (both s ev)))
+          → (v ≡ f nought) × (cond t (inside (entered R f s y ε limit (f nought) (f one) (both s ev))) (outside (f nought) (both s ev)) ≡ outside v (both s ev))
+      go true e = never (cc)
+      go false e = let q : v ≡ f nought = cc in (q, ap (λ (z : Float). outside z (both s ev)) (sym q))
+
+  -- it was entered
+  pub was-inside : {r : Place} → Inside r ≡ tried (enter R f s y ε limit ev) → (p : Placed) × (enter R f s y ε limit ev ≡ inside p) × (r ≡ placeOf alone p)
+  was-inside {r} e = go (enter R f s y ε limit ev) refl e
+    where
+      go : (t : Entry) → enter R f s y ε limit ev ≡ t → Inside r ≡ tried t → (p : Placed) × (enter R f s y ε limit ev ≡ inside p) × (r ≡ placeOf alone p)
+      go (outside v t) q e = never (cc)
+      go (inside p) q e = let z : r ≡ placeOf alone p = cc in (p, q, z)

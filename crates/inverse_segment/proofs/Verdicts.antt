@@ -1,0 +1,120 @@
+-- The rows of the refusal table that the inversion of a segment uses, by the order of the code's tests. Assumes nothing.
+use mathlib.Core.Path.{_≡_, refl, sym, ap, _∙_, subst}
+use mathlib.Core.Bool.{true, false}
+use mathlib.Core.List.{List, [], _∷_}
+use Prim.Native.Nat.{ℕ, _≤_}
+use native.Mathlib.Nat.{zero-mul}
+use native.Mathlib.Omega.{arith}
+use borrow.Author.Tests.{ltb-false, eqb-false, not-false}
+use lib.ListN.{length, drop}
+use lib.Ieee.{Float, isNan}
+use Rattle.error.specs.declared.Refusal.{Refusal}
+use Rattle.error.specs.declared.Refusal.the-variants.{BadKnot}
+use Rattle.error.specs.declared.Verdict.{Verdict}
+use Rattle.error.specs.declared.Verdict.the-variants.{Passed, Failed}
+use Rattle.error.specs.Refusals.{Uses, first}
+use Rattle.error.proofs.First.{through, after, otherRows, stops-in, goes-past, stops, goes-on, clear}
+use Rattle.basis.specs.declared.Basis.{Basis}
+use Rattle.basis.specs.Basis.{stepOf, matrixOf}
+use Rattle.spline.specs.declared.Weights.{Weights}
+use Rattle.spline.specs.Segment.{weightsOf, hornerOf}
+use Rattle.spline.specs.Rows.{segmentLength, allInRange, firstBad}
+use Rattle.inverse_segment.specs.declared.Inverted.{Inverted}
+use Rattle.inverse_segment.specs.declared.Inverted.the-variants.{Refused, OffCurve as OffSegment, At}
+use Rattle.inverse_segment.specs.Evaluations.{Evaluations}
+use Rattle.inverse_segment.specs.declared.Place.{Place}
+use Rattle.inverse_segment.specs.declared.Tried.{Tried}
+use Rattle.inverse_segment.specs.declared.Tried.the-variants.{Outside, Inside}
+use Rattle.inverse_segment.specs.Round.{Rule}
+use Rattle.inverse_segment.specs.Segment.{Outcome, off, placed, Entry, enter, outcomeOf}
+use Rattle.inverse_segment.specs.Shown.{tried}
+use Rattle.inverse_segment.proofs.Turns.{was-outside, was-inside}
+use Rattle.inverse_segment.specs.Answer.{answered, alone, inverted, precise, asked, inverseSegmentUses, inverseSegmentBy}
+
+-- ---- the rows up to those of the target, the precision and the limit, and those after them
+abbrev pub askedRows : List ℕ
+askedRows = through 7 otherRows
+
+abbrev pub lastRows : List ℕ
+lastRows = after 7 otherRows
+
+module _ (y : Float) (cv : List Float) (limit : ℕ) (ε : Float) {l : Verdict} (e : l ≡ first (segmentLength (length cv))) where
+  abbrev uses : Uses
+  uses = inverseSegmentUses y cv limit ε
+
+  pub by-length : {r : Refusal} → l ≡ Failed r → l ≡ first uses
+  by-length k = stops uses e k
+
+  module _ (k : l ≡ Passed) {a : Verdict} (e-a : a ≡ first (asked y limit ε)) where
+    pub by-asked : {r : Refusal} → a ≡ Failed r → a ≡ first uses
+    by-asked d = goes-on uses e k (stops-in askedRows lastRows uses e-a d)
+
+    pub by-none : a ≡ Passed → allInRange cv ≡ true → Passed ≡ first uses
+    by-none p d = goes-on uses e k (goes-past askedRows lastRows uses e-a p (simp d))
+
+    pub by-knots : a ≡ Passed → allInRange cv ≡ false → {r : Refusal} → r ≡ BadKnot (firstBad cv) → Failed r ≡ first uses
+    by-knots p d q = goes-on uses e k (goes-past askedRows lastRows uses e-a p (simp d (ap Failed q)))
+
+-- ---- what a passed verdict says
+pub record Passes (y : Float) (cv : List Float) (limit : ℕ) (ε : Float) : Type 0 where
+  pub four : length cv ≡ 4
+  pub number : isNan y ≡ false
+  pub precise-is : precise ε ≡ true
+  pub some : (limit ≡ 0) → ⊥
+  pub in-range : allInRange cv ≡ true
+
+pub passes : (y : Float) (cv : List Float) (limit : ℕ) (ε : Float) → first (inverseSegmentUses y cv limit ε) ≡ Passed → Passes y cv limit ε
+passes y cv limit ε e =
+    let p = clear (inverseSegmentUses y cv limit ε) e in
+    let long : 4 ≤ length cv = ltb-false (length cv) 4 (p 1) in
+    let short : length cv ≤ 4 = ltb-false 4 (length cv) (p 2) in
+    record {
+      four = omega arith;
+      number = p 5;
+      precise-is = not-false (precise ε) (p 6);
+      some = eqb-false limit 0 (p 7);
+      in-range = not-false (allInRange cv) (p 4);
+    }
+
+-- ---- a refusal by a row
+-- an answer past the rows refuses by none of them
+abbrev pub Past : Inverted → Type 0
+Past (At p) = Unit
+Past (OffSegment n) = Unit
+Past (Refused r) = ⊥
+
+pub answered-past : (P : ℕ → Float → Float) (o : Outcome) → Past (answered P o)
+answered-past P (off ev) = tt
+answered-past P (placed p) = tt
+
+-- so it is the verdict that refuses
+pub refused-by : (v : Verdict) (a : Inverted) (r : Refusal) → Past a → inverted v a ≡ Refused r → v ≡ Failed r
+refused-by Passed a r p e = absurd (subst Past e p)
+refused-by (Failed q) a r p e = let s : q ≡ r = cc in ap Failed s
+
+-- ---- what the call answers, by the rule R
+module _ (R : Rule) (b : Basis) (y : Float) (cv : List Float) (limit : ℕ) (ε : Float) {v : Verdict} (e : v ≡ first (inverseSegmentUses y cv limit ε)) where
+  pub four-for : v ≡ Passed → 4 ≤ length cv
+  four-for p = omega (arith, passes y cv limit ε (sym e ∙ p) .four)
+
+  pub refused-is : {r : Refusal} → v ≡ Failed r → Refused r ≡ inverseSegmentBy R b y cv limit ε
+  unfolding inverseSegmentBy
+  refused-is d = rw (← e, d)
+
+  -- its trial, over the row sums
+  told : v ≡ Passed → (w : Weights) → w ≡ weightsOf (matrixOf b) cv → answered alone (outcomeOf (enter R (hornerOf w) 0 y ε limit [])) ≡ inverseSegmentBy R b y cv limit ε
+  unfolding inverseSegmentBy
+  told d w e-w =
+      let told : Weights → Inverted = λ z. answered alone (outcomeOf (enter R (hornerOf z) 0 y ε limit [])) in
+      rw (← e, d) (ap told e-w ∙ sym (ap (λ (n : ℕ). told (weightsOf (matrixOf b) (drop n cv))) (zero-mul (stepOf b))))
+
+  module _ (d : v ≡ Passed) (w : Weights) (e-w : w ≡ weightsOf (matrixOf b) cv) (t : Tried) (k : (ev : Evaluations) → length ev ≡ 0 → t ≡ tried (enter R (hornerOf w) 0 y ε limit ev)) where
+    pub place-is : {p : Place} → t ≡ Inside p → At p ≡ inverseSegmentBy R b y cv limit ε
+    place-is {p} i =
+        let r = was-inside R (hornerOf w) 0 y ε limit [] (sym i ∙ k [] refl) in
+        ap At (r .2) ∙ sym (ap (λ (z : Entry). answered alone (outcomeOf z)) (r .1)) ∙ told d w e-w
+
+    pub off-is : {x : Float} → t ≡ Outside x → OffSegment 2 ≡ inverseSegmentBy R b y cv limit ε
+    off-is i =
+        let r = was-outside R (hornerOf w) 0 y ε limit [] (sym i ∙ k [] refl) in
+        sym (ap (λ (z : Entry). answered alone (outcomeOf z)) (r .1)) ∙ told d w e-w

@@ -1,0 +1,87 @@
+-- The answer of an inversion, and the call that inverts one segment: what it refuses, and what it answers. Definitions only.
+use mathlib.Core.Bool.{Bool, false, not, _&&_}
+use mathlib.Core.List.{List, [], _∷_, _++_}
+use Prim.Native.Nat.{ℕ}
+use lib.Dec.{eqb}
+use lib.ListN.{length}
+use lib.Ieee.{Float, inf, binary64, ofBits, lt, isNan}
+use Rattle.error.specs.declared.Refusal.the-variants.{NotANumber, BadPrecision, NoRounds, OffCurve as OffCurveRow}
+use Rattle.error.specs.declared.Verdict.{Verdict}
+use Rattle.error.specs.declared.Verdict.the-variants.{Passed, Failed}
+use Rattle.error.specs.Refusals.{numberOf, Uses, first}
+use Rattle.basis.specs.declared.Basis.{Basis}
+use Rattle.spline.specs.Segment.{segmentOf}
+use Rattle.spline.specs.Rows.{segmentLength, badKnot}
+use Rattle.doubles.specs.Numbers.{nought}
+use Rattle.inverse_segment.specs.declared.Place.{Place}
+use Rattle.inverse_segment.specs.declared.Inverted.{Inverted}
+use Rattle.inverse_segment.specs.declared.Inverted.the-variants.{Refused, OffCurve, At}
+use Rattle.inverse_segment.specs.Evaluations.{Evaluations}
+use Rattle.inverse_segment.specs.Round.{Rule, asCrate}
+use Rattle.inverse_segment.specs.Rounds.{Placed}
+use Rattle.inverse_segment.specs.Segment.{Outcome, off, placed, evaluationsOf, enter, outcomeOf}
+
+-- ---- what an answer tells
+-- the refusal's number; 0 for a place
+abbrev pub numberTold : Inverted → ℕ
+numberTold (Refused r) = numberOf r
+numberTold (OffCurve n) = numberOf OffCurveRow
+numberTold (At p) = 0
+
+-- the count, which a place and refusal 11 have; 0 for the other refusals
+abbrev pub countTold : Inverted → ℕ
+countTold (Refused r) = 0
+countTold (OffCurve n) = n
+countTold (At p) = p .count
+
+-- the count is the length of the list of evaluations; the parameter is found from the segment and the local place
+abbrev pub placeOf : (ℕ → Float → Float) → Placed → Place
+placeOf parameter p =
+    record { parameter = parameter (p .segment) (p .local); ground = p .ground; segment = p .segment; local = p .local; lower = p .lower; upper = p .upper; count = length (p .made) }
+
+abbrev pub answered : (ℕ → Float → Float) → Outcome → Inverted
+answered parameter (off ev) = OffCurve (length ev)
+answered parameter (placed p) = At (placeOf parameter p)
+
+-- for one segment the parameter is the local place
+abbrev pub alone : ℕ → Float → Float
+alone s x = x
+
+abbrev pub inverted : Verdict → Inverted → Inverted
+inverted Passed a = a
+inverted (Failed r) a = Refused r
+
+-- ---- when the rows of the refusal table apply
+-- finite and above 0
+unfoldable pub precise : Float → Bool
+precise ε = lt nought ε && lt ε (inf false)
+
+-- the target, the precision and the limit
+abbrev pub asked : Float → ℕ → Float → Uses
+asked y limit ε = (NotANumber, isNan y) ∷ (BadPrecision, not (precise ε)) ∷ (NoRounds, eqb limit 0) ∷ []
+
+abbrev pub inverseSegmentUses : Float → List Float → ℕ → Float → Uses
+inverseSegmentUses y cv limit ε = segmentLength (length cv) ++ asked y limit ε ++ (badKnot cv ∷ [])
+
+-- ---- the call, by the rule R
+-- the defaults: 32 rounds, and the double nearest to 1e-10
+abbrev pub defaultLimit : ℕ
+defaultLimit = 32
+
+abbrev pub defaultPrecision : Float
+defaultPrecision = ofBits binary64 0x3ddb_7cdf_d9d7_bdbb
+
+unfoldable pub inverseSegmentBy : Rule → Basis → Float → List Float → ℕ → Float → Inverted
+inverseSegmentBy R b y cv limit ε = inverted (first (inverseSegmentUses y cv limit ε)) (answered alone (outcomeOf (enter R (segmentOf b cv 0) 0 y ε limit [])))
+
+-- the evaluations that it makes, the latest first: none where it refuses by a row
+abbrev pub unlessRefused : Verdict → Evaluations → Evaluations
+unlessRefused Passed ev = ev
+unlessRefused (Failed r) ev = []
+
+unfoldable pub segmentEvaluationsBy : Rule → Basis → Float → List Float → ℕ → Float → Evaluations
+segmentEvaluationsBy R b y cv limit ε = unlessRefused (first (inverseSegmentUses y cv limit ε)) (evaluationsOf (outcomeOf (enter R (segmentOf b cv 0) 0 y ε limit [])))
+
+-- as the crate inverts
+abbrev pub inverseSegmentOf : Basis → Float → List Float → ℕ → Float → Inverted
+inverseSegmentOf = inverseSegmentBy asCrate

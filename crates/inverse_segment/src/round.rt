@@ -1,0 +1,186 @@
+// One round of the inversion of a segment, over the segment's row sums.
+ghost use mathlib.Core.Path.{_≡_};
+ghost use Prim.Native.Nat.{_≤_, _<_, _+_};
+ghost use lib.Dec.{ltb};
+ghost use mathlib.Core.Bool.{_&&_};
+ghost use Rattle.inverse_segment.specs.Round.{narrow, halving, toward, weightingOf, weighed, fraction, moved};
+ghost use Rattle.inverse_segment.specs.Shown.{TurnIs, repeatsAfter, countAfter};
+use crate::Bracket;
+use crate::Ground;
+use crate::State;
+use crate::Turned;
+use crate::Weighing;
+use spline::Weights;
+
+pub fn is_narrow(precision: f64, b: Bracket) -> bool
+    ensures { λ r. ⌜ r ≡ narrow precision b ⌝ }
+{
+    let width = doubles::magnitude(b.upper - b.lower);
+    let least = width * 1e-12;
+    if least < precision {
+        width < precision
+    } else {
+        width < least
+    }
+}
+
+// The weighed value of the end that moved last is halved; the target y plays no part in it.
+pub fn halved(y: f64, lower: bool, b: Bracket) -> Bracket
+    ensures { λ r. ⌜ r ≡ halving y lower b ⌝ }
+{
+    if lower {
+        Bracket {
+            lower: b.lower,
+            upper: b.upper,
+            v0: b.v0 * 0.5,
+            v1: b.v1,
+        }
+    } else {
+        Bracket {
+            lower: b.lower,
+            upper: b.upper,
+            v0: b.v0,
+            v1: b.v1 * 0.5,
+        }
+    }
+}
+
+// The distance to the target is halved at the end that did not move last.
+pub fn toward(y: f64, lower: bool, b: Bracket) -> Bracket
+    ensures { λ r. ⌜ r ≡ toward y lower b ⌝ }
+{
+    if lower {
+        Bracket {
+            lower: b.lower,
+            upper: b.upper,
+            v0: b.v0,
+            v1: y + (b.v1 - y) * 0.5,
+        }
+    } else {
+        Bracket {
+            lower: b.lower,
+            upper: b.upper,
+            v0: y + (b.v0 - y) * 0.5,
+            v1: b.v1,
+        }
+    }
+}
+
+fn reweighed(m: Weighing, y: f64, lower: bool, b: Bracket) -> Bracket
+    ensures { λ r. ⌜ r ≡ weightingOf m y lower b ⌝ }
+{
+    match m {
+        Weighing::Value => halved(y, lower, b),
+        Weighing::Distance => toward(y, lower, b),
+    }
+}
+
+pub fn weighed(m: Weighing, y: f64, regula: bool, st: State) -> Bracket
+    ensures { λ r. ⌜ r ≡ weighed (weightingOf m) y regula st ⌝ }
+{
+    let b = st.bracket;
+    if regula {
+        if 0 < st.repeats {
+            return reweighed(m, y, st.side == 1, b);
+        }
+        return b;
+    }
+    b
+}
+
+// One return for every half, so that the tests stay branches: the division is then made only where it is wanted.
+pub fn fraction(y: f64, regula: bool, b: Bracket) -> f64
+    ensures { λ r. ⌜ r ≡ fraction y regula b ⌝ }
+{
+    if regula {
+        let t = (y - b.v0) / (b.v1 - b.v0);
+        if 0.01 < t {
+            if t < 0.99 {
+                return t;
+            }
+        }
+    }
+    0.5
+}
+
+pub fn moved(lower: bool, b: Bracket, st: State, x: f64, v: f64) -> State
+    requires { ⌜ st .repeats < 65536 ⌝ }
+    ensures { λ r. ⌜ (r ≡ moved lower b st x v) × (r .repeats ≤ st .repeats + 1) ⌝ }
+{
+    if lower {
+        let n = Bracket {
+            lower: x,
+            upper: b.upper,
+            v0: v,
+            v1: b.v1,
+        };
+        if st.side == 1 {
+            State {
+                bracket: n,
+                side: 1,
+                repeats: st.repeats + 1,
+            }
+        } else {
+            State {
+                bracket: n,
+                side: 1,
+                repeats: 0,
+            }
+        }
+    } else {
+        let n = Bracket {
+            lower: b.lower,
+            upper: x,
+            v0: b.v0,
+            v1: v,
+        };
+        if st.side == 2 {
+            State {
+                bracket: n,
+                side: 2,
+                repeats: st.repeats + 1,
+            }
+        } else {
+            State {
+                bracket: n,
+                side: 2,
+                repeats: 0,
+            }
+        }
+    }
+}
+
+pub fn is_falsi(i: u32, early: u32, repeats: u32) -> bool
+    ensures { λ r. ⌜ r ≡ (ltb i early && ltb repeats 3) ⌝ }
+{
+    i < early && repeats < 3
+}
+
+// n evaluations have been made before the round.
+pub fn turn(
+    m: Weighing,
+    w: Weights,
+    y: f64,
+    precision: f64,
+    rising: bool,
+    regula: bool,
+    st: State,
+    n: u32,
+) -> Turned
+    requires { ⌜ (st .repeats < 65536) × (n < 2000000) ⌝ }
+    ensures { λ r. ⌜ (TurnIs m w y precision rising regula st n r) × (repeatsAfter r ≤ st .repeats + 1) × (countAfter r ≤ n + 1) ⌝ }
+{
+    let b = st.bracket;
+    if is_narrow(precision, b) {
+        return Turned::Done(Ground::Width, doubles::lerp(b.lower, b.upper, 0.5), b, n);
+    }
+    let a = weighed(m, y, regula, st);
+    let x = doubles::lerp(a.lower, a.upper, fraction(y, regula, a));
+    let v = spline::segment::horner(w, x);
+    let next = moved((v < y) == rising, a, st, x, v);
+    if doubles::magnitude(v - y) < precision {
+        let e = next.bracket;
+        return Turned::Done(Ground::Value, x, e, n + 1);
+    }
+    Turned::Next(next, n + 1)
+}

@@ -1,0 +1,76 @@
+-- Invariant: the state is good; a count of reads falls.
+use borrow.Author.Needs.{needs}
+use native.Mathlib.Omega.{arith}
+use mathlib.Core.Path.{_≡_, refl}
+use lib.ListN.{length}
+use Rattle.lines_answer.specs.Answer.{places}
+use Rattle.lines_programs.specs.Held.{Good}
+use Rattle.lines_io.proofs.read_all.Statement.{statement}
+use Rattle.lines_io.proofs.read_all.Tie as tie
+
+abbrev Inv-loop : tie.InvT-loop
+Inv-loop chunk₀ line₀ table₀ turned₀ out₀ st₀ fine₀ left₀ chunk line table turned out st fine left =
+    (length chunk ≡ length chunk₀) × (length turned ≡ places) × (length out ≡ length out₀) × Good st line table
+
+abbrev μ-loop : tie.MeasureT-loop
+μ-loop chunk₀ line₀ table₀ turned₀ out₀ st₀ fine₀ left₀ chunk line table turned out st fine left =
+    left
+
+loop-holds : tie.Need-loop-holds Inv-loop μ-loop
+loop-holds c = (refl, omega arith, refl, record { few = omega arith; full = omega arith; wide = omega arith })
+
+read-once-requires : tie.Need-read-once-requires Inv-loop μ-loop
+read-once-requires c κs = (c .before .before .before .before .before .before .loop .inv .3, omega arith, omega arith)
+
+sub-left : tie.Need-sub-left Inv-loop μ-loop
+sub-left c = search needs
+
+loop-less : tie.Need-loop-less Inv-loop μ-loop
+loop-less c = search needs
+
+loop-again : tie.Need-loop-again Inv-loop μ-loop
+loop-again c = (omega arith, omega arith, omega arith, c .before .before .before .before .before .before .before .before .before .before .before .before .read-once .ensures)
+
+loop-less-2 : tie.Need-loop-less-2 Inv-loop μ-loop
+loop-less-2 c = search needs
+
+loop-again-2 : tie.Need-loop-again-2 Inv-loop μ-loop
+loop-again-2 c = (omega arith, omega arith, omega arith, c .before .before .before .before .before .before .before .before .before .before .before .before .read-once .ensures)
+
+same-length : tie.Need-same-length Inv-loop μ-loop
+same-length c = search needs
+
+same-length-2 : tie.Need-same-length-2 Inv-loop μ-loop
+same-length-2 c = search needs
+
+same-length-3 : tie.Need-same-length-3 Inv-loop μ-loop
+same-length-3 c = search needs
+
+same-length-4 : tie.Need-same-length-4 Inv-loop μ-loop
+same-length-4 c = search needs
+
+same-length-5 : tie.Need-same-length-5 Inv-loop μ-loop
+same-length-5 c = search needs
+
+returns : tie.Need-returns Inv-loop μ-loop
+returns c = c .before .loop .inv .3
+
+pub read-all-spec : {M : Type 1} → statement M
+read-all-spec =
+    tie.close
+    (tie.spec
+    Inv-loop
+    μ-loop
+    loop-holds
+    read-once-requires
+    sub-left
+    loop-less
+    loop-again
+    loop-less-2
+    loop-again-2
+    same-length
+    same-length-2
+    same-length-3
+    same-length-4
+    same-length-5
+    returns)

@@ -1,0 +1,189 @@
+// The loop of every program over lines: it reads, feeds `programs` and writes, in large pieces and fixed memory. Where a read or a write
+// fails it stops without ending the input, and says so on standard error.
+ghost use mathlib.Core.Path.{_≡_};
+ghost use Prim.Native.Nat.{_≤_, _*_};
+ghost use lib.ListN.{length};
+ghost use Rattle.lines_answer.specs.Answer.{places};
+ghost use Rattle.lines_programs.specs.Held.{countOf, stateOf, Good};
+ghost use Rattle.lines_machine.specs.Program.{widest};
+ghost use Rattle.lines_programs.specs.Programs.{running};
+ghost use Rattle.lines_machine.specs.Bytes.{ranOf};
+ghost use Rattle.lines_reply.specs.Told.{longest};
+use libc::STDERR_FILENO;
+use libc::STDIN_FILENO;
+use libc::STDOUT_FILENO;
+use lines_programs::Reader;
+
+// Where the program stands; whether nothing has failed, and whether to read on.
+pub struct Ran {
+    pub st: Reader,
+    pub fine: bool,
+    pub more: bool,
+}
+
+// All of what is to be printed; where that fails, standard error is told.
+fn written(text: &[u8]) -> bool {
+    if io::write_all(STDOUT_FILENO, text) {
+        return true;
+    }
+    io::write_all(STDERR_FILENO, b"write failed\n");
+    false
+}
+
+// A read that brought no byte: the end of the input, unless it failed; then standard error is told.
+fn is_end(got: isize) -> bool {
+    if got == 0 {
+        return true;
+    }
+    io::write_all(STDERR_FILENO, b"read failed\n");
+    false
+}
+
+// The bytes of a chunk. Each turn of the loop writes what `out` has room for; after a failed write nothing is written.
+fn feed_all(
+    st: Reader,
+    chunk: &[u8],
+    line: &mut [u8],
+    table: &mut [f64],
+    turned: &mut [f64],
+    out: &mut [u8],
+) -> Ran
+    requires { ⌜ Good st (now line) (now table) × (length (now turned) ≡ places) × (2 * longest ≤ length (now out)) ⌝ }
+    ensures { λ r. ⌜ Good (r .st) (now (line .exit)) (now (table .exit)) × (stateOf (r .st) (now (line .exit)) (now (table .exit)) ≡ ranOf running (stateOf st (now (line .entry)) (now (table .entry))) (now (chunk .entry))) ⌝ }
+{
+    let mut s = st;
+    let mut from = 0;
+    let mut fine = true;
+    while from < chunk.len() {
+        let f = lines_programs::feed(
+            s,
+            &chunk[from..],
+            &mut *line,
+            &mut *table,
+            &mut *turned,
+            &mut *out,
+        );
+        s = f.st;
+        let k = f.next;
+        from = from + k;
+        let at = f.at;
+        if fine {
+            fine = written(&out[0..at]);
+        }
+    }
+    Ran {
+        st: s,
+        fine: fine,
+        more: fine,
+    }
+}
+
+// One read, and the replies to it.
+fn read_once(
+    st: Reader,
+    chunk: &mut [u8],
+    line: &mut [u8],
+    table: &mut [f64],
+    turned: &mut [f64],
+    out: &mut [u8],
+) -> Ran
+    requires { ⌜ Good st (now line) (now table) × (length (now turned) ≡ places) × (2 * longest ≤ length (now out)) ⌝ }
+    ensures { λ r. ⌜ Good (r .st) (now (line .exit)) (now (table .exit)) ⌝ }
+{
+    let got = libc::read(STDIN_FILENO, &mut *chunk);
+    let n = io::count(got, &chunk[..]);
+    if n == 0 {
+        return Ran {
+            st: st,
+            fine: is_end(got),
+            more: false,
+        };
+    }
+    feed_all(st, &chunk[0..n], line, table, turned, out)
+}
+
+// The whole input; `left` counts more reads than any run makes.
+fn read_all(
+    first: Reader,
+    chunk: &mut [u8],
+    line: &mut [u8],
+    table: &mut [f64],
+    turned: &mut [f64],
+    out: &mut [u8],
+) -> Ran
+    requires { ⌜ (countOf (first .job) ≡ 0) × (length (now line) ≡ widest) × (length (now table) ≡ places) × (length (now turned) ≡ places) × (2 * longest ≤ length (now out)) ⌝ }
+    ensures { λ r. ⌜ Good (r .st) (now (line .exit)) (now (table .exit)) ⌝ }
+{
+    let mut st = first;
+    let mut fine = true;
+    let mut left = u64::MAX;
+    while left > 0 {
+        let r = read_once(
+            st,
+            &mut *chunk,
+            &mut *line,
+            &mut *table,
+            &mut *turned,
+            &mut *out,
+        );
+        st = r.st;
+        fine = r.fine;
+        left = if r.more { left - 1 } else { 0 };
+    }
+    Ran {
+        st: st,
+        fine: fine,
+        more: false,
+    }
+}
+
+// The end of the input; a last line may lack its LF.
+pub fn close(st: Reader, line: &[u8], table: &mut [f64], turned: &mut [f64], out: &mut [u8])
+    requires { ⌜ Good st (now line) (now table) × (length (now turned) ≡ places) × (2 * longest ≤ length (now out)) ⌝ }
+{
+    let at = lines_programs::finish(st, line, table, turned, &mut *out, 0);
+    written(&out[0..at]);
+}
+
+// The whole input, and its end where nothing failed.
+fn whole(
+    first: Reader,
+    chunk: &mut [u8],
+    line: &mut [u8],
+    table: &mut [f64],
+    turned: &mut [f64],
+    out: &mut [u8],
+)
+    requires { ⌜ (countOf (first .job) ≡ 0) × (length (now line) ≡ widest) × (length (now table) ≡ places) × (length (now turned) ≡ places) × (2 * longest ≤ length (now out)) ⌝ }
+{
+    let r = read_all(
+        first,
+        chunk,
+        &mut *line,
+        &mut *table,
+        &mut *turned,
+        &mut *out,
+    );
+    if r.fine {
+        let st = r.st;
+        close(st, &line[..], table, turned, out);
+    }
+}
+
+pub fn run(first: Reader)
+    requires { ⌜ countOf (first .job) ≡ 0 ⌝ }
+{
+    let mut table = [0.0; 4096];
+    let mut turned = [0.0; 4096];
+    let mut line = [0u8; 64];
+    let mut chunk = [0u8; 65536];
+    let mut out = [0u8; 196608];
+    whole(
+        first,
+        &mut chunk,
+        &mut line,
+        &mut table,
+        &mut turned,
+        &mut out,
+    );
+}

@@ -1,0 +1,136 @@
+-- The end of a line, a byte and the end of the input, case by case. Assumes nothing.
+use mathlib.Core.Path.{_≡_, refl, ap, subst, _∙_}
+use mathlib.Core.Bool.{Bool, true, false}
+use mathlib.Core.List.{List, [], _∷_, _++_, append-nil}
+use Prim.Native.Nat.{ℕ, _+_, _≤_, _<_}
+use native.Mathlib.Omega.{arith}
+use borrow.Author.Tests.{eq-eqb, ne-eqb, leb-true}
+use lib.Dec.{leb}
+use lib.ListN.{length, take, getD}
+use native.Mathlib.Numerals.{add-one}
+use lib.Seq.{length-take-le, take-suc}
+use lib.Ieee.{Float}
+use Rattle.lines_answer.specs.declared.Held.{Held}
+use Rattle.lines_answer.specs.Answer.{Curve, places}
+use Rattle.lines_answer.specs.Held.{curveOf}
+use Rattle.lines_answer.specs.Held.{countOf as knotsOf}
+use Rattle.lines.specs.Lines.{lineProgram}
+use Rattle.sheet.specs.declared.Held.{Held as SheetHeld}
+use Rattle.sheet.specs.Sheet.{Sheet, sheetProgram}
+use Rattle.sheet.specs.Held.{sheetOf}
+use Rattle.sheet.specs.Held.{countOf as depthsOf}
+use Rattle.text.specs.Text.{LF}
+use Rattle.text.specs.Wrote.{Wrote}
+use Rattle.text.proofs.Writing.{nothing, then}
+use Rattle.lines_machine.specs.Program.{widest, Line, so}
+use Rattle.lines_machine.specs.Bytes.{State, stateAt, push, closeText, closed, nextOf, tellOf, toldOf, ranOf, lastText, endOf}
+use Rattle.lines_machine.specs.Held.{openOf}
+use Rattle.lines_machine.proofs.Whole.{Within, ran-append, told-append}
+use Rattle.lines_programs.specs.declared.Reader.{Reader}
+use Rattle.lines_programs.specs.declared.Job.{Job}
+use Rattle.lines_programs.specs.declared.Job.the-variants.{Asking, Reading}
+use Rattle.lines_programs.specs.Programs.{Running, asking, reading, tellsOf, afterOf, endsOf, running}
+use Rattle.lines_programs.specs.Held.{runningOf, countOf, stateOf, Good, Went}
+
+-- ---- each program does within the whole what it does alone
+pub line-within : Within lineProgram running asking
+unfolding tellsOf afterOf endsOf
+line-within = record { tells = λ s o. refl; after = λ s o. refl; ends = λ s. refl }
+
+pub sheet-within : Within sheetProgram running reading
+unfolding tellsOf afterOf endsOf
+sheet-within = record { tells = λ s o. refl; after = λ s o. refl; ends = λ s. refl }
+
+-- ---- the end of a line
+pub asked-went : (held after : Held) (len : ℕ) (line : List ℕ) (table table′ : List Float) {out out′ : List ℕ} {at next : ℕ}
+    → length line ≡ widest → length table′ ≡ places → curveOf after table′ ≡ lineProgram .after (curveOf held table) (openOf len line) → knotsOf after ≤ places
+    → Wrote out at (lineProgram .tells (curveOf held table) (openOf len line)) out′ next
+    → (let s = stateAt (openOf len line) (asking (curveOf held table)) in
+    Went (closed running s) (closeText running s) (record { len = 0; job = Asking after }) line table′ out at out′ next)
+unfolding tellsOf afterOf
+asked-went held after len line table table′ f g e few w =
+    record { state = ap (λ (c : Curve). stateAt (so []) (asking c)) e; wrote = w; good = record { few = few; full = g; wide = f } }
+
+pub read-went : (held after : SheetHeld) (len : ℕ) (line : List ℕ) (table table′ : List Float) (out : List ℕ) (at : ℕ)
+    → length line ≡ widest → length table′ ≡ places → sheetOf after table′ ≡ sheetProgram .after (sheetOf held table) (openOf len line) → depthsOf after ≤ places
+    → (let s = stateAt (openOf len line) (reading (sheetOf held table)) in
+    Went (closed running s) (closeText running s) (record { len = 0; job = Reading after }) line table′ out at out at)
+unfolding tellsOf afterOf
+read-went held after len line table table′ out at f g e few =
+    record { state = ap (λ (s : Sheet). stateAt (so []) (reading s)) e; wrote = nothing out at; good = record { few = few; full = g; wide = f } }
+
+-- ---- a byte
+pub step-end : (s : State Running) (byte : ℕ) {st : Reader} {line : List ℕ} {table : List Float} {out : List ℕ} {at : ℕ} {out′ : List ℕ} {r : ℕ}
+    → byte ≡ LF → Went (closed running s) (closeText running s) st line table out at out′ r → Went (nextOf running s byte) (tellOf running s byte) st line table out at out′ r
+unfolding nextOf tellOf
+step-end s byte e w = rw (eq-eqb byte LF e) w
+
+pub step-push : (st : Reader) (byte next : ℕ) (line line′ : List ℕ) (table : List Float) (out : List ℕ) (at : ℕ) → (byte ≡ LF → ⊥) → Good st line table
+    → openOf next line′ ≡ push (openOf (st .len) line) byte → length line′ ≡ length line
+    → Went (nextOf running (stateOf st line table) byte) (tellOf running (stateOf st line table) byte) (record { len = next; job = st .job }) line′ table out at out at
+unfolding nextOf tellOf
+step-push st byte next line line′ table out at other g e l = rw (ne-eqb byte LF other) (record {
+  state = ap (λ (o : Line). stateAt o (runningOf (st .job) table)) e;
+  wrote = nothing out at;
+  good = record { few = g .few; full = g .full; wide = l ∙ g .wide };
+})
+
+-- ---- the end of the input
+pub finish-none : (st : Reader) (line : List ℕ) (table : List Float) {out out′ : List ℕ} {at r : ℕ} → st .len ≡ 0
+    → Wrote out at (endsOf (runningOf (st .job) table)) out′ r → Wrote out at (endOf running (stateOf st line table)) out′ r
+unfolding lastText
+finish-none st line table e w = rw e w
+
+last-some : (l : List ℕ) (h : Running) → 0 < length l → lastText running (so l) h ≡ tellsOf h (so l) ++ endsOf (afterOf h (so l))
+unfolding lastText
+last-some [] h k = absurd (omega arith)
+last-some (b ∷ l) h k = refl
+
+last-full : (n : ℕ) (line : List ℕ) (h : Running) → 0 < n → length line ≡ widest → lastText running (openOf n line) h ≡ tellsOf h (openOf n line) ++ endsOf (afterOf h (openOf n line))
+unfolding lastText
+last-full n line h k f = go (leb n widest) refl
+  where
+    go : (u : Bool) → leb n widest ≡ u → lastText running (openOf n line) h ≡ tellsOf h (openOf n line) ++ endsOf (afterOf h (openOf n line))
+    go true e =
+        let m : n ≤ widest = leb-true n widest e in
+        let z : 0 < length (take n line) = rw (length-take-le n line (omega arith)) k in
+        rw e (last-some (take n line) h z)
+    go false e = rw e refl
+
+pub finish-some : (st : Reader) (line : List ℕ) (table table′ : List Float) {st′ : Reader} {out out₁ out₂ : List ℕ} {at a r : ℕ} → (st .len ≡ 0 → ⊥) → Good st line table
+    → Went (closed running (stateOf st line table)) (closeText running (stateOf st line table)) st′ line table′ out at out₁ a
+    → Wrote out₁ a (endsOf (runningOf (st′ .job) table′)) out₂ r
+    → Wrote out at (endOf running (stateOf st line table)) out₂ r
+finish-some st line table table′ {st′} {out} {out₁} {out₂} {at} {a} {r} ne g w v =
+    let h : Running = runningOf (st .job) table in
+    let e : runningOf (st′ .job) table′ ≡ afterOf h (openOf (st .len) line) = ap (λ (s : State Running). s .held) (w .state) in
+    let u : Wrote out₁ a (endsOf (afterOf h (openOf (st .len) line))) out₂ r = subst (λ (x : Running). Wrote out₁ a (endsOf x) out₂ r) e v in
+    rw (last-full (st .len) line h (omega arith) (g .wide)) (then (w .wrote) u)
+
+-- ---- a chunk
+pub feed-none : (st : Reader) (line : List ℕ) (table : List Float) (out : List ℕ) → Good st line table
+    → Went (ranOf running (stateOf st line table) []) (toldOf running (stateOf st line table) []) st line table out 0 out 0
+unfolding ranOf toldOf
+feed-none st line table out g = record { state = refl; wrote = nothing out 0; good = g }
+
+ran-snoc : (s : State Running) (x : List ℕ) (b : ℕ) → ranOf running s (x ++ (b ∷ [])) ≡ nextOf running (ranOf running s x) b
+unfolding ranOf
+ran-snoc s x b = ran-append running s x (b ∷ [])
+
+told-snoc : (s : State Running) (x : List ℕ) (b : ℕ) → toldOf running s (x ++ (b ∷ [])) ≡ toldOf running s x ++ tellOf running (ranOf running s x) b
+unfolding toldOf
+told-snoc s x b = told-append running s x (b ∷ []) ∙ ap (λ (t : List ℕ). toldOf running s x ++ t) (append-nil (tellOf running (ranOf running s x) b))
+
+pub feed-more : (s : State Running) (chunk : List ℕ) (i : ℕ) {st st′ : Reader} {line line′ : List ℕ} {table table′ : List Float} {out out₁ out₂ : List ℕ} {at₁ at₂ : ℕ}
+    → i < length chunk
+    → Went (ranOf running s (take i chunk)) (toldOf running s (take i chunk)) st line table out 0 out₁ at₁
+    → Went (nextOf running (stateOf st line table) (getD chunk i 0)) (tellOf running (stateOf st line table) (getD chunk i 0)) st′ line′ table′ out₁ at₁ out₂ at₂
+    → Went (ranOf running s (take (i + 1) chunk)) (toldOf running s (take (i + 1) chunk)) st′ line′ table′ out 0 out₂ at₂
+feed-more s chunk i {st} {st′} {line} {line′} {table} {table′} {out} {out₁} {out₂} {at₁} {at₂} h u v =
+    let b : ℕ = getD chunk i 0 in
+    let x : List ℕ = take i chunk in
+    let p : take (i + 1) chunk ≡ x ++ (b ∷ []) = rw add-one (take-suc chunk i 0 h) in
+    let w : Wrote out₁ at₁ (tellOf running (ranOf running s x) b) out₂ at₂ =
+    subst (λ (a : State Running). Wrote out₁ at₁ (tellOf running a b) out₂ at₂) (u .state) (v .wrote) in
+    let q : stateOf st′ line′ table′ ≡ nextOf running (ranOf running s x) b = v .state ∙ ap (λ (a : State Running). nextOf running a b) (u .state) in
+    rw (p, ran-snoc s x b, told-snoc s x b) (record { state = q; wrote = then (u .wrote) w; good = v .good })

@@ -1,0 +1,38 @@
+-- One case for each program.
+use native.Mathlib.Omega.{arith}
+use Prim.Native.Nat.{_≤_}
+use Rattle.text.proofs.Writing.{nothing}
+use Rattle.lines_answer.specs.Answer.{places}
+use Rattle.lines_programs.specs.declared.Job.the-variants.{Reading}
+use Rattle.lines_programs.specs.Programs.{endsOf}
+use Rattle.lines_programs.specs.Held.{countOf}
+use borrow.Author.Needs.{needs}
+use Rattle.lines_programs.proofs.ends.Statement.{statement}
+use Rattle.lines_programs.proofs.ends.Tie as tie
+use Rattle.lines_programs.proofs.ends.Reads as reads
+use Rattle.lines_programs.proofs.ends.Lts as lts
+use Rattle.sheet.proofs.end.Reads as end-reads
+
+enum-told : tie.Need-enum-told
+enum-told c = search needs
+
+enum-known-job : tie.Need-enum-known-job
+enum-known-job c = search needs
+
+end-requires : tie.Need-end-requires
+end-requires c κs = let k : countOf (Reading (c .before .before .job .given .0 .0)) ≤ places = rw (c .before .before .job .given .1) at (c .before .before .before .before .before .before .pre .0) in (k, c .before .before .before .before .before .before .pre .1, c .before .before .before .before .before .before .pre .2)
+
+returns : tie.Need-returns
+unfolding endsOf
+returns c = rw (c .enum-told .given .1) (nothing _ _, omega arith)
+
+same-length : tie.Need-same-length
+same-length c = search needs
+
+returns-2 : tie.Need-returns-2
+unfolding endsOf
+returns-2 c = rw (c .before .before .before .before .before .job .given .1) (c .before .before .end .ensures)
+
+pub ends-spec : {M : Type 1} → statement M
+ends-spec =
+    tie.close (tie.spec enum-told enum-known-job end-requires returns same-length returns-2)

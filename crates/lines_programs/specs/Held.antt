@@ -1,0 +1,47 @@
+-- How the code holds a state. Definitions only.
+use mathlib.Core.Path.{_≡_}
+use mathlib.Core.List.{List}
+use Prim.Native.Nat.{ℕ, _≤_}
+use lib.ListN.{length}
+use lib.Ieee.{Float}
+use Rattle.lines_answer.specs.Answer.{places}
+use Rattle.lines_answer.specs.Held.{curveOf}
+use Rattle.lines_answer.specs.Held.{countOf as knotsOf}
+use Rattle.sheet.specs.Held.{sheetOf}
+use Rattle.sheet.specs.Held.{countOf as depthsOf}
+use Rattle.text.specs.Wrote.{Wrote}
+use Rattle.lines_machine.specs.Program.{widest}
+use Rattle.lines_machine.specs.Bytes.{State, stateAt, start}
+use Rattle.lines_machine.specs.Held.{openOf}
+use Rattle.lines_programs.specs.declared.Reader.{Reader}
+use Rattle.lines_programs.specs.declared.Job.{Job}
+use Rattle.lines_programs.specs.declared.Job.the-variants.{Asking, Reading}
+use Rattle.lines_programs.specs.Programs.{Running, asking, reading}
+
+abbrev pub runningOf : Job → List Float → Running
+runningOf (Asking h) table = asking (curveOf h table)
+runningOf (Reading h) table = reading (sheetOf h table)
+
+abbrev pub countOf : Job → ℕ
+countOf (Asking h) = knotsOf h
+countOf (Reading h) = depthsOf h
+
+abbrev pub stateOf : Reader → List ℕ → List Float → State Running
+stateOf st line table = stateAt (openOf (st .len) line) (runningOf (st .job) table)
+
+-- nothing has been read
+pub record Fresh (r : Running) (st : Reader) : Type 0 where
+  pub begun : (line : List ℕ) (table : List Float) → stateOf st line table ≡ start r
+  pub none : countOf (st .job) ≡ 0
+
+-- the lent slices have their lengths, and the knots fit
+pub record Good (st : Reader) (line : List ℕ) (table : List Float) : Type 0 where
+  pub few : countOf (st .job) ≤ places
+  pub full : length table ≡ places
+  pub wide : length line ≡ widest
+
+-- the code went over to the state s and wrote t
+pub record Went (s : State Running) (t : List ℕ) (st : Reader) (line : List ℕ) (table : List Float) (out : List ℕ) (at : ℕ) (out′ : List ℕ) (r : ℕ) : Type 0 where
+  pub state : stateOf st line table ≡ s
+  pub wrote : Wrote out at t out′ r
+  pub good : Good st line table

@@ -1,0 +1,27 @@
+-- The programs over lines, as one. Definitions only.
+use mathlib.Core.List.{List}
+use Prim.Native.Nat.{ℕ}
+use Rattle.lines_answer.specs.Answer.{Curve}
+use Rattle.lines.specs.Lines.{lineProgram}
+use Rattle.lines_machine.specs.Program.{Line, Program}
+use Rattle.sheet.specs.Sheet.{Sheet, sheetProgram}
+
+-- which program, and its state
+pub data Running : Type 0 where
+  asking : Curve → Running
+  reading : Sheet → Running
+
+unfoldable pub tellsOf : Running → Line → List ℕ
+tellsOf (asking c) o = lineProgram .tells c o
+tellsOf (reading s) o = sheetProgram .tells s o
+
+unfoldable pub afterOf : Running → Line → Running
+afterOf (asking c) o = asking (lineProgram .after c o)
+afterOf (reading s) o = reading (sheetProgram .after s o)
+
+unfoldable pub endsOf : Running → List ℕ
+endsOf (asking c) = lineProgram .ends c
+endsOf (reading s) = sheetProgram .ends s
+
+abbrev pub running : Program Running
+running = record { tells = λ r o. tellsOf r o; after = λ r o. afterOf r o; ends = λ r. endsOf r }

@@ -1,0 +1,199 @@
+// The programs over lines, a byte at a time: a step decides all that is printed.
+ghost use mathlib.Core.Path.{_≡_};
+ghost use Prim.Native.Nat.{_+_, _*_, _≤_, _<_};
+ghost use lib.ListN.{length, take};
+ghost use Rattle.lines_answer.specs.Answer.{places, none};
+ghost use Rattle.lines_reply.specs.Told.{longest};
+ghost use Rattle.sheet.specs.Sheet.{unbegun};
+ghost use Rattle.text.specs.Wrote.{Wrote};
+ghost use Rattle.lines_machine.specs.Bytes.{closed, closeText, nextOf, tellOf, endOf, ranOf, toldOf};
+ghost use Rattle.lines_programs.specs.Programs.{asking, reading, running, endsOf};
+ghost use Rattle.lines_programs.specs.Held.{runningOf, countOf, stateOf, Fresh, Good, Went};
+
+// Which program, and what it holds.
+pub enum Job {
+    Asking(lines_answer::Held),
+    Reading(sheet::Held),
+}
+
+// `len`: bytes of the current line in the lent 64; 65 means that the line is too long.
+pub struct Reader {
+    pub len: usize,
+    pub job: Job,
+}
+
+pub struct Stepped {
+    pub st: Reader,
+    pub at: usize,
+}
+
+// The line program, before the first byte.
+pub fn line_program() -> Reader
+    ensures { λ st. ⌜ Fresh (asking none) st ⌝ }
+{
+    Reader {
+        len: 0,
+        job: Job::Asking(lines_answer::Held::Nothing),
+    }
+}
+
+// The reader of sheets, before the first byte.
+pub fn sheet_program() -> Reader
+    ensures { λ st. ⌜ Fresh (reading unbegun) st ⌝ }
+{
+    Reader {
+        len: 0,
+        job: Job::Reading(sheet::Held::Unbegun),
+    }
+}
+
+// The end of a line.
+fn ended(
+    st: Reader,
+    line: &[u8],
+    table: &mut [f64],
+    turned: &mut [f64],
+    out: &mut [u8],
+    at: usize,
+) -> Stepped
+    requires { ⌜ Good st (now line) (now table) × (length (now turned) ≡ places) × (at + longest ≤ length (now out)) ⌝ }
+    ensures { λ s. ⌜ Went (closed running (stateOf st (now (line .entry)) (now (table .entry)))) (closeText running (stateOf st (now (line .entry)) (now (table .entry)))) (s .st) (now (line .entry)) (now (table .exit)) (now (out .entry)) at (now (out .exit)) (s .at) × (s .at ≤ at + longest) ⌝ }
+{
+    let len = st.len;
+    let job = st.job;
+    match job {
+        Job::Asking(held) => {
+            let l = lines::line(held, len, line, table, turned, out, at);
+            let after = l.held;
+            Stepped {
+                st: Reader {
+                    len: 0,
+                    job: Job::Asking(after),
+                },
+                at: l.at,
+            }
+        }
+        Job::Reading(held) => {
+            let after = sheet::line(held, len, line, table);
+            Stepped {
+                st: Reader {
+                    len: 0,
+                    job: Job::Reading(after),
+                },
+                at: at,
+            }
+        }
+    }
+}
+
+// What the end prints.
+fn ends(job: Job, table: &[f64], out: &mut [u8], at: usize) -> usize
+    requires { ⌜ (countOf job ≤ places) × (length (now table) ≡ places) × (at + longest ≤ length (now out)) ⌝ }
+    ensures { λ r. ⌜ Wrote (now (out .entry)) at (endsOf (runningOf job (now (table .entry)))) (now (out .exit)) r × (r ≤ at + longest) ⌝ }
+{
+    match job {
+        Job::Asking(_) => at,
+        Job::Reading(held) => sheet::end(held, table, out, at),
+    }
+}
+
+// A byte of the input. What it prints is written from place `at` of `out` on.
+pub fn step(
+    st: Reader,
+    byte: u8,
+    line: &mut [u8],
+    table: &mut [f64],
+    turned: &mut [f64],
+    out: &mut [u8],
+    at: usize,
+) -> Stepped
+    requires { ⌜ Good st (now line) (now table) × (length (now turned) ≡ places) × (at + longest ≤ length (now out)) ⌝ }
+    ensures { λ s. ⌜ Went (nextOf running (stateOf st (now (line .entry)) (now (table .entry))) byte) (tellOf running (stateOf st (now (line .entry)) (now (table .entry))) byte) (s .st) (now (line .exit)) (now (table .exit)) (now (out .entry)) at (now (out .exit)) (s .at) × (s .at ≤ at + longest) ⌝ }
+{
+    if byte == b'\n' {
+        return ended(st, &line[..], table, turned, out, at);
+    }
+    let len = st.len;
+    let job = st.job;
+    let next = lines_machine::pushed(len, byte, line);
+    Stepped {
+        st: Reader {
+            len: next,
+            job: job,
+        },
+        at: at,
+    }
+}
+
+// The end of the input: a last line may lack its LF.
+pub fn finish(
+    st: Reader,
+    line: &[u8],
+    table: &mut [f64],
+    turned: &mut [f64],
+    out: &mut [u8],
+    at: usize,
+) -> usize
+    requires { ⌜ Good st (now line) (now table) × (length (now turned) ≡ places) × (at + 2 * longest ≤ length (now out)) ⌝ }
+    ensures { λ r. ⌜ Wrote (now (out .entry)) at (endOf running (stateOf st (now (line .entry)) (now (table .entry)))) (now (out .exit)) r × (r ≤ at + 2 * longest) ⌝ }
+{
+    let len = st.len;
+    if len == 0 {
+        let job = st.job;
+        return ends(job, &table[..], out, at);
+    }
+    let s = ended(st, line, &mut *table, turned, &mut *out, at);
+    let after = s.st;
+    let job = after.job;
+    let from = s.at;
+    ends(job, &table[..], out, from)
+}
+
+pub struct Fed {
+    pub st: Reader,
+    pub at: usize,
+    pub next: usize,
+}
+
+// The bytes of a chunk up to `next`, as long as `out` has room for any reply.
+pub fn feed(
+    st: Reader,
+    chunk: &[u8],
+    line: &mut [u8],
+    table: &mut [f64],
+    turned: &mut [f64],
+    out: &mut [u8],
+) -> Fed
+    requires { ⌜ Good st (now line) (now table) × (length (now turned) ≡ places) ⌝ }
+    ensures { λ r. ⌜ Went (ranOf running (stateOf st (now (line .entry)) (now (table .entry))) (take (r .next) (now (chunk .entry)))) (toldOf running (stateOf st (now (line .entry)) (now (table .entry))) (take (r .next) (now (chunk .entry)))) (r .st) (now (line .exit)) (now (table .exit)) (now (out .entry)) 0 (now (out .exit)) (r .at) × (r .next ≤ length (now (chunk .entry))) × (r .at ≤ length (now (out .exit))) × (0 < length (now (chunk .entry)) → longest ≤ length (now (out .entry)) → 0 < r .next) ⌝ }
+{
+    let mut s = st;
+    let mut at = 0;
+    let mut i = 0;
+    while i < chunk.len() {
+        if out.len() - at < lines_reply::LONGEST {
+            return Fed {
+                st: s,
+                at: at,
+                next: i,
+            };
+        }
+        let r = step(
+            s,
+            chunk[i],
+            &mut *line,
+            &mut *table,
+            &mut *turned,
+            &mut *out,
+            at,
+        );
+        s = r.st;
+        at = r.at;
+        i += 1;
+    }
+    Fed {
+        st: s,
+        at: at,
+        next: i,
+    }
+}

@@ -1,0 +1,188 @@
+// What a line says.
+ghost use mathlib.Core.Path.{_≡_};
+ghost use mathlib.Core.List.{_∷_};
+ghost use Rattle.text.specs.Text.{fieldsOf};
+ghost use Rattle.text_decimals.specs.Decimals.{numberIn};
+ghost use Rattle.lines_record.specs.declared.Record.the-variants.{Span, Ends};
+ghost use Rattle.lines_record.specs.Record.{wordOf, namedOf, endsOf, withNumber, withEnds, meaningOf, ofFields, recordOf};
+use basis::Basis;
+use inverse::EndsBy;
+use text::Hexed;
+
+pub enum Record {
+    Curve(Basis),
+    Span(u32),
+    Knot(f64),
+    Ends(EndsBy),
+    At(f64),
+    Find(f64),
+    Turn(Basis),
+    Bad,
+}
+
+// The first field of a record.
+pub enum Word {
+    Curve,
+    Span,
+    Knot,
+    Ends,
+    At,
+    Find,
+    Turn,
+    Other,
+}
+
+pub enum Named {
+    Is(Basis),
+    Nothing,
+}
+
+// By which ends the curve is inverted, if a field names one.
+pub enum EndsNamed {
+    Is(EndsBy),
+    Nothing,
+}
+
+pub fn word_of(s: &[u8]) -> Word
+    ensures { λ r. ⌜ r ≡ wordOf (now (s .entry)) ⌝ }
+{
+    if text::is_word(s, b"curve") {
+        return Word::Curve;
+    }
+    if text::is_word(s, b"span") {
+        return Word::Span;
+    }
+    if text::is_word(s, b"knot") {
+        return Word::Knot;
+    }
+    if text::is_word(s, b"ends") {
+        return Word::Ends;
+    }
+    if text::is_word(s, b"at") {
+        return Word::At;
+    }
+    if text::is_word(s, b"find") {
+        return Word::Find;
+    }
+    if text::is_word(s, b"turn") {
+        return Word::Turn;
+    }
+    Word::Other
+}
+
+pub fn basis_named(s: &[u8]) -> Named
+    ensures { λ r. ⌜ r ≡ namedOf (now (s .entry)) ⌝ }
+{
+    if text::is_word(s, b"Bspline") {
+        return Named::Is(Basis::Bspline);
+    }
+    if text::is_word(s, b"Bezier") {
+        return Named::Is(Basis::Bezier);
+    }
+    if text::is_word(s, b"CatmullRom") {
+        return Named::Is(Basis::CatmullRom);
+    }
+    if text::is_word(s, b"Hermite") {
+        return Named::Is(Basis::Hermite);
+    }
+    if text::is_word(s, b"Linear") {
+        return Named::Is(Basis::Linear);
+    }
+    if text::is_word(s, b"Power") {
+        return Named::Is(Basis::Power);
+    }
+    Named::Nothing
+}
+
+pub fn ends_named(s: &[u8]) -> EndsNamed
+    ensures { λ r. ⌜ r ≡ endsOf (now (s .entry)) ⌝ }
+{
+    if text::is_word(s, b"knots") {
+        return EndsNamed::Is(EndsBy::Knots);
+    }
+    if text::is_word(s, b"curve") {
+        return EndsNamed::Is(EndsBy::Curve);
+    }
+    EndsNamed::Nothing
+}
+
+// A span of 1 to 5 digits; whether it is in range is for the answer to say.
+fn span_of(s: &[u8]) -> Record
+    ensures { λ r. ⌜ r ≡ withNumber (λ n. Span n) (numberIn 5 (now (s .entry))) ⌝ }
+{
+    let Hexed::Is(n) = text_decimals::number_in(s, 5) else {
+        return Record::Bad;
+    };
+    Record::Span(n as u32)
+}
+
+fn ends_of(s: &[u8]) -> Record
+    ensures { λ r. ⌜ r ≡ withEnds (λ m. Ends m) (endsOf (now (s .entry))) ⌝ }
+{
+    let EndsNamed::Is(m) = ends_named(s) else {
+        return Record::Bad;
+    };
+    Record::Ends(m)
+}
+
+// The record of a word and the field after it.
+fn meaning(w: Word, s: &[u8]) -> Record
+    ensures { λ r. ⌜ r ≡ meaningOf w (now (s .entry)) ⌝ }
+{
+    match w {
+        Word::Curve => {
+            let Named::Is(b) = basis_named(s) else {
+                return Record::Bad;
+            };
+            Record::Curve(b)
+        }
+        Word::Span => span_of(s),
+        Word::Knot => {
+            let Hexed::Is(n) = text::hex(s) else {
+                return Record::Bad;
+            };
+            Record::Knot(text::of_bits(n))
+        }
+        Word::Ends => ends_of(s),
+        Word::At => {
+            let Hexed::Is(n) = text::hex(s) else {
+                return Record::Bad;
+            };
+            Record::At(text::of_bits(n))
+        }
+        Word::Find => {
+            let Hexed::Is(n) = text::hex(s) else {
+                return Record::Bad;
+            };
+            Record::Find(text::of_bits(n))
+        }
+        Word::Turn => {
+            let Named::Is(b) = basis_named(s) else {
+                return Record::Bad;
+            };
+            Record::Turn(b)
+        }
+        Word::Other => Record::Bad,
+    }
+}
+
+// The record of a first field and of what stands after its tab: one field more, and no third.
+fn record_after(w: &[u8], s: &[u8]) -> Record
+    ensures { λ r. ⌜ r ≡ ofFields (now (w .entry) ∷ fieldsOf (now (s .entry))) ⌝ }
+{
+    if text::tab_at(s) < s.len() {
+        return Record::Bad;
+    }
+    meaning(word_of(w), s)
+}
+
+pub fn record_of(line: &[u8]) -> Record
+    ensures { λ r. ⌜ r ≡ recordOf (now (line .entry)) ⌝ }
+{
+    let t = text::tab_at(line);
+    if t < line.len() {
+        let from = t + 1;
+        return record_after(&line[0..t], &line[from..]);
+    }
+    Record::Bad
+}

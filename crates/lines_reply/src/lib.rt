@@ -1,0 +1,213 @@
+// The replies, and the text of each.
+ghost use mathlib.Core.Path.{_≡_};
+ghost use Prim.Native.Nat.{_+_, _*_, _≤_};
+ghost use lib.ListN.{length};
+ghost use mathlib.Core.List.{[], _∷_};
+ghost use Rattle.error.specs.Refusals.{placesOf};
+ghost use Rattle.text.specs.Wrote.{Wrote};
+ghost use Rattle.lines_record.specs.Record.{nameOf};
+ghost use Rattle.table.specs.Second.{secondsIn, spansOf};
+ghost use Rattle.lines_reply.specs.Reply.{groundName, placesText, refusedText, lineText, secondsText, placeText, spansText, knotsText, curveText, textOf};
+ghost use Rattle.lines_reply.specs.Told.{longest, lentOf, replyOf, placesIn};
+use basis::Basis;
+use error::Refusal;
+use inverse_segment::Ground;
+use table::Seconds;
+use table::Table;
+
+// Room for the longest reply: a curve of 4,096 knots over CatmullRom with a span.
+pub const LONGEST: usize = 90145;
+
+// A reply to one line. The knots of a curve are the first ones, as many as it says, of a lent slice.
+pub enum Told {
+    Nothing,
+    Refused(Refusal),
+    Value(f64),
+    Place(f64, Ground, u32, Seconds),
+    Curve(Table, usize),
+}
+
+// A knot's number, after a tab.
+fn put_knot(out: &mut [u8], at: usize, i: u16) -> usize
+    requires { ⌜ at + 6 ≤ length (now out) ⌝ }
+    ensures { λ n. ⌜ Wrote (now (out .entry)) at (placesText (i ∷ [])) (now (out .exit)) n × (n ≤ at + 6) ⌝ }
+{
+    let a = text::put_byte(&mut *out, at, b'\t');
+    text::put_decimal(out, a, i as u32, 4)
+}
+
+// The knot that a refusal tells.
+pub enum Where {
+    Nowhere,
+    Knot(u16),
+}
+
+fn knot_of(r: Refusal) -> Where
+    ensures { λ w. ⌜ placesIn w ≡ placesOf r ⌝ }
+{
+    match r {
+        Refusal::TooFew => Where::Nowhere,
+        Refusal::BadPattern => Where::Nowhere,
+        Refusal::TooMany => Where::Nowhere,
+        Refusal::BadSpan => Where::Nowhere,
+        Refusal::NotANumber => Where::Nowhere,
+        Refusal::BadPrecision => Where::Nowhere,
+        Refusal::NoRounds => Where::Nowhere,
+        Refusal::LinearOutput => Where::Nowhere,
+        Refusal::BadAllowance => Where::Nowhere,
+        Refusal::ShortBuffer => Where::Nowhere,
+        Refusal::BadStep => Where::Nowhere,
+        Refusal::NoSegment => Where::Nowhere,
+        Refusal::BadKnot(i) => Where::Knot(i),
+        Refusal::TurnsBack(i) => Where::Knot(i),
+        Refusal::UnequalSegments => Where::Nowhere,
+        Refusal::OffCurve => Where::Nowhere,
+        Refusal::BadLine => Where::Nowhere,
+        Refusal::BadSheet => Where::Nowhere,
+        Refusal::NoComparison => Where::Nowhere,
+        Refusal::LostSeam(i) => Where::Knot(i),
+    }
+}
+
+fn put_places(out: &mut [u8], at: usize, w: Where) -> usize
+    requires { ⌜ at + 6 ≤ length (now out) ⌝ }
+    ensures { λ n. ⌜ Wrote (now (out .entry)) at (placesText (placesIn w)) (now (out .exit)) n × (n ≤ at + 6) ⌝ }
+{
+    match w {
+        Where::Knot(i) => put_knot(out, at, i),
+        Where::Nowhere => at,
+    }
+}
+
+fn put_refused(out: &mut [u8], at: usize, r: Refusal) -> usize
+    requires { ⌜ at + 18 ≤ length (now out) ⌝ }
+    ensures { λ n. ⌜ Wrote (now (out .entry)) at (refusedText r) (now (out .exit)) n × (n ≤ at + 18) ⌝ }
+{
+    let a = text::put_word(&mut *out, at, b"refused\t");
+    let b = text::put_decimal(&mut *out, a, error::number(r) as u32, 2);
+    let c = put_places(&mut *out, b, knot_of(r));
+    text::put_byte(out, c, b'\n')
+}
+
+// A word and a double.
+fn put_line(out: &mut [u8], at: usize, w: &[u8], x: f64) -> usize
+    requires { ⌜ at + length (now w) + 17 ≤ length (now out) ⌝ }
+    ensures { λ r. ⌜ Wrote (now (out .entry)) at (lineText (now (w .entry)) x) (now (out .exit)) r × (r ≡ at + length (now (w .entry)) + 17) ⌝ }
+{
+    let a = text::put_word(&mut *out, at, w);
+    let b = text::put_double(&mut *out, a, x);
+    text::put_byte(out, b, b'\n')
+}
+
+fn put_ground(out: &mut [u8], at: usize, g: Ground) -> usize
+    requires { ⌜ at + 5 ≤ length (now out) ⌝ }
+    ensures { λ r. ⌜ Wrote (now (out .entry)) at (groundName g) (now (out .exit)) r × (r ≤ at + 5) ⌝ }
+{
+    match g {
+        Ground::End => text::put_word(out, at, b"end"),
+        Ground::Edge => text::put_word(out, at, b"edge"),
+        Ground::Value => text::put_word(out, at, b"value"),
+        Ground::Width => text::put_word(out, at, b"width"),
+        Ground::Spent => text::put_word(out, at, b"spent"),
+    }
+}
+
+fn put_second(out: &mut [u8], at: usize, s: u32) -> usize
+    requires { ⌜ at + 11 ≤ length (now out) ⌝ }
+    ensures { λ r. ⌜ Wrote (now (out .entry)) at (secondsText (s ∷ [])) (now (out .exit)) r × (r ≤ at + 11) ⌝ }
+{
+    let a = text::put_byte(&mut *out, at, b'\t');
+    text::put_decimal(out, a, s, 9)
+}
+
+// The second of a place, after a tab.
+fn put_seconds(out: &mut [u8], at: usize, s: Seconds) -> usize
+    requires { ⌜ at + 11 ≤ length (now out) ⌝ }
+    ensures { λ r. ⌜ Wrote (now (out .entry)) at (secondsText (secondsIn s)) (now (out .exit)) r × (r ≤ at + 11) ⌝ }
+{
+    match s {
+        Seconds::At(n) => put_second(out, at, n),
+        Seconds::Nothing => at,
+    }
+}
+
+fn put_place(out: &mut [u8], at: usize, x: f64, g: Ground, n: u32, s: Seconds) -> usize
+    requires { ⌜ at + 51 ≤ length (now out) ⌝ }
+    ensures { λ r. ⌜ Wrote (now (out .entry)) at (placeText x g n (secondsIn s)) (now (out .exit)) r × (r ≤ at + 51) ⌝ }
+{
+    let a = text::put_word(&mut *out, at, b"place\t");
+    let b = text::put_double(&mut *out, a, x);
+    let c = text::put_byte(&mut *out, b, b'\t');
+    let d = put_ground(&mut *out, c, g);
+    let e = text::put_byte(&mut *out, d, b'\t');
+    let f = text::put_decimal(&mut *out, e, n, 9);
+    let h = put_seconds(&mut *out, f, s);
+    text::put_byte(out, h, b'\n')
+}
+
+fn put_basis(out: &mut [u8], at: usize, b: Basis) -> usize
+    requires { ⌜ at + 10 ≤ length (now out) ⌝ }
+    ensures { λ r. ⌜ Wrote (now (out .entry)) at (nameOf b) (now (out .exit)) r × (r ≤ at + 10) ⌝ }
+{
+    match b {
+        Basis::Bspline => text::put_word(out, at, b"Bspline"),
+        Basis::Bezier => text::put_word(out, at, b"Bezier"),
+        Basis::CatmullRom => text::put_word(out, at, b"CatmullRom"),
+        Basis::Hermite => text::put_word(out, at, b"Hermite"),
+        Basis::Linear => text::put_word(out, at, b"Linear"),
+        Basis::Power => text::put_word(out, at, b"Power"),
+    }
+}
+
+fn put_knots(out: &mut [u8], at: usize, knots: &[f64]) -> usize
+    requires { ⌜ at + 22 * length (now knots) ≤ length (now out) ⌝ }
+    ensures { λ r. ⌜ Wrote (now (out .entry)) at (knotsText (now (knots .entry))) (now (out .exit)) r × (r ≡ at + 22 * length (now (knots .entry))) ⌝ }
+{
+    let mut i = 0;
+    let mut p = at;
+    while i < knots.len() {
+        p = put_line(&mut *out, p, b"knot\t", knots[i]);
+        i += 1;
+    }
+    p
+}
+
+// The line of a span, where the table has one.
+fn put_span(out: &mut [u8], at: usize, span: u32) -> usize
+    requires { ⌜ at + 16 ≤ length (now out) ⌝ }
+    ensures { λ r. ⌜ Wrote (now (out .entry)) at (spansText (spansOf span)) (now (out .exit)) r × (r ≤ at + 16) ⌝ }
+{
+    if table::is_span(span) {
+        let a = text::put_word(&mut *out, at, b"span\t");
+        let b = text::put_decimal(&mut *out, a, span, 9);
+        return text::put_byte(out, b, b'\n');
+    }
+    at
+}
+
+fn put_curve(out: &mut [u8], at: usize, t: Table, knots: &[f64]) -> usize
+    requires { ⌜ (length (now knots) ≤ 4096) × (at + longest ≤ length (now out)) ⌝ }
+    ensures { λ r. ⌜ Wrote (now (out .entry)) at (curveText (t .basis) (spansOf (t .span)) (now (knots .entry))) (now (out .exit)) r × (r ≤ at + longest) ⌝ }
+{
+    let b = t.basis;
+    let span = t.span;
+    let a = text::put_word(&mut *out, at, b"curve\t");
+    let c = put_basis(&mut *out, a, b);
+    let d = text::put_byte(&mut *out, c, b'\n');
+    let e = put_span(&mut *out, d, span);
+    put_knots(out, e, knots)
+}
+
+// The text of a reply, from place `at` on.
+pub fn put_reply(t: Told, turned: &[f64], out: &mut [u8], at: usize) -> usize
+    requires { ⌜ (lentOf t ≤ length (now turned)) × (length (now turned) ≡ 4096) × (at + longest ≤ length (now out)) ⌝ }
+    ensures { λ r. ⌜ Wrote (now (out .entry)) at (textOf (replyOf t (now (turned .entry)))) (now (out .exit)) r × (r ≤ at + longest) ⌝ }
+{
+    match t {
+        Told::Nothing => at,
+        Told::Refused(r) => put_refused(out, at, r),
+        Told::Value(x) => put_line(out, at, b"value\t", x),
+        Told::Place(x, g, n, s) => put_place(out, at, x, g, n, s),
+        Told::Curve(c, n) => put_curve(out, at, c, &turned[0..n]),
+    }
+}

@@ -1,9 +1,0 @@
--- How a segment of a curve is tried: g s is segment s of the curve g. Definitions only.
-use Prim.Native.Nat.{ℕ}
-use lib.Ieee.{Float}
-use Rattle.invert.specs.Evaluations.{Evaluations}
-use Rattle.invert.specs.Round.{Rule}
-use Rattle.invert.specs.Segment.{Entry, enter}
-
-abbrev pub trial : Rule → (ℕ → Float → Float) → Float → Float → ℕ → ℕ → Evaluations → Entry
-trial R g y ε limit s ev = enter R (g s) s y ε limit ev
