@@ -62,6 +62,8 @@ impl Call {
 pub type Answer = usize;
 
 pub const PLAIN: Answer = 0;
+const VALUE: Answer = 23;
+const SPENT: Answer = 25;
 pub const NO_NUMBER: Answer = 26;
 pub const HOLDS: Answer = 27;
 pub const DIFFERS: Answer = 28;
@@ -85,9 +87,9 @@ fn name(a: Answer) -> String {
         1..=20 => format!("refused {a}"),
         21 => "end".into(),
         22 => "edge".into(),
-        23 => "value".into(),
+        VALUE => "value".into(),
         24 => "width".into(),
-        25 => "spent".into(),
+        SPENT => "spent".into(),
         HOLDS => "holds".into(),
         DIFFERS => "differs".into(),
         _ => "no such number".into(),
@@ -130,6 +132,11 @@ impl Tally {
         self.limit_overflows += other.limit_overflows;
         self.side_overflows += other.side_overflows;
         self.loops += other.loops;
+    }
+
+    /// Inversions that went through rounds: their ground is a value, a width, or that the limit was spent.
+    pub fn by_rounds(&self) -> u64 {
+        self.counts.iter().flat_map(|answers| &answers[VALUE..=SPENT]).flatten().sum()
     }
 
     pub fn total(&self, by: usize) -> u64 {

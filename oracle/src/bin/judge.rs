@@ -1,4 +1,5 @@
-//! `judge SIZE` compares the port with the crate and the model; SIZE is quick, long, or a number of rounds.
+//! `judge SIZE` compares the port with the crate and the model; SIZE is quick, long, or a number of rounds. `judge steady`
+//! holds inversions by the steady method to the model. `judge SIZE 2/8` runs the second of eight parts.
 
 use std::time::Instant;
 use std::{env, process, thread};
@@ -8,9 +9,17 @@ use judge::inputs::{self, Rng, AWKWARD, LIMITS, PRECISIONS, SEGMENTS};
 use judge::model::{self, Options, STEP};
 use judge::parts::PARTS;
 use judge::port::{self, UNTOUCHED, UNTOUCHED_WHOLE};
+use judge::steady;
 use judge::tally::{Call, Tally, NO_NUMBER};
 
-/// How much is run: awkward doubles in the exhaustive part, rounds of the random part.
+/// What is run.
+#[derive(Clone, Copy)]
+enum Run {
+    Everything(Size),
+    Steady,
+}
+
+/// How much of everything is run: awkward doubles in the exhaustive part, rounds of the random part.
 #[derive(Clone, Copy)]
 struct Size {
     awkward: usize,
@@ -20,27 +29,51 @@ struct Size {
 const CHECKED: Options = Options { check: true, ..Options::DEFAULT };
 
 fn main() {
-    let word = env::args().nth(1).unwrap_or_default();
-    let size = match word.as_str() {
-        "quick" => Size { awkward: 12, rounds: 12 },
-        "long" => Size { awkward: AWKWARD.len(), rounds: 150 },
-        n => match n.parse() {
-            Ok(rounds) => Size { awkward: AWKWARD.len(), rounds },
-            Err(_) => {
-                eprintln!("usage: judge quick | long | ROUNDS");
-                process::exit(2);
-            }
-        },
+    let words: Vec<String> = env::args().skip(1).collect();
+    let Some((run, part, parts)) = asked(&words) else {
+        eprintln!("usage: judge quick | long | steady | ROUNDS [PART/PARTS]");
+        process::exit(2);
     };
     let start = Instant::now();
-    let workers = thread::available_parallelism().map_or(1, |n| n.get());
+    let threads = thread::available_parallelism().map_or(1, |n| n.get());
     let mut tally = Tally::default();
     thread::scope(|scope| {
-        let shares: Vec<_> = (0..workers).map(|w| scope.spawn(move || share(size, w, workers))).collect();
+        let shares: Vec<_> = (0..threads)
+            .map(|thread| {
+                let worker = (part - 1) * threads + thread;
+                scope.spawn(move || match run {
+                    Run::Everything(size) => share(part_of(size, part, parts), worker, parts * threads),
+                    Run::Steady => steady::share(worker, parts * threads),
+                })
+            })
+            .collect();
         shares.into_iter().for_each(|s| tally.join(&s.join().unwrap()));
     });
     println!("{tally}");
     println!("No difference. {} s.", start.elapsed().as_secs());
+}
+
+/// What the words ask for: what is run, and which part of how many.
+fn asked(words: &[String]) -> Option<(Run, usize, usize)> {
+    let run = match words.first()?.as_str() {
+        "quick" => Run::Everything(Size { awkward: 12, rounds: 12 }),
+        "long" => Run::Everything(Size { awkward: AWKWARD.len(), rounds: 150 }),
+        "steady" => Run::Steady,
+        n => Run::Everything(Size { awkward: AWKWARD.len(), rounds: n.parse().ok()? }),
+    };
+    let (part, parts) = match words.get(1) {
+        None => (1, 1),
+        Some(word) => {
+            let (part, parts) = word.split_once('/')?;
+            (part.parse().ok()?, parts.parse().ok()?)
+        }
+    };
+    (1..=parts).contains(&part).then_some((run, part, parts))
+}
+
+/// The rounds are dealt to the parts; the lists of awkward doubles are dealt to the workers one by one.
+fn part_of(size: Size, part: usize, parts: usize) -> Size {
+    Size { rounds: size.rounds * part / parts - size.rounds * (part - 1) / parts, ..size }
 }
 
 /// One worker's part of everything.
