@@ -1,0 +1,3 @@
+pub mod Closest
+pub mod Parts
+pub mod Writing
