@@ -1,3 +1,4 @@
 pub mod Closest
 pub mod Parts
 pub mod Writing
+pub mod Values
