@@ -22,14 +22,14 @@ use Rattle.inverse.proofs.spline_inverse_with.Reads as spline_inverse_with
 use Rattle.inverse.proofs.spline_inverse.Reads as spline_inverse
 use Rattle.promises.specs.Calls.{Keeps}
 use Rattle.promises.proofs.Inverting.{spline-inverse-by-promised, spline-inverse-with-promised, spline-inverse-promised}
-use Rattle.promises.proofs.Numbers.{PlaceNumber, spline-inverse-by-number, spline-inverse-with-number, spline-inverse-number}
+use Rattle.promises.proofs.Numbers.{InverseNumber, spline-inverse-by-number, spline-inverse-with-number, spline-inverse-number}
 
 module _ (m : EndsBy) (how : Method) (b : Basis) (y : Float) (ks : List Float) (check : Bool) (limit : ℕ) (ε : Float) where
   pub record Eleven (z : Inverted) : Type 0 where
     pub only : numberTold z ≡ 11 → Pass m how b y ks check limit ε × Quiet m how b y ks check limit ε × (Premise m how b y ks check limit ε → Nowhere m how b y ks check limit ε)
     pub where-off : Pass m how b y ks check limit ε → Quiet m how b y ks check limit ε → Nowhere m how b y ks check limit ε → numberTold z ≡ 11
 
-  pub by-eleven : (z : Inverted) → PlaceNumber (inverseUses b y ks check limit ε) z → Promised m how b y ks check limit ε z → Eleven z
+  pub by-eleven : (z : Inverted) → InverseNumber (inverseUses b y ks check limit ε) z → Promised m how b y ks check limit ε z → Eleven z
   by-eleven z n p =
       record {
         only = λ h. subst (IfOff _) (n .eleven h .1) (p .off-only);

@@ -19,6 +19,7 @@ pub mod Premise
 pub mod Eleven
 pub mod Telling
 pub mod Uneven
+pub mod NumbersBeyond
 pub mod Spans
 pub mod Programs
 pub mod Sheets
