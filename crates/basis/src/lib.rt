@@ -1,7 +1,7 @@
 // The six bases: STEP, the length rule and the matrices. Rust: src/basis.rs.
 ghost use mathlib.Core.Path.{_≡_};
 ghost use Prim.Native.Nat.{_≤_, _<_};
-ghost use Rattle.basis.specs.Basis.{stepOf, lengthOk, segmentsOf};
+ghost use Rattle.basis.specs.Basis.{stepOf, regular, lengthOk, segmentsOf, isLinear};
 
 pub mod basis_macros;
 
@@ -27,6 +27,22 @@ pub fn step(b: Basis) -> usize
     }
 }
 
+// Whether n knots, four at least, come in whole steps. A match, so that each divisor is a constant.
+pub fn is_regular(b: Basis, n: usize) -> bool
+    requires { ⌜ 4 ≤ n ⌝ }
+    ensures { λ r. ⌜ r ≡ regular b n ⌝ }
+{
+    let m = n - 4;
+    match b {
+        Basis::Bspline => true,
+        Basis::Bezier => m % 3 == 0,
+        Basis::CatmullRom => true,
+        Basis::Hermite => m % 2 == 0,
+        Basis::Linear => true,
+        Basis::Power => m % 4 == 0,
+    }
+}
+
 // Whether n knots suit the basis.
 pub fn is_len_ok(b: Basis, n: usize) -> bool
     ensures { λ r. ⌜ r ≡ lengthOk b n ⌝ }
@@ -34,7 +50,7 @@ pub fn is_len_ok(b: Basis, n: usize) -> bool
     if n < 4 {
         return false;
     }
-    (n - 4) % step(b) == 0
+    is_regular(b, n)
 }
 
 // How many segments n knots make. A match, so that each divisor is a constant.
@@ -50,5 +66,19 @@ pub fn segments(b: Basis, n: usize) -> usize
         Basis::Hermite => m / 2 + 1,
         Basis::Linear => m + 1,
         Basis::Power => m / 4 + 1,
+    }
+}
+
+// Whether the basis is the one whose matrix has no inverse.
+pub fn is_linear(b: Basis) -> bool
+    ensures { λ r. ⌜ r ≡ isLinear b ⌝ }
+{
+    match b {
+        Basis::Bspline => false,
+        Basis::Bezier => false,
+        Basis::CatmullRom => false,
+        Basis::Hermite => false,
+        Basis::Linear => true,
+        Basis::Power => false,
     }
 }

@@ -12,7 +12,7 @@ use Rattle.basis.specs.declared.Basis.{Basis}
 use Rattle.basis.specs.Basis.{stepOf}
 use Rattle.doubles.proofs.Tests.{holds}
 use Rattle.doubles.proofs.Bounds.{within-finite}
-use Rattle.spline.specs.Rows.{allInRange}
+use Rattle.checks.specs.Checks.{allInRange}
 use Rattle.spline.proofs.Finite.{Four, Small, Finite, none, more, joined, row-finite, knots-within}
 use Rattle.spline.proofs.Parts.{inside}
 use Rattle.convert_matrix.specs.Matrix.{Matrix, row, applied}

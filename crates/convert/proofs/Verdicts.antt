@@ -16,23 +16,23 @@ use Rattle.error.specs.Refusals.{first}
 use Rattle.error.proofs.First.{stops, goes-on, clear}
 use Rattle.basis.specs.declared.Basis.{Basis}
 use Rattle.basis.specs.Basis.{stepOf, isLinear}
-use Rattle.spline.specs.Rows.{curveLength, segmentLength, allInRange}
+use Rattle.checks.specs.Checks.{curveLength, segmentLength, allInRange}
 use Rattle.spline.proofs.Parts.{few}
-use Rattle.spline.proofs.Verdicts.{Length}
+use Rattle.checks.proofs.Verdicts.{Length}
 use Rattle.convert.specs.Output.{outputLength}
 use Rattle.convert.specs.Conversion.{outputUses, convertSegmentUses, convertUses}
 
 -- ---- the length's rows, then the output's
 module _ (to : Basis) (cv : List Float) (room : ℕ) {l : Verdict} (e : l ≡ first (segmentLength (length cv))) where
-  pub segment-stops : {r : Refusal} → l ≡ Failed r → Failed r ≡ first (convertSegmentUses to cv room)
-  segment-stops k = sym k ∙ stops (convertSegmentUses to cv room) e k
+  pub segment-stops : {r : Refusal} → l ≡ Failed r → l ≡ first (convertSegmentUses to cv room)
+  segment-stops k = stops (convertSegmentUses to cv room) e k
 
   pub segment-goes-on : {w : Verdict} → l ≡ Passed → w ≡ first (outputUses to cv 4 room) → w ≡ first (convertSegmentUses to cv room)
   segment-goes-on k h = goes-on (convertSegmentUses to cv room) e k h
 
 module _ (from to : Basis) (ks : List Float) (room : ℕ) {l : Verdict} (e : l ≡ first (curveLength from (length ks))) where
-  pub spline-stops : {r : Refusal} → l ≡ Failed r → Failed r ≡ first (convertUses from to ks room)
-  spline-stops k = sym k ∙ stops (convertUses from to ks room) e k
+  pub spline-stops : {r : Refusal} → l ≡ Failed r → l ≡ first (convertUses from to ks room)
+  spline-stops k = stops (convertUses from to ks room) e k
 
   pub spline-goes-on : {w : Verdict} {need : ℕ} → l ≡ Passed → need ≡ outputLength from to (length ks) → w ≡ first (outputUses to ks need room) → w ≡ first (convertUses from to ks room)
   spline-goes-on k n h = goes-on (convertUses from to ks room) e k (h ∙ ap (λ (x : ℕ). first (outputUses to ks x room)) n)

@@ -11,7 +11,7 @@ use Rattle.error.specs.declared.Verdict.the-variants.{Passed, Failed}
 use Rattle.error.specs.Refusals.{Uses, first}
 use Rattle.basis.specs.declared.Basis.{Basis}
 use Rattle.basis.specs.Basis.{isLinear}
-use Rattle.spline.specs.Rows.{curveLength, segmentLength, badKnot}
+use Rattle.checks.specs.Checks.{curveLength, segmentLength, badKnot}
 use Rattle.convert.specs.Output.{segmentOutput, splineOutput, outputLength}
 
 -- the doubles to be written, or a refusal

@@ -8,7 +8,7 @@ use error::Refusal;
 use error::Verdict;
 
 pub mod output;
-pub mod rows;
+pub mod refusals;
 
 pub enum Converted {
     Written(usize),
@@ -19,7 +19,7 @@ pub enum Converted {
 pub fn convert_segment(from: Basis, to: Basis, cv: &[f64], out: &mut [f64]) -> Converted
     ensures { λ r. ⌜ (r ≡ answerOf (convertedSegmentOf from to (now (cv .entry)) (length (now (out .entry))))) × (now (out .exit) ≡ bufferOf (convertedSegmentOf from to (now (cv .entry)) (length (now (out .entry)))) (now (out .entry))) ⌝ }
 {
-    let v = rows::segment_verdict(to, cv, out.len());
+    let v = refusals::segment_verdict(to, cv, out.len());
     match v {
         Verdict::Failed(r) => Converted::Refused(r),
         Verdict::Passed => {
@@ -34,7 +34,7 @@ pub fn convert_segment(from: Basis, to: Basis, cv: &[f64], out: &mut [f64]) -> C
 pub fn convert_spline(from: Basis, to: Basis, knots: &[f64], out: &mut [f64]) -> Converted
     ensures { λ r. ⌜ (r ≡ answerOf (convertedOf from to (now (knots .entry)) (length (now (out .entry))))) × (now (out .exit) ≡ bufferOf (convertedOf from to (now (knots .entry)) (length (now (out .entry)))) (now (out .entry))) ⌝ }
 {
-    let v = rows::spline_verdict(from, to, knots, out.len());
+    let v = refusals::spline_verdict(from, to, knots, out.len());
     match v {
         Verdict::Failed(r) => Converted::Refused(r),
         Verdict::Passed => {

@@ -8,7 +8,7 @@ use Rattle.error.specs.declared.Refusal.the-variants.{LostSeam}
 use Rattle.basis.specs.declared.Basis.the-variants.{Bezier, Hermite}
 use Rattle.basis.specs.Basis.{matrixOf}
 use Rattle.doubles.specs.Numbers.{nought, one, magnitudeOf}
-use Rattle.spline.specs.Rows.{inRange, allInRange, firstBad}
+use Rattle.checks.specs.Checks.{inRange, allInRange, firstBad}
 use Rattle.convert.specs.Output.{windows, splineOutput}
 use Rattle.convert.specs.Conversion.{gives, refuses}
 use Rattle.convert_strict.specs.Seams.{any, lowest}

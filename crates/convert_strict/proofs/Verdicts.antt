@@ -16,7 +16,7 @@ use Rattle.error.specs.Refusals.{Uses, first}
 use Rattle.error.proofs.First.{never, stops, goes-on}
 use Rattle.basis.specs.declared.Basis.{Basis}
 use Rattle.basis.specs.Basis.{stepOf, regular, isLinear}
-use Rattle.spline.specs.Rows.{curveLength, allInRange, firstBad}
+use Rattle.checks.specs.Checks.{curveLength, allInRange, firstBad}
 use Rattle.convert_matrix.specs.Matrix.{Matrix}
 use Rattle.convert_matrix.specs.Elimination.{conversionOf}
 use Rattle.convert.specs.Output.{outputLength}

@@ -7,7 +7,7 @@ use basis::Basis;
 use convert::Converted;
 use error::Verdict;
 
-pub mod rows;
+pub mod refusals;
 pub mod seams;
 
 // Where nothing is refused, `convert::convert_spline` writes.
@@ -21,7 +21,7 @@ pub fn convert_spline_strict(
     ensures answer { λ r. ⌜ r ≡ answerOf (strictOf from to (now (knots .entry)) allowance (length (now (out .entry)))) ⌝ }
     ensures buffer { λ _. ⌜ now (out .exit) ≡ bufferOf (strictOf from to (now (knots .entry)) allowance (length (now (out .entry)))) (now (out .entry)) ⌝ }
 {
-    let v = rows::strict_verdict(from, to, knots, allowance, out.len());
+    let v = refusals::strict_verdict(from, to, knots, allowance, out.len());
     match v {
         Verdict::Failed(r) => Converted::Refused(r),
         Verdict::Passed => convert::convert_spline(from, to, knots, out),

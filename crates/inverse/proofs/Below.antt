@@ -13,7 +13,7 @@ use Rattle.error.proofs.First.{never}
 use Rattle.basis.specs.declared.Basis.{Basis}
 use Rattle.basis.specs.Basis.{stepOf, segmentsOf}
 use Rattle.spline.specs.Segment.{segmentOf}
-use Rattle.spline.specs.Rows.{allInRange}
+use Rattle.checks.specs.Checks.{allInRange}
 use Rattle.inverse_segment.specs.declared.Place.{Place}
 use Rattle.inverse_segment.specs.declared.Inverted.the-variants.{At}
 use Rattle.inverse_segment.specs.Segment.{Outcome, off, placed}

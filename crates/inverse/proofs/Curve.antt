@@ -11,7 +11,7 @@ use Rattle.basis.specs.declared.Basis.{Basis}
 use Rattle.basis.specs.Basis.{stepOf, segmentsOf}
 use Rattle.doubles.proofs.Tests.{holds, fails}
 use Rattle.spline.specs.Segment.{segmentOf}
-use Rattle.spline.specs.Rows.{allInRange}
+use Rattle.checks.specs.Checks.{allInRange}
 use Rattle.spline.proofs.Parts.{inside, few}
 use Rattle.inverse_segment.proofs.Enclosing.{Numbers}
 use Rattle.inverse_segment.proofs.Call.{segment-numbers}

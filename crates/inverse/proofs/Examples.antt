@@ -14,12 +14,12 @@ use Rattle.doubles.specs.Numbers.{nought, one, half, magnitudeOf}
 use Rattle.doubles.specs.Lerp.{lerpOf}
 use Rattle.doubles.proofs.Tests.{each, each-at}
 use Rattle.spline.specs.Segment.{segmentOf}
-use Rattle.spline.specs.Rows.{inRange, allInRange}
+use Rattle.checks.specs.Checks.{inRange, allInRange, precise}
 use Rattle.inverse_segment.specs.declared.Inverted.the-variants.{OffCurve}
 use Rattle.inverse_segment.specs.Round.{narrow, halving, weighed, chord, kept, fraction, moved, settled, probed, turn}
 use Rattle.inverse_segment.specs.Rounds.{rounds}
 use Rattle.inverse_segment.specs.Segment.{entered, enter}
-use Rattle.inverse_segment.specs.Answer.{precise, defaultLimit, defaultPrecision}
+use Rattle.inverse_segment.specs.Answer.{defaultLimit, defaultPrecision}
 use Rattle.inverse_search.specs.Bound.{bitsOf}
 use Rattle.inverse_search.specs.Search.{tries, last, halve, find}
 use Rattle.inverse_search.proofs.Found.{Holds, Straight}

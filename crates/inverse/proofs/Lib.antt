@@ -7,7 +7,7 @@ pub mod Below
 pub mod Verdicts
 pub mod TurnsBack
 pub mod Promises
-pub mod Refusals
+pub mod Refusing
 pub mod Pace
 pub mod Timely
 pub mod InOrder

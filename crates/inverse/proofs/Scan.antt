@@ -10,7 +10,7 @@ use lib.Seq.{drop-cons}
 use lib.Ieee.{Float, nan, inf, fin, lt, le, eq, neg, isNan}
 use lib.Ieee.Fits.{and-l, and-r, and-i}
 use Rattle.doubles.proofs.Order.{le-trans-float, not-lt→le, lt-le-absurd}
-use Rattle.spline.specs.Rows.{bound, inRange, allInRange}
+use Rattle.checks.specs.Checks.{bound, inRange, allInRange}
 use Rattle.inverse_search.specs.Search.{before}
 use Rattle.inverse.specs.Order.{ordered}
 use Rattle.inverse.specs.Scan.{follows, kept}

@@ -12,18 +12,17 @@ use Rattle.error.specs.declared.Refusal.the-variants.{BadKnot, TurnsBack}
 use Rattle.error.specs.declared.Verdict.{Verdict}
 use Rattle.error.specs.declared.Verdict.the-variants.{Passed, Failed}
 use Rattle.error.specs.Refusals.{Uses, first}
-use Rattle.error.proofs.First.{stops-in, goes-past, stops, goes-on, clear}
+use Rattle.error.proofs.First.{never, stops-in, goes-past, stops, goes-on, clear}
 use Rattle.basis.specs.declared.Basis.{Basis}
 use Rattle.basis.specs.Basis.{segmentsOf}
 use Rattle.doubles.proofs.Tests.{holds, fails}
 use Rattle.spline.specs.Segment.{segmentOf}
-use Rattle.spline.specs.Rows.{inRange, allInRange, firstBad, curveLength}
+use Rattle.checks.specs.Checks.{inRange, allInRange, firstBad, curveLength, asked}
 use Rattle.inverse_segment.specs.declared.Inverted.{Inverted}
 use Rattle.inverse_segment.specs.declared.Inverted.the-variants.{Refused}
-use Rattle.inverse_segment.specs.Answer.{asked}
 use Rattle.inverse_methods.specs.declared.Method.{Method}
 use Rattle.inverse_methods.specs.Method.{ruleOf}
-use Rattle.inverse_segment.proofs.Verdicts.{askedRows, lastRows}
+use Rattle.checks.proofs.Verdicts.{askedRows, lastRows}
 use Rattle.inverse.specs.declared.EndsBy.{EndsBy}
 use Rattle.inverse.specs.Order.{rises, turnsBack, turningKnot}
 use Rattle.inverse.specs.EndRule.{endRuleOf}
@@ -63,20 +62,26 @@ module _ (p q : ℕ) (a t check : Bool) where
       go true true check e = absurd (holds e)
       go false t check e = absurd (holds e)
 
-  pub knots-turn : {r : Refusal} → check ≡ true → (a && not t) ≡ false → a ≡ true → r ≡ TurnsBack q → Failed r ≡ first (knotRows p q a t check)
-  knots-turn {r} c e h k = ap Failed k ∙ go a t check c e h
-    where
-      go : (a t check : Bool) → check ≡ true → (a && not t) ≡ false → a ≡ true → Failed (TurnsBack q) ≡ first (knotRows p q a t check)
-      go true true true c e h = refl
-      go true true false c e h = absurd (holds c)
-      go true false check c e h = absurd (fails e)
-      go false t check c e h = absurd (holds h)
+  -- k is the verdict of the first row alone
+  module _ {k : Verdict} (e : k ≡ first ((BadKnot p, not a) ∷ [])) where
+    pub knots-unchecked : check ≡ false → k ≡ first (knotRows p q a t check)
+    knots-unchecked c = rw c e
 
-  pub knots-bad : {r : Refusal} → a ≡ false → r ≡ BadKnot p → Failed r ≡ first (knotRows p q a t check)
-  knots-bad h k = rw h (ap Failed k)
+    pub knots-stop : {r : Refusal} → k ≡ Failed r → k ≡ first (knotRows p q a t check)
+    knots-stop {r} f = f ∙ go a (sym f ∙ e)
+      where
+        go : (a : Bool) → Failed r ≡ first ((BadKnot p, not a) ∷ []) → Failed r ≡ first (knotRows p q a t check)
+        go true h = never (cc)
+        go false h = h
 
-  pub knots-unchecked : check ≡ false → a ≡ true → Passed ≡ first (knotRows p q a t check)
-  knots-unchecked c h = rw (c, h)
+    pub knots-turn : {r : Refusal} → k ≡ Passed → check ≡ true → (a && not t) ≡ false → r ≡ TurnsBack q → Failed r ≡ first (knotRows p q a t check)
+    knots-turn {r} f c n h = ap Failed h ∙ go a t check (sym f ∙ e) c n
+      where
+        go : (a t check : Bool) → Passed ≡ first ((BadKnot p, not a) ∷ []) → check ≡ true → (a && not t) ≡ false → Failed (TurnsBack q) ≡ first (knotRows p q a t check)
+        go true true true f c n = refl
+        go true true false f c n = absurd (holds c)
+        go true false check f c n = absurd (fails n)
+        go false t check f c n = never (cc)
 
 -- ---- the call's rows, in the order of its tests
 module _ (b : Basis) (y : Float) (ks : List Float) (check : Bool) (limit : ℕ) (ε : Float) {l : Verdict} (e : l ≡ first (curveLength b (length ks))) where

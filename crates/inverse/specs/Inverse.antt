@@ -8,10 +8,10 @@ use Rattle.error.specs.Refusals.{Uses, first}
 use Rattle.basis.specs.declared.Basis.{Basis}
 use Rattle.basis.specs.Basis.{segmentsOf}
 use Rattle.spline.specs.Segment.{segmentOf}
-use Rattle.spline.specs.Rows.{curveLength, badKnot}
+use Rattle.checks.specs.Checks.{curveLength, badKnot, asked}
 use Rattle.inverse_segment.specs.declared.Inverted.{Inverted}
 use Rattle.inverse_segment.specs.Evaluations.{Evaluations}
-use Rattle.inverse_segment.specs.Answer.{inverted, asked, unlessRefused}
+use Rattle.inverse_segment.specs.Answer.{inverted, unlessRefused}
 use Rattle.inverse_methods.specs.declared.Method.{Method}
 use Rattle.inverse_methods.specs.declared.Method.the-variants.{AsCrate}
 use Rattle.inverse_methods.specs.Method.{ruleOf}

@@ -6,7 +6,7 @@ ghost use lib.ListN.{length};
 ghost use lib.Ieee.{isNan};
 ghost use Rattle.basis.specs.Basis.{segmentsOf};
 ghost use Rattle.spline.specs.Segment.{segmentOf};
-ghost use Rattle.spline.specs.Rows.{allInRange};
+ghost use Rattle.checks.specs.Checks.{allInRange};
 ghost use Rattle.inverse_segment.specs.Answer.{defaultLimit, defaultPrecision};
 ghost use Rattle.inverse_methods.specs.Method.{ruleOf};
 ghost use Rattle.inverse.specs.EndRule.{atLow, atHigh, knotEnds, curveRule, endRuleOf, own};
@@ -21,6 +21,7 @@ use inverse_segment::Inverted;
 use inverse_segment::Place;
 
 pub mod order;
+pub mod refusals;
 
 // Whether the end rule goes by the knots, as in the crate, or by the curve's own ends.
 pub enum EndsBy {
@@ -219,7 +220,7 @@ fn locate(
 pub fn spline_inverse_by(o: Options, b: Basis, y: f64, knots: &[f64]) -> Inverted
     ensures { λ r. ⌜ r ≡ inverseBy (o .ends) (o .method) b y (now (knots .entry)) (o .check) (o .limit) (o .precision) ⌝ }
 {
-    let v = order::verdict(b, y, knots, o.check, o.limit, o.precision);
+    let v = refusals::verdict(b, y, knots, o.check, o.limit, o.precision);
     match v {
         Verdict::Failed(r) => Inverted::Refused(r),
         Verdict::Passed => {

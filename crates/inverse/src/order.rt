@@ -1,18 +1,13 @@
-// The order check, and the refusals of a curve's inversion, apart from the computing.
+// The direction of the knots, and the order check.
 ghost use mathlib.Core.Path.{_≡_};
 ghost use mathlib.Core.Bool.{not, _&&_};
-ghost use mathlib.Core.List.{[], _∷_};
 ghost use Prim.Native.Nat.{_≤_};
 ghost use lib.ListN.{length, drop};
 ghost use Rattle.error.specs.declared.Refusal.the-variants.{TurnsBack};
-ghost use Rattle.error.specs.Refusals.{first};
-ghost use Rattle.spline.specs.Rows.{allInRange, badKnot};
-ghost use Rattle.inverse.specs.Order.{rises, turnsBack, turnsAt, turningKnot, turnBack};
-ghost use Rattle.inverse.specs.Inverse.{inverseUses};
+ghost use Rattle.checks.specs.Checks.{allInRange};
+ghost use Rattle.inverse.specs.Order.{rises, turnsBack, turnsAt, turningKnot};
 ghost use Rattle.inverse.specs.Scan.{follows, kept};
-use basis::Basis;
 use error::Refusal;
-use error::Verdict;
 
 pub fn rising(knots: &[f64]) -> bool
     requires { ⌜ 4 ≤ length (now knots) ⌝ }
@@ -51,13 +46,13 @@ fn keeps(rising: bool, knots: &[f64]) -> bool
 }
 
 // Knots 0, 1 and the last are in range and each pair from knot 1 on keeps its direction: so all are in range, and in order.
-fn is_sound(knots: &[f64]) -> bool
+pub fn is_sound(knots: &[f64]) -> bool
     requires { ⌜ 4 ≤ length (now knots) ⌝ }
     ensures { λ r. ⌜ r ≡ (allInRange (now (knots .entry)) && not (turnsBack (now (knots .entry)))) ⌝ }
 {
-    if spline::rows::in_range(knots[0]) {
-        if spline::rows::in_range(knots[1]) {
-            if spline::rows::in_range(knots[knots.len() - 1]) {
+    if checks::in_range(knots[0]) {
+        if checks::in_range(knots[1]) {
+            if checks::in_range(knots[knots.len() - 1]) {
                 return keeps(rising(knots), knots);
             }
         }
@@ -81,44 +76,9 @@ fn first_turn(rising: bool, knots: &[f64]) -> usize
 }
 
 // Which knot turns back; looked for only where one does.
-fn turning_knot(knots: &[f64]) -> Refusal
+pub fn turning_knot(knots: &[f64]) -> Refusal
     requires { ⌜ (4 ≤ length (now knots)) × (length (now knots) ≤ 4096) ⌝ }
     ensures { λ r. ⌜ r ≡ TurnsBack (turningKnot (now (knots .entry))) ⌝ }
 {
     Refusal::TurnsBack(first_turn(rising(knots), knots) as u16)
-}
-
-// One scan where nothing is wrong; a second tells which row applies.
-pub fn knots_verdict(knots: &[f64], check: bool) -> Verdict
-    requires { ⌜ (4 ≤ length (now knots)) × (length (now knots) ≤ 4096) ⌝ }
-    ensures { λ r. ⌜ r ≡ first (badKnot (now (knots .entry)) ∷ turnBack check (now (knots .entry)) ∷ []) ⌝ }
-{
-    if check {
-        if is_sound(knots) {
-            return Verdict::Passed;
-        }
-        if spline::rows::all_in_range(knots) {
-            return Verdict::Failed(turning_knot(knots));
-        }
-        return Verdict::Failed(spline::rows::bad_knot(knots));
-    }
-    if spline::rows::all_in_range(knots) {
-        Verdict::Passed
-    } else {
-        Verdict::Failed(spline::rows::bad_knot(knots))
-    }
-}
-
-pub fn verdict(b: Basis, y: f64, knots: &[f64], check: bool, limit: u16, precision: f64) -> Verdict
-    ensures { λ r. ⌜ r ≡ first (inverseUses b y (now (knots .entry)) check limit precision) ⌝ }
-{
-    let l = spline::rows::curve_length(b, knots.len());
-    let Verdict::Passed = l else {
-        return l;
-    };
-    let a = inverse_segment::rows::asked(y, limit, precision);
-    let Verdict::Passed = a else {
-        return a;
-    };
-    knots_verdict(knots, check)
 }

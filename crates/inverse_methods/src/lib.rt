@@ -251,7 +251,7 @@ pub fn spline_inverse_segment_by(
 ) -> Inverted
     ensures { λ r. ⌜ r ≡ inverseSegmentBy (ruleOf how) b y (now (cv .entry)) limit precision ⌝ }
 {
-    let v = inverse_segment::rows::segment_verdict(y, cv, limit, precision);
+    let v = inverse_segment::refusals::segment_verdict(y, cv, limit, precision);
     match v {
         Verdict::Failed(r) => Inverted::Refused(r),
         Verdict::Passed => {

@@ -18,14 +18,14 @@ use Rattle.doubles.proofs.Tests.{holds, fails, branch}
 use Rattle.doubles.proofs.Bounds.{within-number}
 use Rattle.doubles.proofs.Units.{nought-le}
 use Rattle.spline.specs.Segment.{segmentOf}
-use Rattle.spline.specs.Rows.{allInRange}
+use Rattle.checks.specs.Checks.{allInRange, precise}
 use Rattle.spline.proofs.Finite.{knots-within, segment-finite}
 use Rattle.inverse_segment.specs.declared.Inverted.{Inverted}
 use Rattle.inverse_segment.specs.declared.Inverted.the-variants.{Refused, OffCurve, At}
 use Rattle.inverse_segment.specs.Agreed.{Agreed}
 use Rattle.inverse_segment.specs.Round.{Rule}
 use Rattle.inverse_segment.specs.Segment.{encloses, Entry, outside, inside, enter, evaluationsOf, Outcome, off, placed, outcomeOf}
-use Rattle.inverse_segment.specs.Answer.{numberTold, countTold, answered, alone, inverted, precise, unlessRefused, inverseSegmentUses, inverseSegmentBy, segmentEvaluationsBy}
+use Rattle.inverse_segment.specs.Answer.{numberTold, countTold, answered, alone, inverted, unlessRefused, inverseSegmentUses, inverseSegmentBy, segmentEvaluationsBy}
 use Rattle.inverse_segment.proofs.Rules.{Lawful}
 use Rattle.inverse_segment.proofs.Enclosing.{Numbers, Sound}
 use Rattle.inverse_segment.proofs.Places.{Tells, missed, hit, enter-tells}

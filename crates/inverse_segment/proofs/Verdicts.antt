@@ -9,16 +9,16 @@ use borrow.Author.Tests.{ltb-false, eqb-false, not-false}
 use lib.ListN.{length, drop}
 use lib.Ieee.{Float, isNan}
 use Rattle.error.specs.declared.Refusal.{Refusal}
-use Rattle.error.specs.declared.Refusal.the-variants.{BadKnot}
 use Rattle.error.specs.declared.Verdict.{Verdict}
 use Rattle.error.specs.declared.Verdict.the-variants.{Passed, Failed}
 use Rattle.error.specs.Refusals.{Uses, first}
-use Rattle.error.proofs.First.{through, after, otherRows, stops-in, goes-past, stops, goes-on, clear}
+use Rattle.error.proofs.First.{stops-in, goes-past, stops, goes-on, clear}
 use Rattle.basis.specs.declared.Basis.{Basis}
 use Rattle.basis.specs.Basis.{stepOf, matrixOf}
 use Rattle.spline.specs.declared.Weights.{Weights}
 use Rattle.spline.specs.Segment.{weightsOf, hornerOf}
-use Rattle.spline.specs.Rows.{segmentLength, allInRange, firstBad}
+use Rattle.checks.specs.Checks.{segmentLength, allInRange, badKnot, precise, asked}
+use Rattle.checks.proofs.Verdicts.{askedRows, lastRows}
 use Rattle.inverse_segment.specs.declared.Inverted.{Inverted}
 use Rattle.inverse_segment.specs.declared.Inverted.the-variants.{Refused, OffCurve as OffSegment, At}
 use Rattle.inverse_segment.specs.Evaluations.{Evaluations}
@@ -29,15 +29,9 @@ use Rattle.inverse_segment.specs.Round.{Rule}
 use Rattle.inverse_segment.specs.Segment.{Outcome, off, placed, Entry, enter, outcomeOf}
 use Rattle.inverse_segment.specs.Shown.{tried}
 use Rattle.inverse_segment.proofs.Turns.{was-outside, was-inside}
-use Rattle.inverse_segment.specs.Answer.{answered, alone, inverted, precise, asked, inverseSegmentUses, inverseSegmentBy}
+use Rattle.inverse_segment.specs.Answer.{answered, alone, inverted, inverseSegmentUses, inverseSegmentBy}
 
--- ---- the rows up to those of the target, the precision and the limit, and those after them
-abbrev pub askedRows : List ℕ
-askedRows = through 7 otherRows
-
-abbrev pub lastRows : List ℕ
-lastRows = after 7 otherRows
-
+-- ---- the call's rows, in the order of its tests
 module _ (y : Float) (cv : List Float) (limit : ℕ) (ε : Float) {l : Verdict} (e : l ≡ first (segmentLength (length cv))) where
   abbrev uses : Uses
   uses = inverseSegmentUses y cv limit ε
@@ -49,11 +43,8 @@ module _ (y : Float) (cv : List Float) (limit : ℕ) (ε : Float) {l : Verdict} 
     pub by-asked : {r : Refusal} → a ≡ Failed r → a ≡ first uses
     by-asked d = goes-on uses e k (stops-in askedRows lastRows uses e-a d)
 
-    pub by-none : a ≡ Passed → allInRange cv ≡ true → Passed ≡ first uses
-    by-none p d = goes-on uses e k (goes-past askedRows lastRows uses e-a p (simp d))
-
-    pub by-knots : a ≡ Passed → allInRange cv ≡ false → {r : Refusal} → r ≡ BadKnot (firstBad cv) → Failed r ≡ first uses
-    by-knots p d q = goes-on uses e k (goes-past askedRows lastRows uses e-a p (simp d (ap Failed q)))
+    pub by-knots : a ≡ Passed → {w : Verdict} → w ≡ first (badKnot cv ∷ []) → w ≡ first uses
+    by-knots p h = goes-on uses e k (goes-past askedRows lastRows uses e-a p h)
 
 -- ---- what a passed verdict says
 pub record Passes (y : Float) (cv : List Float) (limit : ℕ) (ε : Float) : Type 0 where

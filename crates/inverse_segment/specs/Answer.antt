@@ -1,18 +1,15 @@
 -- The answer of an inversion, and the call that inverts one segment: what it refuses, and what it answers. Definitions only.
-use mathlib.Core.Bool.{Bool, false, not, _&&_}
 use mathlib.Core.List.{List, [], _∷_, _++_}
 use Prim.Native.Nat.{ℕ}
-use lib.Dec.{eqb}
 use lib.ListN.{length}
-use lib.Ieee.{Float, inf, binary64, ofBits, lt, isNan}
-use Rattle.error.specs.declared.Refusal.the-variants.{NotANumber, BadPrecision, NoRounds, OffCurve as OffCurveRow}
+use lib.Ieee.{Float, binary64, ofBits}
+use Rattle.error.specs.declared.Refusal.the-variants.{OffCurve as OffCurveRow}
 use Rattle.error.specs.declared.Verdict.{Verdict}
 use Rattle.error.specs.declared.Verdict.the-variants.{Passed, Failed}
 use Rattle.error.specs.Refusals.{numberOf, Uses, first}
 use Rattle.basis.specs.declared.Basis.{Basis}
 use Rattle.spline.specs.Segment.{segmentOf}
-use Rattle.spline.specs.Rows.{segmentLength, badKnot}
-use Rattle.doubles.specs.Numbers.{nought}
+use Rattle.checks.specs.Checks.{segmentLength, asked, badKnot}
 use Rattle.inverse_segment.specs.declared.Place.{Place}
 use Rattle.inverse_segment.specs.declared.Inverted.{Inverted}
 use Rattle.inverse_segment.specs.declared.Inverted.the-variants.{Refused, OffCurve, At}
@@ -51,15 +48,7 @@ abbrev pub inverted : Verdict → Inverted → Inverted
 inverted Passed a = a
 inverted (Failed r) a = Refused r
 
--- ---- when the rows of the refusal table apply
--- finite and above 0
-unfoldable pub precise : Float → Bool
-precise ε = lt nought ε && lt ε (inf false)
-
--- the target, the precision and the limit
-abbrev pub asked : Float → ℕ → Float → Uses
-asked y limit ε = (NotANumber, isNan y) ∷ (BadPrecision, not (precise ε)) ∷ (NoRounds, eqb limit 0) ∷ []
-
+-- ---- the rows of the refusal table that the call uses
 abbrev pub inverseSegmentUses : Float → List Float → ℕ → Float → Uses
 inverseSegmentUses y cv limit ε = segmentLength (length cv) ++ asked y limit ε ++ (badKnot cv ∷ [])
 

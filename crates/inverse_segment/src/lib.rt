@@ -9,8 +9,8 @@ use error::Refusal;
 use error::Verdict;
 use spline::Weights;
 
+pub mod refusals;
 pub mod round;
-pub mod rows;
 
 // Why an inversion stopped.
 pub enum Ground {
@@ -214,7 +214,7 @@ pub fn spline_inverse_segment_with(
 ) -> Inverted
     ensures { λ r. ⌜ r ≡ inverseSegmentOf b y (now (cv .entry)) limit precision ⌝ }
 {
-    let v = rows::segment_verdict(y, cv, limit, precision);
+    let v = refusals::segment_verdict(y, cv, limit, precision);
     match v {
         Verdict::Failed(r) => Inverted::Refused(r),
         Verdict::Passed => {

@@ -16,7 +16,7 @@ use Rattle.doubles.specs.Numbers.{nought}
 use Rattle.doubles.specs.Number.{Number}
 use Rattle.spline.specs.declared.Evaluated.{Evaluated}
 use Rattle.spline.specs.declared.Evaluated.the-variants.{Value}
-use Rattle.spline.specs.Rows.{curveLength}
+use Rattle.checks.specs.Checks.{curveLength}
 use Rattle.spline.specs.Curve.{segmentAt, localAt}
 use Rattle.spline.specs.Evaluation.{splineSegmentOf}
 use Rattle.spline.proofs.spline.Reads as spline

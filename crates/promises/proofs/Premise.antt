@@ -13,8 +13,8 @@ use Rattle.basis.specs.Basis.{frac, row, matrixOf}
 use Rattle.doubles.specs.Numbers.{nought, one, half}
 use Rattle.doubles.proofs.Tests.{each, each-at}
 use Rattle.spline.specs.Segment.{segmentOf}
-use Rattle.spline.specs.Rows.{inRange, allInRange, firstBad}
-use Rattle.inverse_segment.specs.Answer.{precise, defaultLimit, defaultPrecision}
+use Rattle.checks.specs.Checks.{inRange, allInRange, firstBad, precise}
+use Rattle.inverse_segment.specs.Answer.{defaultLimit, defaultPrecision}
 use Rattle.inverse_methods.specs.declared.Method.the-variants.{AsCrate}
 use Rattle.inverse.specs.declared.EndsBy.the-variants.{Knots}
 use Rattle.inverse.specs.Order.{ordered, turnsAt}

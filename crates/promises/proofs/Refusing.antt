@@ -34,7 +34,7 @@ use Rattle.inverse_segment.proofs.Verdicts.{answered-past, refused-by}
 use Rattle.inverse_segment.proofs.spline_inverse_segment_with.Reads as spline_inverse_segment_with
 use Rattle.inverse_segment.proofs.spline_inverse_segment.Reads as spline_inverse_segment
 use Rattle.inverse.specs.Inverse.{inverseUses, inverseOf}
-use Rattle.inverse.proofs.Refusals.{inverse-refused-only, inverse-refused-where}
+use Rattle.inverse.proofs.Refusing.{inverse-refused-only, inverse-refused-where}
 use Rattle.inverse_methods.specs.Method.{ruleOf}
 use Rattle.inverse_methods.proofs.spline_inverse_segment_by.Reads as spline_inverse_segment_by
 use Rattle.inverse.proofs.spline_inverse_by.Reads as spline_inverse_by

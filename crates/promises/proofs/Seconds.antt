@@ -28,7 +28,7 @@ use Rattle.inverse.specs.declared.EndsBy.the-variants.{Knots}
 use Rattle.inverse.specs.Inverse.{inverseUses, inverseBy}
 use Rattle.inverse.proofs.Facts.{AtPlace, Proper}
 use Rattle.inverse.proofs.Promises.{inverse-proper}
-use Rattle.inverse.proofs.Refusals.{inverse-refused-only, inverse-refused-where}
+use Rattle.inverse.proofs.Refusing.{inverse-refused-only, inverse-refused-where}
 use Rattle.convert.specs.declared.Converted.{Converted}
 use Rattle.convert.specs.declared.Converted.the-variants as C
 use Rattle.convert.specs.Conversion.{Conversion, gives, refuses, convertUses, convertedOf}

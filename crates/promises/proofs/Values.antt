@@ -18,7 +18,7 @@ use Rattle.basis.specs.declared.Basis.{Basis}
 use Rattle.basis.specs.Basis.{stepOf, segmentsOf}
 use Rattle.doubles.proofs.Tests.{holds}
 use Rattle.spline.specs.declared.Evaluated.the-variants as E
-use Rattle.spline.specs.Rows.{allInRange}
+use Rattle.checks.specs.Checks.{allInRange}
 use Rattle.spline.proofs.Finite.{Four, Small, Finite, joined, row-finite, knots-within}
 use Rattle.spline.proofs.Parts.{inside}
 use Rattle.spline.proofs.Values.{spline-finite, spline-segment-finite}

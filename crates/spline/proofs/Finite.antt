@@ -15,7 +15,7 @@ use Rattle.doubles.specs.Numbers.{nought, one}
 use Rattle.doubles.proofs.Bounds.{Size, Within, times, plus, between-within, unit-within}
 use Rattle.spline.specs.declared.Weights.{Weights}
 use Rattle.spline.specs.Segment.{rowSum, rowSteps, hornerOf, hornerSteps, weightsOf, segmentValue, segmentSteps}
-use Rattle.spline.specs.Rows.{bound, inRange, allInRange}
+use Rattle.checks.specs.Checks.{bound, inRange, allInRange}
 
 -- ---- the knots: four doubles within 2 ^ a
 pub record Four (a : ℕ) (l : List Float) : Type 0 where

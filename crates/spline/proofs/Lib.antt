@@ -1,4 +1,3 @@
-pub mod Scan
 pub mod Parts
 pub mod Verdicts
 pub mod Finite

@@ -1,15 +1,13 @@
 -- The verdicts of evaluation, by the tests as the code makes them. Assumes nothing.
-use mathlib.Core.Path.{_≡_, sym, ap, _∙_}
+use mathlib.Core.Path.{_≡_, sym, _∙_}
 use mathlib.Core.Bool.{true, false, _&&_}
-use mathlib.Core.List.{List}
-use Prim.Native.Nat.{ℕ, _≤_}
+use mathlib.Core.List.{List, [], _∷_}
+use Prim.Native.Nat.{_≤_}
 use borrow.Author.Tests.{ltb-false, not-false}
-use native.Mathlib.Nat.{le-trans}
-use lib.Dec.{lit≤}
 use lib.ListN.{length}
 use lib.Ieee.{Float, le, ne, isNan}
 use Rattle.error.specs.declared.Refusal.{Refusal}
-use Rattle.error.specs.declared.Refusal.the-variants.{NotANumber, BadKnot}
+use Rattle.error.specs.declared.Refusal.the-variants.{NotANumber}
 use Rattle.error.specs.declared.Verdict.{Verdict}
 use Rattle.error.specs.declared.Verdict.the-variants.{Passed, Failed}
 use Rattle.error.specs.Refusals.{first}
@@ -17,7 +15,7 @@ use Rattle.error.proofs.First.{stops, goes-on, clear}
 use Rattle.basis.specs.declared.Basis.{Basis}
 use Rattle.doubles.specs.Numbers.{nought, one}
 use Rattle.doubles.proofs.Order.{ne-itself}
-use Rattle.spline.specs.Rows.{allInRange, firstBad, curveLength, segmentLength}
+use Rattle.checks.specs.Checks.{allInRange, badKnot, curveLength, segmentLength}
 use Rattle.spline.specs.Evaluation.{splineUses, splineSegmentUses}
 
 -- ---- a curve
@@ -28,8 +26,8 @@ module _ (b : Basis) (x : Float) (ks : List Float) {l : Verdict} (e : l ≡ firs
   pub curve-number : l ≡ Passed → ne x x ≡ true → Failed NotANumber ≡ first (splineUses b x ks)
   curve-number k n = goes-on (splineUses b x ks) e k (simp (sym (ne-itself x) ∙ n))
 
-  pub curve-knot : l ≡ Passed → ne x x ≡ false → allInRange ks ≡ false → {r : Refusal} → r ≡ BadKnot (firstBad ks) → Failed r ≡ first (splineUses b x ks)
-  curve-knot k n a q = goes-on (splineUses b x ks) e k (simp (sym (ne-itself x) ∙ n, a) (ap Failed q))
+  pub curve-knots : l ≡ Passed → ne x x ≡ false → {w : Verdict} → w ≡ first (badKnot ks ∷ []) → w ≡ first (splineUses b x ks)
+  curve-knots k n h = goes-on (splineUses b x ks) e k (simp (sym (ne-itself x) ∙ n) h)
 
   pub curve-passes : l ≡ Passed → ne x x ≡ false → allInRange ks ≡ true → Passed ≡ first (splineUses b x ks)
   curve-passes k n a = goes-on (splineUses b x ks) e k (simp (sym (ne-itself x) ∙ n, a))
@@ -39,33 +37,13 @@ module _ (x : Float) (cv : List Float) {l : Verdict} (e : l ≡ first (segmentLe
   pub segment-stops : {r : Refusal} → l ≡ Failed r → l ≡ first (splineSegmentUses x cv)
   segment-stops k = stops (splineSegmentUses x cv) e k
 
-  pub segment-below : l ≡ Passed → le nought x ≡ false → Failed NotANumber ≡ first (splineSegmentUses x cv)
-  segment-below k n = goes-on (splineSegmentUses x cv) e k (simp n)
+  pub segment-outside : l ≡ Passed → (le nought x && le x one) ≡ false → Failed NotANumber ≡ first (splineSegmentUses x cv)
+  segment-outside k n = goes-on (splineSegmentUses x cv) e k (simp n)
 
-  pub segment-above : l ≡ Passed → le nought x ≡ true → le x one ≡ false → Failed NotANumber ≡ first (splineSegmentUses x cv)
-  segment-above k n m = goes-on (splineSegmentUses x cv) e k (simp (n, m))
-
-  pub segment-knot : l ≡ Passed → le nought x ≡ true → le x one ≡ true → allInRange cv ≡ false → {r : Refusal} → r ≡ BadKnot (firstBad cv) → Failed r ≡ first (splineSegmentUses x cv)
-  segment-knot k n m a q = goes-on (splineSegmentUses x cv) e k (simp (n, m, a) (ap Failed q))
-
-  pub segment-passes : l ≡ Passed → le nought x ≡ true → le x one ≡ true → allInRange cv ≡ true → Passed ≡ first (splineSegmentUses x cv)
-  segment-passes k n m a = goes-on (splineSegmentUses x cv) e k (simp (n, m, a))
+  pub segment-knots : l ≡ Passed → (le nought x && le x one) ≡ true → {w : Verdict} → w ≡ first (badKnot cv ∷ []) → w ≡ first (splineSegmentUses x cv)
+  segment-knots k n h = goes-on (splineSegmentUses x cv) e k (simp n h)
 
 -- ---- what a passed verdict says
-pub record Length (n : ℕ) : Type 0 where
-  pub least : 4 ≤ n
-  pub most : n ≤ 4096
-
-pub length-passed : (b : Basis) (n : ℕ) → first (curveLength b n) ≡ Passed → Length n
-length-passed b n e =
-    let p = clear (curveLength b n) e in
-    record { least = ltb-false n 4 (p 1); most = ltb-false 4096 n (p 3) }
-
-pub segment-length-passed : (n : ℕ) → first (segmentLength n) ≡ Passed → n ≤ 4096
-segment-length-passed n e =
-    let p = clear (segmentLength n) e in
-    le-trans (ltb-false 4 n (p 2)) (lit≤ tt)
-
 pub record Sound (b : Basis) (x : Float) (ks : List Float) : Type 0 where
   pub many : 4 ≤ length ks
   pub few : length ks ≤ 4096

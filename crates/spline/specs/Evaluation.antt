@@ -14,7 +14,7 @@ use Rattle.doubles.specs.Numbers.{nought, one}
 use Rattle.spline.specs.declared.Evaluated.{Evaluated}
 use Rattle.spline.specs.declared.Evaluated.the-variants.{Value, Refused}
 use Rattle.spline.specs.Segment.{segmentValue}
-use Rattle.spline.specs.Rows.{curveLength, segmentLength, badKnot}
+use Rattle.checks.specs.Checks.{curveLength, segmentLength, badKnot}
 use Rattle.spline.specs.Curve.{curveValue}
 
 -- the number that an answer tells: the refusal's; 0 for a value

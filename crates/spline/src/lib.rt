@@ -6,7 +6,7 @@ use error::Refusal;
 use error::Verdict;
 
 pub mod curve;
-pub mod rows;
+pub mod refusals;
 pub mod segment;
 
 pub enum Evaluated {
@@ -26,7 +26,7 @@ pub struct Weights {
 pub fn spline(b: Basis, x: f64, knots: &[f64]) -> Evaluated
     ensures { λ r. ⌜ r ≡ splineOf b x (now (knots .entry)) ⌝ }
 {
-    let v = rows::curve_verdict(b, x, knots);
+    let v = refusals::curve_verdict(b, x, knots);
     match v {
         Verdict::Failed(r) => Evaluated::Refused(r),
         Verdict::Passed => Evaluated::Value(curve::curve_value(b, x, knots)),
@@ -37,7 +37,7 @@ pub fn spline(b: Basis, x: f64, knots: &[f64]) -> Evaluated
 pub fn spline_segment(b: Basis, x: f64, cv: &[f64]) -> Evaluated
     ensures { λ r. ⌜ r ≡ splineSegmentOf b x (now (cv .entry)) ⌝ }
 {
-    let v = rows::segment_verdict(x, cv);
+    let v = refusals::segment_verdict(x, cv);
     match v {
         Verdict::Failed(r) => Evaluated::Refused(r),
         Verdict::Passed => Evaluated::Value(segment::segment_value(b, cv, x)),

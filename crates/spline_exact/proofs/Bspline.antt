@@ -13,7 +13,7 @@ use Rattle.doubles.specs.Numbers.{nought, one}
 use Rattle.doubles.specs.Number.{signed, Number}
 use Rattle.spline.specs.declared.Evaluated.the-variants.{Value}
 use Rattle.spline.specs.Segment.{segmentValue}
-use Rattle.spline.specs.Rows.{inRange, allInRange, firstBad}
+use Rattle.checks.specs.Checks.{inRange, allInRange, firstBad}
 use Rattle.spline.specs.Evaluation.{splineSegmentOf}
 use Rattle.spline_exact.specs.Cubic.{wholeSum, cubic}
 use Rattle.spline_exact.specs.Exact.{parts}

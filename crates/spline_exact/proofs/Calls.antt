@@ -23,11 +23,12 @@ use Rattle.doubles.proofs.Bounds.{within-between}
 use Rattle.doubles.proofs.Exact.{forget, of-number, exactly-within, number-above, whole-exactly, share-exactly}
 use Rattle.spline.specs.declared.Evaluated.the-variants.{Value}
 use Rattle.spline.specs.Segment.{segmentValue}
-use Rattle.spline.specs.Rows.{bound, inRange, allInRange, curveLength}
+use Rattle.checks.specs.Checks.{bound, inRange, allInRange, curveLength}
 use Rattle.spline.specs.Curve.{segmentAt, localAt, curveValue}
 use Rattle.spline.specs.Evaluation.{splineUses, splineOf, splineSegmentUses, splineSegmentOf, evaluated}
 use Rattle.spline.proofs.Parts.{inside}
-use Rattle.spline.proofs.Verdicts.{length-passed, curve-passes}
+use Rattle.checks.proofs.Verdicts.{length-passed}
+use Rattle.spline.proofs.Verdicts.{curve-passes}
 use Rattle.spline_exact.specs.Cubic.{at}
 use Rattle.spline_exact.specs.Exact.{isExact, exactOf, parts, WholeKnots, Answers}
 use Rattle.spline_exact.proofs.Segment.{whole-knots-exact}

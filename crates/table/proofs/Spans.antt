@@ -25,7 +25,7 @@ use Rattle.inverse_segment.specs.Answer.{inverted}
 use Rattle.inverse_segment.specs.declared.Inverted.{Inverted}
 use Rattle.inverse_methods.specs.declared.Method.{Method}
 use Rattle.spline.specs.Evaluation.{evaluated, splineUses, splineOf}
-use Rattle.spline.specs.Rows.{curveLength}
+use Rattle.checks.specs.Checks.{curveLength}
 use Rattle.spline.specs.declared.Evaluated.the-variants as E
 use Rattle.table.specs.declared.Table.{Table}
 use Rattle.table.specs.declared.Timed.the-variants as T

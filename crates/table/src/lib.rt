@@ -10,7 +10,7 @@ ghost use Rattle.error.specs.Refusals.{first};
 ghost use Rattle.inverse.specs.declared.EndsBy.the-variants.{Knots};
 ghost use Rattle.inverse_segment.specs.Answer.{defaultLimit, defaultPrecision};
 ghost use Rattle.inverse_methods.specs.declared.Method.the-variants.{AsCrate};
-ghost use Rattle.spline.specs.Rows.{curveLength};
+ghost use Rattle.checks.specs.Checks.{curveLength};
 ghost use Rattle.table.specs.Second.{goodSpan, secondsOf, secondsIn};
 ghost use Rattle.table.specs.Calls.{timedOf, tableSplineOf, tableInverseBy, tableConvertedOf, handedOf};
 use basis::Basis;
@@ -71,7 +71,7 @@ pub fn seconds_of(span: u32, parameter: f64) -> Seconds
 fn without_span(b: Basis, n: usize) -> Refusal
     ensures { λ r. ⌜ Failed r ≡ first ((BadSpan, true) ∷ curveLength b n) ⌝ }
 {
-    let l = spline::rows::curve_length(b, n);
+    let l = checks::curve_length(b, n);
     match l {
         Verdict::Failed(r) => r,
         Verdict::Passed => Refusal::BadSpan,

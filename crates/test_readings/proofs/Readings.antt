@@ -8,10 +8,10 @@ use Rattle.basis.specs.Basis.{matrixOf}
 use Rattle.doubles.specs.Numbers.{magnitudeOf, clamp}
 use Rattle.doubles.specs.Lerp.{lerpOf}
 use Rattle.doubles.specs.Whole.{wholeUpTo}
-use Rattle.spline.specs.Rows.{inRange, allInRange, firstBad}
+use Rattle.checks.specs.Checks.{inRange, allInRange, firstBad, precise}
 use Rattle.spline.specs.Curve.{curveValue}
 use Rattle.spline.specs.Evaluation.{splineOf}
-use Rattle.inverse_segment.specs.Answer.{precise, inverseSegmentBy}
+use Rattle.inverse_segment.specs.Answer.{inverseSegmentBy}
 use Rattle.inverse_segment.specs.Round.{narrow, halving, toward, weighed, chord, kept, fraction, moved, settled, probed, turn}
 use Rattle.inverse_segment.specs.Rounds.{rounds}
 use Rattle.inverse_segment.specs.Segment.{entered, enter}

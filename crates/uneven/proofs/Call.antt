@@ -18,7 +18,7 @@ use Rattle.basis.specs.Basis.{regular, segmentsOf}
 use Rattle.doubles.proofs.Bounds.{InOne}
 use Rattle.spline.specs.declared.Evaluated.{Evaluated}
 use Rattle.spline.specs.declared.Evaluated.the-variants.{Value, Refused as NoValue}
-use Rattle.spline.specs.Rows.{allInRange}
+use Rattle.checks.specs.Checks.{allInRange}
 use Rattle.spline.specs.Curve.{curveValue}
 use Rattle.spline.specs.Evaluation.{evaluated, splineUses, splineOf}
 use Rattle.inverse_segment.specs.declared.Place.{Place}
@@ -31,7 +31,7 @@ use Rattle.inverse.specs.declared.EndsBy.the-variants.{Knots}
 use Rattle.inverse.specs.Inverse.{inverseUses, inverseOf, inverseEvaluations}
 use Rattle.inverse.proofs.Facts.{AtPlace, Proper}
 use Rattle.inverse.proofs.Promises.{inverse-count, inverse-bounded, few-bound, many-bound, inverse-proper}
-use Rattle.inverse.proofs.Refusals.{inverse-refused-only, inverse-refused-where}
+use Rattle.inverse.proofs.Refusing.{inverse-refused-only, inverse-refused-where}
 use Rattle.uneven.specs.declared.Sounded.{Sounded}
 use Rattle.uneven.specs.declared.Sounded.the-variants.{Refused, OffCurve, At}
 use Rattle.uneven.specs.declared.Named.the-variants.{Times, Depths}

@@ -1,7 +1,7 @@
 -- The answers, by the tests as the code makes them. The count has room for one more, since the inversion's is bounded. Assumes nothing.
 use mathlib.Core.Path.{_≡_, sym, ap, _∙_}
 use mathlib.Core.Bool.{Bool, true, false, cond}
-use mathlib.Core.List.{List}
+use mathlib.Core.List.{List, [], _∷_}
 use Prim.Native.Nat.{ℕ, _+_, _-_, _*_, _/_, _≤_, _<_}
 use native.Mathlib.Omega.{arith}
 use borrow.Author.Tests.{eq-eqb, ne-eqb}
@@ -9,14 +9,14 @@ use lib.Dec.{eqb, leb}
 use lib.ListN.{length}
 use lib.Ieee.{Float}
 use Rattle.error.specs.declared.Refusal.{Refusal}
-use Rattle.error.specs.declared.Refusal.the-variants.{BadKnot, UnequalSegments}
+use Rattle.error.specs.declared.Refusal.the-variants.{UnequalSegments}
 use Rattle.error.specs.declared.Verdict.{Verdict}
 use Rattle.error.specs.declared.Verdict.the-variants.{Passed, Failed}
-use Rattle.error.specs.Refusals.{first}
-use Rattle.error.proofs.First.{stops, goes-on}
+use Rattle.error.specs.Refusals.{firstOf, first}
+use Rattle.error.proofs.First.{through, after, otherRows, stops-in, goes-past, stops, goes-on}
 use Rattle.basis.specs.declared.Basis.{Basis}
 use Rattle.basis.specs.Basis.{stepOf, segmentsOf}
-use Rattle.spline.specs.Rows.{curveLength, allInRange, firstBad}
+use Rattle.checks.specs.Checks.{curveLength, badKnot}
 use Rattle.spline.specs.Evaluation.{splineOf}
 use Rattle.inverse_segment.specs.declared.Inverted.{Inverted}
 use Rattle.inverse_segment.specs.Answer.{countTold}
@@ -29,23 +29,34 @@ use Rattle.uneven.specs.declared.Sounded.{Sounded}
 use Rattle.uneven.specs.Uneven.{depthUses, sounded, depthOf}
 
 -- ---- the depths' rows
+-- those past the lengths: up to that of the knots, and behind it
+abbrev knotRows : List ℕ
+knotRows = through 4 otherRows
+
+abbrev lastRows : List ℕ
+lastRows = after 4 otherRows
+
 module _ (tb : Basis) (n : ℕ) (db : Basis) (ds : List Float) {l : Verdict} (e : l ≡ first (curveLength db (length ds))) where
   pub depths-stop : {r : Refusal} → l ≡ Failed r → l ≡ first (depthUses tb n db ds)
   depths-stop k = stops (depthUses tb n db ds) e k
 
-  pub depths-knot : l ≡ Passed → allInRange ds ≡ false → {r : Refusal} → r ≡ BadKnot (firstBad ds) → Failed r ≡ first (depthUses tb n db ds)
-  depths-knot k a q = goes-on (depthUses tb n db ds) e k (simp a (ap Failed q))
+  module _ (k : l ≡ Passed) {w : Verdict} (f : w ≡ first (badKnot ds ∷ [])) where
+    pub depths-knot : {r : Refusal} → w ≡ Failed r → w ≡ first (depthUses tb n db ds)
+    depths-knot d = goes-on (depthUses tb n db ds) e k (stops-in knotRows lastRows (depthUses tb n db ds) f d)
 
-  module _ (k : l ≡ Passed) (a : allInRange ds ≡ true) {x y : ℕ} (p : x ≡ segmentsOf tb n) (q : y ≡ segmentsOf db (length ds)) where
-    pub depths-pass : x ≡ y → Passed ≡ first (depthUses tb n db ds)
-    depths-pass s =
-        let t : eqb (segmentsOf tb n) (segmentsOf db (length ds)) ≡ true = eq-eqb _ _ (sym p ∙ s ∙ q) in
-        goes-on (depthUses tb n db ds) e k (simp (a, t))
+    module _ (d : w ≡ Passed) {x y : ℕ} (p : x ≡ segmentsOf tb n) (q : y ≡ segmentsOf db (length ds)) where
+      behind : {v : Verdict} → v ≡ firstOf lastRows (depthUses tb n db ds) → v ≡ first (depthUses tb n db ds)
+      behind h = goes-on (depthUses tb n db ds) e k (goes-past knotRows lastRows (depthUses tb n db ds) f d h)
 
-    pub depths-differ : (x ≡ y → ⊥) → Failed UnequalSegments ≡ first (depthUses tb n db ds)
-    depths-differ s =
-        let t : eqb (segmentsOf tb n) (segmentsOf db (length ds)) ≡ false = ne-eqb _ _ (λ h. s (p ∙ h ∙ sym q)) in
-        goes-on (depthUses tb n db ds) e k (simp (a, t))
+      pub depths-pass : x ≡ y → Passed ≡ first (depthUses tb n db ds)
+      depths-pass s =
+          let t : eqb (segmentsOf tb n) (segmentsOf db (length ds)) ≡ true = eq-eqb _ _ (sym p ∙ s ∙ q) in
+          behind (simp t)
+
+      pub depths-differ : (x ≡ y → ⊥) → Failed UnequalSegments ≡ first (depthUses tb n db ds)
+      depths-differ s =
+          let t : eqb (segmentsOf tb n) (segmentsOf db (length ds)) ≡ false = ne-eqb _ _ (λ h. s (p ∙ h ∙ sym q)) in
+          behind (simp t)
 
 -- ---- the counts
 pub short-count : (b : Basis) (n : ℕ) → n < 4 → segmentsOf b 4 ≡ segmentsOf b n

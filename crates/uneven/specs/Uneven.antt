@@ -14,7 +14,7 @@ use Rattle.basis.specs.declared.Basis.{Basis}
 use Rattle.basis.specs.Basis.{segmentsOf}
 use Rattle.spline.specs.declared.Evaluated.{Evaluated}
 use Rattle.spline.specs.declared.Evaluated.the-variants.{Value, Refused as NoValue}
-use Rattle.spline.specs.Rows.{curveLength, badKnot}
+use Rattle.checks.specs.Checks.{curveLength, badKnot}
 use Rattle.spline.specs.Evaluation.{splineOf}
 use Rattle.inverse_segment.specs.declared.Place.{Place}
 use Rattle.inverse_segment.specs.declared.Inverted.{Inverted}

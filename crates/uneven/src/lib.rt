@@ -2,17 +2,17 @@
 ghost use mathlib.Core.Path.{_≡_};
 ghost use Prim.Native.Nat.{_<_};
 ghost use lib.ListN.{length};
-ghost use Rattle.error.specs.Refusals.{first};
-ghost use Rattle.basis.specs.Basis.{segmentsOf};
 ghost use Rattle.spline.specs.Evaluation.{splineOf};
 ghost use Rattle.inverse_segment.specs.Answer.{countTold};
-ghost use Rattle.uneven.specs.Uneven.{depthUses, depthAt, suited, unsuited, depthOf};
+ghost use Rattle.uneven.specs.Uneven.{depthAt, suited, unsuited, depthOf};
 use basis::Basis;
 use error::Refusal;
 use error::Verdict;
 use inverse_segment::Inverted;
 use inverse_segment::Place;
 use spline::Evaluated;
+
+pub mod refusals;
 
 // The table that a refusal is of.
 pub enum Named {
@@ -32,33 +32,6 @@ pub enum Sounded {
     Refused(Named, Refusal),
     OffCurve(usize),
     At(Depth),
-}
-
-// So many segments as n knots make; as 4 do where there are fewer.
-fn segments_of(b: Basis, n: usize) -> usize
-    ensures { λ r. ⌜ r ≡ segmentsOf b n ⌝ }
-{
-    if n < 4 {
-        return basis::segments(b, 4);
-    }
-    basis::segments(b, n)
-}
-
-// The rows of the depths, for n times.
-fn depths_verdict(tb: Basis, n: usize, db: Basis, depths: &[f64]) -> Verdict
-    ensures { λ r. ⌜ r ≡ first (depthUses tb n db (now (depths .entry))) ⌝ }
-{
-    let l = spline::rows::curve_length(db, depths.len());
-    let Verdict::Passed = l else {
-        return l;
-    };
-    if spline::rows::all_in_range(depths) {
-        if segments_of(tb, n) == segments_of(db, depths.len()) {
-            return Verdict::Passed;
-        }
-        return Verdict::Failed(Refusal::UnequalSegments);
-    }
-    Verdict::Failed(spline::rows::bad_knot(depths))
 }
 
 fn depth_told(p: Place, e: Evaluated) -> Sounded
@@ -111,7 +84,7 @@ pub fn depth_at(
     ensures { λ r. ⌜ r ≡ depthOf tb (now (times .entry)) db (now (depths .entry)) y limit precision ⌝ }
 {
     let a = inverse::spline_inverse_with(tb, y, times, true, limit, precision);
-    let v = depths_verdict(tb, times.len(), db, depths);
+    let v = refusals::depths_verdict(tb, times.len(), db, depths);
     match v {
         Verdict::Failed(r) => unsuited(a, r),
         Verdict::Passed => suited(a, db, depths),

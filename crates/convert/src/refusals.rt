@@ -1,0 +1,53 @@
+// The refusals of conversion, in the table's order, all decided before the first write.
+ghost use mathlib.Core.Path.{_≡_};
+ghost use Prim.Native.Nat.{_≤_};
+ghost use lib.ListN.{length};
+ghost use Rattle.error.specs.Refusals.{first};
+ghost use Rattle.convert.specs.Output.{outputLength};
+ghost use Rattle.convert.specs.Conversion.{outputUses, convertSegmentUses, convertUses};
+use basis::Basis;
+use error::Refusal;
+use error::Verdict;
+
+// Where the output has need of so many places, and so many are lent.
+pub fn output_verdict(to: Basis, knots: &[f64], need: usize, room: usize) -> Verdict
+    requires { ⌜ length (now knots) ≤ 4096 ⌝ }
+    ensures { λ r. ⌜ r ≡ first (outputUses to (now (knots .entry)) need room) ⌝ }
+{
+    if basis::is_linear(to) {
+        return Verdict::Failed(Refusal::LinearOutput);
+    }
+    if room < need {
+        return Verdict::Failed(Refusal::ShortBuffer);
+    }
+    checks::knots(knots)
+}
+
+pub fn segment_verdict(to: Basis, cv: &[f64], room: usize) -> Verdict
+    ensures { λ r. ⌜ r ≡ first (convertSegmentUses to (now (cv .entry)) room) ⌝ }
+{
+    let l = checks::segment_length(cv.len());
+    let Verdict::Passed = l else {
+        return l;
+    };
+    output_verdict(to, cv, 4, room)
+}
+
+// The places that n knots fill once they are converted.
+pub fn output_length(from: Basis, to: Basis, n: usize) -> usize
+    requires { ⌜ (4 ≤ n) × (n ≤ 4096) ⌝ }
+    ensures { λ r. ⌜ r ≡ outputLength from to n ⌝ }
+{
+    4 + (n - 4) / basis::step(from) * basis::step(to)
+}
+
+pub fn spline_verdict(from: Basis, to: Basis, knots: &[f64], room: usize) -> Verdict
+    ensures { λ r. ⌜ r ≡ first (convertUses from to (now (knots .entry)) room) ⌝ }
+{
+    let n = knots.len();
+    let l = checks::curve_length(from, n);
+    let Verdict::Passed = l else {
+        return l;
+    };
+    output_verdict(to, knots, output_length(from, to, n), room)
+}

@@ -1,0 +1,27 @@
+-- Fewer than 4 knots count as 4 do. Assumes nothing.
+use mathlib.Core.Path.{_∙_}
+use Rattle.uneven.proofs.Cases.{short-count}
+use borrow.Author.Needs.{needs}
+use Rattle.uneven.proofs.refusals.segments_of.Statement.{statement}
+use Rattle.uneven.proofs.refusals.segments_of.Tie as tie
+
+segments-requires : tie.Need-segments-requires
+segments-requires c κs = search needs
+
+returns : tie.Need-returns
+returns c = c .segments .ensures ∙ short-count (c .before .before .args .b) (c .before .before .args .n) (c .before .if1 .taken)
+
+segments-requires-2 : tie.Need-segments-requires-2
+segments-requires-2 c κs = search needs
+
+returns-2 : tie.Need-returns-2
+returns-2 c = search needs
+
+pub segments-of-spec : {M : Type 1} → statement M
+segments-of-spec =
+    tie.close
+    (tie.spec
+    segments-requires
+    returns
+    segments-requires-2
+    returns-2)
