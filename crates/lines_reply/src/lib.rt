@@ -79,7 +79,7 @@ fn put_places(out: &mut [u8], at: usize, w: Where) -> usize
     }
 }
 
-fn put_refused(out: &mut [u8], at: usize, r: Refusal) -> usize
+pub fn put_refused(out: &mut [u8], at: usize, r: Refusal) -> usize
     requires { ⌜ at + 18 ≤ length (now out) ⌝ }
     ensures { λ n. ⌜ Wrote (now (out .entry)) at (refusedText r) (now (out .exit)) n × (n ≤ at + 18) ⌝ }
 {
@@ -145,7 +145,7 @@ fn put_place(out: &mut [u8], at: usize, x: f64, g: Ground, n: u32, s: Seconds) -
     text::put_byte(out, h, b'\n')
 }
 
-fn put_basis(out: &mut [u8], at: usize, b: Basis) -> usize
+pub fn put_basis(out: &mut [u8], at: usize, b: Basis) -> usize
     requires { ⌜ at + 10 ≤ length (now out) ⌝ }
     ensures { λ r. ⌜ Wrote (now (out .entry)) at (nameOf b) (now (out .exit)) r × (r ≤ at + 10) ⌝ }
 {

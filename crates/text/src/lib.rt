@@ -137,7 +137,7 @@ fn glyph(d: u64) -> u8
 }
 
 // The k lowest hexadecimal digits of n.
-fn put_hex(out: &mut [u8], at: usize, n: u64, k: usize) -> usize
+pub fn put_hex(out: &mut [u8], at: usize, n: u64, k: usize) -> usize
     requires { ⌜ at + k ≤ length (now out) ⌝ }
     ensures { λ r. ⌜ Wrote (now (out .entry)) at (hexText k n) (now (out .exit)) r × (r ≡ at + k) ⌝ }
 {
