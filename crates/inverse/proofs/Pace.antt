@@ -1,5 +1,5 @@
--- A lawful rule kept to the pace, on a segment and on a curve: the limit is never told as spent where it is above N, and the count is bounded by N as by a
--- limit. Assumes nothing.
+-- A lawful rule kept to the pace, on a curve: where N rounds are enough for the precision and the limit is above N, it is never told as spent; and the count is
+-- bounded by N as by a limit. Assumes nothing.
 use mathlib.Core.Path.{_≡_, refl, sym, ap, _∙_, subst}
 use mathlib.Core.Bool.{Bool, true, false, not, cond}
 use Prim.Native.Nat.{ℕ, _+_, _-_, _*_, _^_, _≤_, _<_}
@@ -7,12 +7,10 @@ use native.Mathlib.Nat.{le-trans, lt-of-le-of-lt}
 use native.Mathlib.Omega.{arith}
 use lib.Dec.{T, T-not, leb, lit<}
 use lib.ListN.{length}
-use lib.Ieee.{Float, binary64, low, lt}
-use lib.Ieee.Exact.{HasValue}
+use lib.Ieee.{Float}
 use Rattle.doubles.specs.Numbers.{nought, one}
 use Rattle.doubles.proofs.Tests.{branch}
 use Rattle.doubles.proofs.Units.{nought-in, one-in}
-use Rattle.inverse_segment.specs.declared.Place.{Place}
 use Rattle.inverse_segment.specs.declared.Inverted.{Inverted}
 use Rattle.inverse_segment.specs.declared.Inverted.the-variants.{OffCurve, At}
 use Rattle.inverse_segment.specs.Evaluations.{Evaluations}
@@ -28,15 +26,13 @@ use Rattle.inverse_search.proofs.Found.{Nothing, Straight, Tried, shut, hit, Re
 use Rattle.inverse.specs.declared.Ends.{Ends}
 use Rattle.inverse.specs.EndRule.{atLow, atHigh}
 use Rattle.inverse.specs.Curve.{parameterOf, ended, located}
-use Rattle.inverse.proofs.Facts.{AtPlace}
 use Rattle.inverse_segment.specs.Round.{Rule}
 use Rattle.inverse_segment.proofs.Rules.{Lawful}
 use Rattle.inverse_methods.specs.Steady.{paced}
-use Rattle.inverse_methods.proofs.Ending.{isSpent}
+use Rattle.inverse_methods.proofs.Ending.{Enough}
 use Rattle.inverse_methods.proofs.Timely as S
 
--- with a precision of h units above 2^(5 - N) + 7·2^-53
-module _ (R : Rule) (lawful : Lawful R) (y ε : Float) (limit N K h : ℕ) (e-N : N + K ≡ low binary64 + 5) (v : HasValue ε false h (2 ^ low binary64)) (small : 2 ^ K + 7 * 2 ^ 1021 < h) where
+module _ (R : Rule) (lawful : Lawful R) (y ε : Float) (limit N : ℕ) (E : Enough ε N) where
   abbrev InTime : ℕ → ℕ → Placed → Type 0
   InTime s base p = S.InTime limit N base p
 
@@ -44,7 +40,7 @@ module _ (R : Rule) (lawful : Lawful R) (y ε : Float) (limit N K h : ℕ) (e-N 
     trial-in-time : (s : ℕ) (ev : Evaluations) → s < k → Tried g y k InTime s ev (trial (paced R) g y ε limit s ev)
     unfolding enter
     trial-in-time s ev l =
-        let q = S.entered-in-time R lawful y ε limit N K h e-N v small (g s) s (both s ev) (g s nought) (g s one) in
+        let q = S.entered-in-time R lawful y ε limit N E (g s) s (both s ev) (g s nought) (g s one) in
         branch (Tried g y k InTime s ev) (encloses (g s nought) (g s one) y) (λ h. hit h (omega (arith, q .0), q .1)) (λ h. shut h)
 
     module _ (some : 0 < k) (fits : k ≤ 4093) (numbers : (s : ℕ) → s < k → Numbers (g s) y) (e : Ends) (ev : Evaluations) where
@@ -57,7 +53,7 @@ module _ (R : Rule) (lawful : Lawful R) (y ε : Float) (limit N K h : ℕ) (e-N 
 
       -- what an answer owes: never spent, and a count bounded as if the limit were N
       abbrev pub Timely : Inverted → Type 0
-      Timely r = AtPlace (λ p. N < limit → T (not (isSpent (p .ground)))) r × (countTold r ≤ length ev + boundOf k N)
+      Timely r = (N < limit → S.NeverSpent r) × (countTold r ≤ length ev + boundOf k N)
 
       room : (n : ℕ) → n ≤ length ev + probes (leb k 12) k → n + N ≤ length ev + boundOf k N
       room n = go (leb k 12)
@@ -68,7 +64,7 @@ module _ (R : Rule) (lawful : Lawful R) (y ε : Float) (limit N K h : ℕ) (e-N 
 
       found-timely : (o : Outcome) → Searched o → Timely (answered (parameterOf k) o)
       unfolding Searched
-      found-timely (off t) (missed n c) = (tt, omega (arith, room (length t) (omega (arith, c))))
+      found-timely (off t) (missed n c) = (λ _. tt, omega (arith, room (length t) (omega (arith, c))))
       found-timely (placed p) (got r) = (r .good .1, le-trans (r .good .0) (room (r .base) (r .few)))
 
       pub located-timely : Timely (located (paced R) e ev g k y ε limit)

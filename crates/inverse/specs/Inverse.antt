@@ -11,10 +11,10 @@ use Rattle.spline.specs.Segment.{segmentOf}
 use Rattle.checks.specs.Checks.{curveLength, badKnot, asked}
 use Rattle.inverse_segment.specs.declared.Inverted.{Inverted}
 use Rattle.inverse_segment.specs.Evaluations.{Evaluations}
-use Rattle.inverse_segment.specs.Answer.{inverted, unlessRefused}
+use Rattle.inverse_segment.specs.Answer.{inverted, unlessRefused, defaultPrecision}
 use Rattle.inverse_methods.specs.declared.Method.{Method}
-use Rattle.inverse_methods.specs.declared.Method.the-variants.{AsCrate}
-use Rattle.inverse_methods.specs.Method.{ruleOf}
+use Rattle.inverse_methods.specs.declared.Method.the-variants.{AsCrate, Steady}
+use Rattle.inverse_methods.specs.Method.{ruleOf, steadyLimit}
 use Rattle.inverse.specs.declared.EndsBy.{EndsBy}
 use Rattle.inverse.specs.declared.EndsBy.the-variants.{Knots}
 use Rattle.inverse.specs.Order.{turnBack}
@@ -41,3 +41,7 @@ inverseOf = inverseBy Knots AsCrate
 
 abbrev pub inverseEvaluations : Basis → Float → List Float → Bool → ℕ → Float → Evaluations
 inverseEvaluations = evaluationsBy Knots AsCrate
+
+-- by the knots and by the steady method, with its defaults
+abbrev pub steadyOf : Basis → Float → List Float → Bool → Inverted
+steadyOf b y ks check = inverseBy Knots Steady b y ks check steadyLimit defaultPrecision

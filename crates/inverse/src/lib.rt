@@ -11,7 +11,7 @@ ghost use Rattle.inverse_segment.specs.Answer.{defaultLimit, defaultPrecision};
 ghost use Rattle.inverse_methods.specs.Method.{ruleOf};
 ghost use Rattle.inverse.specs.EndRule.{atLow, atHigh, knotEnds, curveRule, endRuleOf, own};
 ghost use Rattle.inverse.specs.Curve.{parameterOf, located};
-ghost use Rattle.inverse.specs.Inverse.{inverseBy, inverseOf};
+ghost use Rattle.inverse.specs.Inverse.{inverseBy, inverseOf, steadyOf};
 ghost use Rattle.inverse.specs.Shown.{EndedIs, SearchedIs, LocatedIs};
 use basis::Basis;
 use error::Verdict;
@@ -257,4 +257,18 @@ pub fn spline_inverse(b: Basis, y: f64, knots: &[f64], check: bool) -> Inverted
     ensures { λ r. ⌜ r ≡ inverseOf b y (now (knots .entry)) check defaultLimit defaultPrecision ⌝ }
 {
     spline_inverse_with(b, y, knots, check, 32, 1e-10)
+}
+
+// By the knots and by the steady method, with limit 64 and precision 1e-10: never spent.
+pub fn spline_inverse_steady(b: Basis, y: f64, knots: &[f64], check: bool) -> Inverted
+    ensures { λ r. ⌜ r ≡ steadyOf b y (now (knots .entry)) check ⌝ }
+{
+    let o = Options {
+        check: check,
+        limit: 64,
+        precision: 1e-10,
+        ends: EndsBy::Knots,
+        method: Method::Steady,
+    };
+    spline_inverse_by(o, b, y, knots)
 }

@@ -1,7 +1,6 @@
 -- A lawful rule kept to the pace ends in time. Before round i the bracket spans at most 2^(5 - i) + 6·2^-53; so, with a precision above 2^(5 - N) + 7·2^-53,
--- the width test stops round N
--- at the latest, after at most N evaluations in the rounds, and the limit is never told as spent if it is above N. For any function of the local place. Assumes
--- nothing.
+-- the width test stops round N at the latest, after at most N evaluations in the rounds, and the limit is never told as spent if it is above N. For any function
+-- of the local place. Assumes nothing.
 use mathlib.Core.Path.{_≡_, refl, sym, ap, _∙_, subst, subst₂}
 use mathlib.Core.Logic.{_⊎_, inl, inr}
 use mathlib.Core.Bool.{Bool, true, false, not, cond, _&&_, Bool·beq}
@@ -199,16 +198,36 @@ narrow-of ε b p h =
     let t-le : T (le t w) = trillionth-le w (sub-fits binary64 (b .upper) (b .lower)) c in
     rw (magnitude-clear w c) (branch (λ (z : Float). T (lt w z)) (lt t ε) (λ _. h) (λ k. absurd (lt-le-absurd w ε h (le-trans-float ε t w (not-lt→le t ε (number-at-most t w t-le) (number-below w ε h) k) t-le))))
 
-spans-narrow : (ε : Float) (h n : ℕ) (b : Bracket) → HasValue ε false h (2 ^ C) → Placing b → Spans b n → n + 2 ^ J < h → T (narrow ε b)
-spans-narrow ε h n b v p S small =
+-- a precision that stops the rounds in round N: it is at least some double of h units, which is above 2^(5 - N) + 7·2^-53
+pub record Enough (ε : Float) (N : ℕ) : Type 0 where
+  pub K : ℕ
+  pub h : ℕ
+  pub least : Float
+  pub last : N + K ≡ C + 5
+  pub least-is : HasValue least false h (2 ^ C)
+  pub above : 2 ^ K + 7 * 2 ^ J < h
+  pub at-least : T (le least ε)
+
+number-above : (x y : Float) → T (le x y) → T (not (isNan y))
+unfolding le lt eq isNan
+number-above nan nan h = h
+number-above (inf true) nan h = h
+number-above (inf false) nan h = h
+number-above (fin s m e) nan h = h
+number-above x (inf s) h = tt
+number-above x (fin s m e) h = tt
+
+spans-narrow : (ε : Float) (N : ℕ) (b : Bracket) (E : Enough ε N) → Placing b → Spans b (2 ^ E .K + 6 * 2 ^ J) → T (narrow ε b)
+spans-narrow ε N b E p S =
     let w = apart (b .lower) (b .upper) (S .L) (S .H) (S .order) (S .top) (S .lower-is) (S .upper-is) in
     let d = sub binary64 (b .upper) (b .lower) in
     narrow-of ε b p (by-contradiction (lt d ε) (λ k.
-    let o : T (le ε d) = not-lt→le d ε (number-of d (w .0) (2 ^ C) (w .1)) (number-of ε h (2 ^ C) v) k in
-    clash (S .L) (S .H) (w .0) n (2 ^ J) h (S .most) (w .2) small (in-order binary64 ε d h (w .0) v (w .1) o)))
+    let o : T (le ε d) = not-lt→le d ε (number-of d (w .0) (2 ^ C) (w .1)) (number-above (E .least) ε (E .at-least)) k in
+    let i : T (le (E .least) d) = le-trans-float (E .least) ε d (E .at-least) o in
+    clash (S .L) (S .H) (w .0) (2 ^ E .K) (2 ^ J) (E .h) (S .most) (w .2) (E .above) (in-order binary64 (E .least) d (E .h) (w .0) (E .least-is) (w .1) i)))
   where
-    clash : (L H D n g h : ℕ) → H ≤ L + n → D ≤ H - L + g → n + g < h → h ≤ D → ⊥
-    clash L H D n g h a b c d = omega arith
+    clash : (L H D a g h : ℕ) → H ≤ L + (a + 6 * g) → D ≤ H - L + g → a + 7 * g < h → h ≤ D → ⊥
+    clash L H D a g h p q r s = omega arith
 
 -- ---- the move
 splits-as : (a b : Bracket) (m : ℕ) (x : Float) → a .lower ≡ b .lower → a .upper ≡ b .upper → Splits b m x → Splits a m x
@@ -290,16 +309,11 @@ module _ (R : Rule) (lawful : Lawful R) (f : Float → Float) (s : ℕ) (y ε : 
   done-ends (suc n) i a j (found g x b ev) h = record { in-time = λ _. h .0; few = h .1 }
   done-ends n i a j (on st ev) h = absurd h
 
-  module _ (K h : ℕ) (e-N : N + K ≡ C + 5) (v : HasValue ε false h (2 ^ C)) (small : 2 ^ K + 7 * 2 ^ J < h) where
+  module _ (E : Enough ε N) where
     -- round N is the last
-    turn-last : (st : State) (ev : Evaluations) → Placing (st .bracket) → Spans (st .bracket) (2 ^ K + 6 * 2 ^ J) → length ev ≡ base + N → Done (turn (paced R) f s y ε rising limit N st ev)
+    turn-last : (st : State) (ev : Evaluations) → Placing (st .bracket) → Spans (st .bracket) (2 ^ E .K + 6 * 2 ^ J) → length ev ≡ base + N → Done (turn (paced R) f s y ε rising limit N st ev)
     unfolding turn
-    turn-last st ev p S c =
-        branch Done (narrow ε (st .bracket)) (λ _. (tt, le-of-eq c))
-        (λ k. absurd (T-not (narrow ε (st .bracket)) k (spans-narrow ε h (2 ^ K + 6 * 2 ^ J) (st .bracket) v p S (one-less (2 ^ K) (2 ^ J) h small))))
-      where
-        one-less : (a g h : ℕ) → a + 7 * g < h → a + 6 * g + g < h
-        one-less a g h l = omega arith
+    turn-last st ev p S c = branch Done (narrow ε (st .bracket)) (λ _. (tt, le-of-eq c)) (λ k. absurd (T-not (narrow ε (st .bracket)) k (spans-narrow ε N (st .bracket) E p S)))
 
     rounds-end : (n i k : ℕ) (t : Turn) → i + k ≡ C + 5 → i ≤ N → Tight k i t → Ended n i (rounds (paced R) f s y ε rising limit n i t)
     unfolding rounds
@@ -309,12 +323,12 @@ module _ (R : Rule) (lawful : Lawful R) (f : Float → Float) (s : ℕ) (y ε : 
     rounds-end (suc n) i k (on st ev) e l h = elim (le-or-lt N i) [
       | inl g ↦
           let q : N ≡ i = omega (arith, l, g) in
-          let r : k ≡ K = omega (arith, q, e, e-N) in
+          let r : k ≡ E .K = omega (arith, q, e, E .last) in
           done-ends n (suc i) (suc n) i (turn (paced R) f s y ε rising limit i st ev)
           (subst (λ (z : ℕ). Done (turn (paced R) f s y ε rising limit z st ev)) q
           (turn-last st ev (h .0) (subst (λ (z : ℕ). Spans (st .bracket) (2 ^ z + 6 * 2 ^ J)) r (h .1)) (h .2 ∙ ap (λ (z : ℕ). base + z) (sym q))))
       | inr g ↦
-          let q : suc (k - 1) ≡ k = omega (arith, g, e, e-N) in
+          let q : suc (k - 1) ≡ k = omega (arith, g, e, E .last) in
           let u = turn-tight (k - 1) i st ev (omega (arith, q, e)) g (h .0) (subst (λ (z : ℕ). Spans (st .bracket) (2 ^ z + 6 * 2 ^ J)) (sym q) (h .1)) (h .2) in
           let r = rounds-end n (suc i) (k - 1) (turn (paced R) f s y ε rising limit i st ev) (omega (arith, q, e)) g u in
           record { in-time = λ z. r .in-time (omega (arith, z)); few = r .few }
@@ -334,8 +348,11 @@ module _ (R : Rule) (lawful : Lawful R) (f : Float → Float) (s : ℕ) (y ε : 
   abbrev pub steadily : Placed
   steadily = rounds (paced R) f s y ε rising limit limit 0 (on (start (opening v0 v1)) ev)
 
-  -- with a precision of h units, 2^(5 - N) + 7·2^-53 < ε: at most N evaluations in the rounds; and the limit is not told as spent where it is above N
-  pub paced-ends : (N K h : ℕ) → N + K ≡ C + 5 → HasValue ε false h (2 ^ C) → 2 ^ K + 7 * 2 ^ J < h → (length (steadily .made) ≤ length ev + N) × (N < limit → T (not (isSpent (steadily .ground))))
-  paced-ends N K h e v small =
-      let r = rounds-end R lawful f s y ε rising limit (length ev) N K h e v small limit 0 (C + 5) (on (start (opening v0 v1)) ev) (omega arith) (omega arith) (opening-placing v0 v1, opening-spans v0 v1, omega arith) in
+  -- at most n evaluations in the rounds; and the limit is not told as spent where it is above n
+  abbrev pub EndsWithin : ℕ → Type 0
+  EndsWithin n = (length (steadily .made) ≤ length ev + n) × (n < limit → T (not (isSpent (steadily .ground))))
+
+  pub paced-ends : (N : ℕ) → Enough ε N → EndsWithin N
+  paced-ends N E =
+      let r = rounds-end R lawful f s y ε rising limit (length ev) N E limit 0 (C + 5) (on (start (opening v0 v1)) ev) (omega arith) (omega arith) (opening-placing v0 v1, opening-spans v0 v1, omega arith) in
       (r .few, λ l. r .in-time (omega (arith, l)))

@@ -10,13 +10,12 @@ use Rattle.inverse_segment.specs.declared.Bracket.{Bracket}
 use Rattle.inverse_segment.specs.declared.State.{State}
 use Rattle.inverse_segment.specs.declared.Turned.{Turned}
 use Rattle.inverse_segment.specs.declared.Place.{Place}
-use Rattle.inverse_segment.specs.declared.Tried.{Tried}
 use Rattle.inverse_segment.specs.Evaluations.{Evaluations}
 use Rattle.inverse_segment.specs.Round.{on, turn}
 use Rattle.inverse_segment.specs.Rounds.{rounds}
-use Rattle.inverse_segment.specs.Segment.{start, entered, enter}
+use Rattle.inverse_segment.specs.Segment.{start, entered}
 use Rattle.inverse_segment.specs.Answer.{placeOf, alone}
-use Rattle.inverse_segment.specs.Shown.{shown, tried}
+use Rattle.inverse_segment.specs.Shown.{shown}
 use Rattle.inverse_methods.specs.declared.Chosen.{Chosen}
 use Rattle.inverse_methods.specs.declared.Method.{Method}
 use Rattle.inverse_methods.specs.Steady.{allowed, steady}
@@ -36,6 +35,3 @@ EnteredIs w s y ε limit v0 v1 n r = (ev : Evaluations) → length ev ≡ n → 
 
 abbrev pub EnteredBy : Method → Weights → ℕ → Float → Float → ℕ → Float → Float → ℕ → Place → Type 0
 EnteredBy how w s y ε limit v0 v1 n r = (ev : Evaluations) → length ev ≡ n → r ≡ placeOf alone (entered (ruleOf how) (hornerOf w) s y ε limit v0 v1 ev)
-
-abbrev pub EnterIs : Method → Weights → ℕ → Float → Float → ℕ → ℕ → Tried → Type 0
-EnterIs how w s y ε limit n r = (ev : Evaluations) → length ev ≡ n → r ≡ tried (enter (ruleOf how) (hornerOf w) s y ε limit ev)

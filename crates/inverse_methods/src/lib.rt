@@ -1,13 +1,13 @@
-// Inversion of one segment by each method; the steady rule.
+// Inversion of one segment by each method: its calls, and the steady rule. Rust: `spline_inverse_segment` of src/spline_trait.rs.
 ghost use mathlib.Core.Path.{_≡_};
 ghost use Prim.Native.Nat.{_≤_, _<_, _+_};
 ghost use mathlib.Core.Bool.{true};
 ghost use Rattle.inverse_segment.specs.Round.{toward, weighed};
 ghost use Rattle.inverse_segment.specs.Shown.{repeatsAfter, countAfter};
-ghost use Rattle.inverse_segment.specs.Answer.{inverseSegmentBy};
-ghost use Rattle.inverse_methods.specs.Method.{ruleOf};
+ghost use Rattle.inverse_segment.specs.Answer.{inverseSegmentBy, inverseSegmentOf, defaultLimit, defaultPrecision};
+ghost use Rattle.inverse_methods.specs.Method.{ruleOf, steadySegmentOf};
 ghost use Rattle.inverse_methods.specs.Steady.{inner};
-ghost use Rattle.inverse_methods.specs.Shown.{ChosenIs, TurnIs, RoundsIs, EnteredIs, EnteredBy, EnterIs};
+ghost use Rattle.inverse_methods.specs.Shown.{ChosenIs, TurnIs, RoundsIs, EnteredIs, EnteredBy};
 use basis::Basis;
 use error::Verdict;
 use inverse_segment::Bracket;
@@ -15,7 +15,6 @@ use inverse_segment::Ground;
 use inverse_segment::Inverted;
 use inverse_segment::Place;
 use inverse_segment::State;
-use inverse_segment::Tried;
 use inverse_segment::Turned;
 use inverse_segment::Weighing;
 use spline::Weights;
@@ -219,27 +218,6 @@ pub fn entered_by(
     }
 }
 
-// Segment s is tried: both its ends are evaluated, once, and it is entered where they enclose y. `count` evaluations have been made before.
-pub fn enter(
-    how: Method,
-    w: Weights,
-    s: usize,
-    y: f64,
-    precision: f64,
-    limit: u16,
-    count: u32,
-) -> Tried
-    requires { ⌜ count < 900000 ⌝ }
-    ensures { λ r. ⌜ EnterIs how w s y precision limit count r ⌝ }
-{
-    let v0 = spline::segment::horner(w, 0.0);
-    let v1 = spline::segment::horner(w, 1.0);
-    if inverse_segment::encloses(v0, v1, y) {
-        return Tried::Inside(entered_by(how, w, s, y, precision, limit, v0, v1, count + 2));
-    }
-    Tried::Outside(v0)
-}
-
 // The place of y on the segment whose four knots are cv, by the method that is asked for.
 pub fn spline_inverse_segment_by(
     b: Basis,
@@ -255,19 +233,49 @@ pub fn spline_inverse_segment_by(
     match v {
         Verdict::Failed(r) => Inverted::Refused(r),
         Verdict::Passed => {
-            let t = enter(
-                how,
-                spline::segment::weights(b, cv),
-                0,
-                y,
-                precision,
-                limit,
-                0,
-            );
-            let Tried::Inside(p) = t else {
-                return Inverted::OffCurve(2);
-            };
-            Inverted::At(p)
+            let w = spline::segment::weights(b, cv);
+            let mut ends = [0.0, 0.0, 0.0, 0.0, 0.0, 0.0];
+            if inverse_segment::settle(w, y, &mut ends) {
+                return Inverted::At(entered_by(
+                    how,
+                    w,
+                    0,
+                    y,
+                    precision,
+                    limit,
+                    ends[4],
+                    ends[5],
+                    2,
+                ));
+            }
+            Inverted::OffCurve(2)
         }
     }
+}
+
+// As the crate inverts.
+pub fn spline_inverse_segment_with(
+    b: Basis,
+    y: f64,
+    cv: &[f64],
+    limit: u16,
+    precision: f64,
+) -> Inverted
+    ensures { λ r. ⌜ r ≡ inverseSegmentOf b y (now (cv .entry)) limit precision ⌝ }
+{
+    spline_inverse_segment_by(b, y, cv, limit, precision, Method::AsCrate)
+}
+
+// As the crate inverts, with limit 32 and precision 1e-10.
+pub fn spline_inverse_segment(b: Basis, y: f64, cv: &[f64]) -> Inverted
+    ensures { λ r. ⌜ r ≡ inverseSegmentOf b y (now (cv .entry)) defaultLimit defaultPrecision ⌝ }
+{
+    spline_inverse_segment_with(b, y, cv, 32, 1e-10)
+}
+
+// By the steady method, with limit 64 and precision 1e-10: never spent.
+pub fn spline_inverse_segment_steady(b: Basis, y: f64, cv: &[f64]) -> Inverted
+    ensures { λ r. ⌜ r ≡ steadySegmentOf b y (now (cv .entry)) ⌝ }
+{
+    spline_inverse_segment_by(b, y, cv, 64, 1e-10, Method::Steady)
 }

@@ -23,11 +23,12 @@ use Rattle.inverse_segment.specs.Answer.{placeOf, answered, alone}
 use Rattle.inverse_methods.specs.declared.Method.{Method}
 use Rattle.inverse_methods.specs.Method.{ruleOf}
 use Rattle.inverse_methods.specs.Shown.{EnteredBy}
+use Rattle.inverse_segment.specs.Shown.{SettledIs}
 use Rattle.inverse_segment.proofs.Ends.{both}
 use Rattle.inverse_search.specs.Bound.{bitsOf}
 use Rattle.inverse_search.specs.Search.{before, Trial, tries, last, halve, find}
 use Rattle.inverse_search.specs.Trial.{trial}
-use Rattle.inverse_search.specs.Shown.{SettledIs, TestedIs, went, Seeks, TriesIs, LastIs, HalveIs, SoughtIs, FindIs}
+use Rattle.inverse_search.specs.Shown.{TestedIs, went, Seeks, TriesIs, LastIs, HalveIs, SoughtIs, FindIs}
 use Rattle.inverse_search.proofs.Digits.{bits-enough}
 
 -- ---- where a segment lies
@@ -38,13 +39,6 @@ pub fits-at : (s k step n : ℕ) → s < k → k * step + 4 ≤ n + step → s *
 fits-at s k step n h l = let q : suc s * step ≤ k * step = mul-le-mul-right step h in omega (arith, suc-mul s step)
 
 -- ---- the ends of a segment, from its row sums
-pub settled : {y : Float} (w : Weights) {v0 v1 : Float} {h : Bool} → v0 ≡ hornerOf w nought → v1 ≡ hornerOf w one → h ≡ encloses v0 v1 y → SettledIs w y (w .w0 ∷ w .w1 ∷ w .w2 ∷ w .w3 ∷ v0 ∷ v1 ∷ []) h
-settled {y} w {v0} {v1} e0 e1 eh =
-    record {
-      kept-is = ap (λ (v : Float). w .w0 ∷ w .w1 ∷ w .w2 ∷ w .w3 ∷ v ∷ v1 ∷ []) e0 ∙ ap (λ (v : Float). w .w0 ∷ w .w1 ∷ w .w2 ∷ w .w3 ∷ hornerOf w nought ∷ v ∷ []) e1;
-      holds-is = eh ∙ ap (λ (v : Float). encloses v v1 y) e0 ∙ ap (λ (v : Float). encloses (hornerOf w nought) v y) e1;
-    }
-
 pub settled-by : (b d : Basis) (m : List (List Float)) (cv : List Float) {w : Weights} {e : List Float} {y : Float} {h : Bool} → b ≡ d → m ≡ matrixOf d → w ≡ weightsOf m cv → SettledIs w y e h → SettledIs (weightsOf (matrixOf b) cv) y e h
 settled-by b d m cv {e = e} {y = y} {h = h} p q r i =
     subst (λ (w : Weights). SettledIs w y e h) (r ∙ ap (λ (m : List (List Float)). weightsOf m cv) (q ∙ ap matrixOf (sym p))) i

@@ -1,6 +1,6 @@
 -- The definitions' results as the code has them: a count stands for each list of evaluations. Definitions only.
 use mathlib.Core.Path.{_≡_}
-use mathlib.Core.List.{List, [], _∷_}
+use mathlib.Core.List.{List}
 use mathlib.Core.Bool.{Bool, cond}
 use Prim.Native.Nat.{ℕ, _*_, _^_, _<_}
 use lib.Dec.{ltb}
@@ -10,12 +10,13 @@ use Rattle.basis.specs.declared.Basis.{Basis}
 use Rattle.basis.specs.Basis.{stepOf, matrixOf}
 use Rattle.doubles.specs.Numbers.{nought, one}
 use Rattle.spline.specs.declared.Weights.{Weights}
-use Rattle.spline.specs.Segment.{weightsOf, hornerOf, segmentOf}
+use Rattle.spline.specs.Segment.{weightsOf, segmentOf}
 use Rattle.inverse_segment.specs.declared.Inverted.{Inverted}
 use Rattle.inverse_segment.specs.Evaluations.{Evaluations}
 use Rattle.inverse_segment.specs.Round.{Rule}
-use Rattle.inverse_segment.specs.Segment.{Outcome, off, placed, encloses, entered}
+use Rattle.inverse_segment.specs.Segment.{Outcome, off, placed, entered}
 use Rattle.inverse_segment.specs.Answer.{answered, alone}
+use Rattle.inverse_segment.specs.Shown.{keptOf, SettledIs}
 use Rattle.inverse_methods.specs.declared.Method.{Method}
 use Rattle.inverse_methods.specs.Method.{ruleOf}
 use Rattle.inverse_search.specs.Search.{Trial, tries, last, halve, find}
@@ -24,15 +25,6 @@ use Rattle.inverse_search.specs.Trial.{trial}
 -- r is what the definition gives, whatever the n evaluations before it were
 abbrev pub Is : (Evaluations → Outcome) → ℕ → Inverted → Type 0
 Is o n r = (ev : Evaluations) → length ev ≡ n → r ≡ answered alone (o ev)
-
--- what is kept of a segment: its row sums, and the values of both its ends
-abbrev pub keptOf : Weights → List Float
-keptOf w = w .w0 ∷ w .w1 ∷ w .w2 ∷ w .w3 ∷ hornerOf w nought ∷ hornerOf w one ∷ []
-
--- this, and whether the ends enclose y
-pub record SettledIs (w : Weights) (y : Float) (e : List Float) (r : Bool) : Type 0 where
-  pub kept-is : e ≡ keptOf w
-  pub holds-is : r ≡ encloses (hornerOf w nought) (hornerOf w one) y
 
 abbrev pub weightsAt : Basis → List Float → ℕ → Weights
 weightsAt b ks s = weightsOf (matrixOf b) (drop (s * stepOf b) ks)

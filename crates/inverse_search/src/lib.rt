@@ -4,9 +4,10 @@ ghost use Prim.Native.Nat.{_+_, _-_, _*_, _≤_, _<_};
 ghost use lib.ListN.{length, drop};
 ghost use Rattle.basis.specs.Basis.{stepOf, matrixOf};
 ghost use Rattle.spline.specs.Segment.{weightsOf};
+ghost use Rattle.inverse_segment.specs.Shown.{SettledIs};
 ghost use Rattle.inverse_search.specs.Bound.{bitsOf, boundOf};
 ghost use Rattle.inverse_search.specs.Search.{before};
-ghost use Rattle.inverse_search.specs.Shown.{SettledIs, TestedIs, TriesIs, LastIs, HalveIs, SoughtIs, FindIs};
+ghost use Rattle.inverse_search.specs.Shown.{TestedIs, TriesIs, LastIs, HalveIs, SoughtIs, FindIs};
 use basis::Basis;
 use inverse_methods::Method;
 use inverse_segment::Inverted;
@@ -39,48 +40,38 @@ pub fn weights_at(b: Basis, knots: &[f64], s: usize) -> Weights
     spline::segment::weights(b, &knots[start..])
 }
 
-// Both ends of the segment with these row sums are evaluated, once, and kept behind them: do they enclose y?
-fn settle(w: Weights, y: f64, ends: &mut [f64; 6]) -> bool
-    ensures { λ r. ⌜ SettledIs w y (now (ends .exit)) r ⌝ }
-{
-    let v0 = spline::segment::horner(w, 0.0);
-    let v1 = spline::segment::horner(w, 1.0);
-    *ends = [w.w0, w.w1, w.w2, w.w3, v0, v1];
-    inverse_segment::encloses(v0, v1, y)
-}
-
 // A match on the basis, so that each matrix is known where it is used, and no row sum is computed through memory.
 fn settle_by(b: Basis, cv: &[f64], y: f64, ends: &mut [f64; 6]) -> bool
     requires { ⌜ 4 ≤ length (now cv) ⌝ }
     ensures { λ r. ⌜ SettledIs (weightsOf (matrixOf b) (now (cv .entry))) y (now (ends .exit)) r ⌝ }
 {
     match b {
-        Basis::Bspline => settle(
+        Basis::Bspline => inverse_segment::settle(
             spline::segment::sums(basis::basis_macros::bspline(), cv),
             y,
             ends,
         ),
-        Basis::Bezier => settle(
+        Basis::Bezier => inverse_segment::settle(
             spline::segment::sums(basis::basis_macros::bezier(), cv),
             y,
             ends,
         ),
-        Basis::CatmullRom => settle(
+        Basis::CatmullRom => inverse_segment::settle(
             spline::segment::sums(basis::basis_macros::catmull_rom(), cv),
             y,
             ends,
         ),
-        Basis::Hermite => settle(
+        Basis::Hermite => inverse_segment::settle(
             spline::segment::sums(basis::basis_macros::hermite(), cv),
             y,
             ends,
         ),
-        Basis::Linear => settle(
+        Basis::Linear => inverse_segment::settle(
             spline::segment::sums(basis::basis_macros::linear(), cv),
             y,
             ends,
         ),
-        Basis::Power => settle(
+        Basis::Power => inverse_segment::settle(
             spline::segment::sums(basis::basis_macros::power(), cv),
             y,
             ends,

@@ -1,8 +1,22 @@
--- The two evaluations of a segment's ends. Assumes nothing.
-use mathlib.Core.List.{_∷_}
+-- The two evaluations of a segment's ends, and what is kept of them. Assumes nothing.
+use mathlib.Core.Path.{_≡_, ap, _∙_}
+use mathlib.Core.Bool.{Bool}
+use mathlib.Core.List.{[], _∷_}
 use Prim.Native.Nat.{ℕ}
+use lib.Ieee.{Float}
 use Rattle.doubles.specs.Numbers.{nought, one}
+use Rattle.spline.specs.declared.Weights.{Weights}
+use Rattle.spline.specs.Segment.{hornerOf}
 use Rattle.inverse_segment.specs.Evaluations.{Evaluations}
+use Rattle.inverse_segment.specs.Segment.{encloses}
+use Rattle.inverse_segment.specs.Shown.{SettledIs}
 
 abbrev pub both : ℕ → Evaluations → Evaluations
 both s ev = (s, one) ∷ ((s, nought) ∷ ev)
+
+pub settled : {y : Float} (w : Weights) {v0 v1 : Float} {h : Bool} → v0 ≡ hornerOf w nought → v1 ≡ hornerOf w one → h ≡ encloses v0 v1 y → SettledIs w y (w .w0 ∷ w .w1 ∷ w .w2 ∷ w .w3 ∷ v0 ∷ v1 ∷ []) h
+settled {y} w {v0} {v1} e0 e1 eh =
+    record {
+      kept-is = ap (λ (v : Float). w .w0 ∷ w .w1 ∷ w .w2 ∷ w .w3 ∷ v ∷ v1 ∷ []) e0 ∙ ap (λ (v : Float). w .w0 ∷ w .w1 ∷ w .w2 ∷ w .w3 ∷ hornerOf w nought ∷ v ∷ []) e1;
+      holds-is = eh ∙ ap (λ (v : Float). encloses v v1 y) e0 ∙ ap (λ (v : Float). encloses (hornerOf w nought) v y) e1;
+    }

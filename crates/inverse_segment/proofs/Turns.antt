@@ -18,15 +18,12 @@ use Rattle.inverse_segment.specs.declared.State.{State}
 use Rattle.inverse_segment.specs.declared.Turned.{Turned}
 use Rattle.inverse_segment.specs.declared.Turned.the-variants.{Done, Next}
 use Rattle.inverse_segment.specs.declared.Place.{Place}
-use Rattle.inverse_segment.specs.declared.Tried.{Tried}
-use Rattle.inverse_segment.specs.declared.Tried.the-variants.{Outside, Inside}
 use Rattle.inverse_segment.specs.Evaluations.{Evaluations}
 use Rattle.inverse_segment.specs.Round.{Weighting, Rule, chord, midpoint, narrow, falsi, weighed, fraction, moved, Turn, found, on, settled, probed, turn}
 use Rattle.inverse_segment.specs.Rounds.{Placed, rounds}
-use Rattle.inverse_segment.specs.Segment.{encloses, near, opening, start, entered, Entry, outside, inside, enter}
+use Rattle.inverse_segment.specs.Segment.{near, opening, start, entered}
 use Rattle.inverse_segment.specs.Answer.{placeOf, alone}
-use Rattle.inverse_segment.specs.Shown.{shown, toldAt, tried}
-use Rattle.inverse_segment.proofs.Ends.{both}
+use Rattle.inverse_segment.specs.Shown.{shown, toldAt}
 
 -- ---- a round
 module _ (y ε : Float) (rising : Bool) (b : Bracket) (st : State) (x v : Float) (ev : Evaluations) where
@@ -132,33 +129,3 @@ module _ (R : Rule) (f : Float → Float) (s : ℕ) (y ε : Float) (limit n : �
     pub by-rounds : (r : Place) → false ≡ near y v1 ε → r ≡ placeOf alone (rounds R f s y ε (lt v0 v1) limit limit 0 (on (start (opening v0 v1)) ev)) → r ≡ placeOf alone (entered R f s y ε limit v0 v1 ev)
     unfolding entered
     by-rounds r q u = simp (← p, ← q) u
-
--- ---- the ends
-module _ (R : Rule) (f : Float → Float) (s : ℕ) (y ε : Float) (limit : ℕ) {v0 v1 : Float} (e0 : v0 ≡ f nought) (e1 : v1 ≡ f one) (ev : Evaluations) where
-  pub left-out : false ≡ encloses v0 v1 y → Outside v0 ≡ tried (enter R f s y ε limit ev)
-  unfolding enter
-  left-out h = simp (← e0, ← e1, ← h)
-
-  pub taken-in : {n : ℕ} (r : Place) → true ≡ encloses v0 v1 y → length ev ≡ n → ((t : Evaluations) → length t ≡ n + 2 → r ≡ placeOf alone (entered R f s y ε limit v0 v1 t)) → Inside r ≡ tried (enter R f s y ε limit ev)
-  unfolding enter
-  taken-in {n} r h k u = let q : length (both s ev) ≡ n + 2 = omega arith in simp (← e0, ← e1, ← h) (ap Inside (u (both s ev) q))
-
--- ---- what a segment's trial tells of it
-module _ (R : Rule) (f : Float → Float) (s : ℕ) (y ε : Float) (limit : ℕ) (ev : Evaluations) where
-  -- its ends do not enclose y
-  pub was-outside : {v : Float} → Outside v ≡ tried (enter R f s y ε limit ev) → (v ≡ f nought) × (enter R f s y ε limit ev ≡ outside v (both s ev))
-  unfolding enter
-  was-outside {v} = go (encloses (f nought) (f one) y)
-    where
-      go : (t : Bool) → Outside v ≡ tried (cond t (inside (entered R f s y ε limit (f nought) (f one) (both s ev))) (outside (f nought) (both s ev)))
-          → (v ≡ f nought) × (cond t (inside (entered R f s y ε limit (f nought) (f one) (both s ev))) (outside (f nought) (both s ev)) ≡ outside v (both s ev))
-      go true e = never (cc)
-      go false e = let q : v ≡ f nought = cc in (q, ap (λ (z : Float). outside z (both s ev)) (sym q))
-
-  -- it was entered
-  pub was-inside : {r : Place} → Inside r ≡ tried (enter R f s y ε limit ev) → (p : Placed) × (enter R f s y ε limit ev ≡ inside p) × (r ≡ placeOf alone p)
-  was-inside {r} e = go (enter R f s y ε limit ev) refl e
-    where
-      go : (t : Entry) → enter R f s y ε limit ev ≡ t → Inside r ≡ tried t → (p : Placed) × (enter R f s y ε limit ev ≡ inside p) × (r ≡ placeOf alone p)
-      go (outside v t) q e = never (cc)
-      go (inside p) q e = let z : r ≡ placeOf alone p = cc in (p, q, z)

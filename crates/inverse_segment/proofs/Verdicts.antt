@@ -1,13 +1,13 @@
 -- The rows of the refusal table that the inversion of a segment uses, by the order of the code's tests. Assumes nothing.
 use mathlib.Core.Path.{_≡_, refl, sym, ap, _∙_, subst}
-use mathlib.Core.Bool.{true, false}
+use mathlib.Core.Bool.{Bool, true, false}
 use mathlib.Core.List.{List, [], _∷_}
 use Prim.Native.Nat.{ℕ, _≤_}
 use native.Mathlib.Nat.{zero-mul}
 use native.Mathlib.Omega.{arith}
 use borrow.Author.Tests.{ltb-false, eqb-false, not-false}
-use lib.ListN.{length, drop}
-use lib.Ieee.{Float, isNan}
+use lib.ListN.{length, drop, getD}
+use lib.Ieee.{Float, nan, isNan}
 use Rattle.error.specs.declared.Refusal.{Refusal}
 use Rattle.error.specs.declared.Verdict.{Verdict}
 use Rattle.error.specs.declared.Verdict.the-variants.{Passed, Failed}
@@ -15,6 +15,7 @@ use Rattle.error.specs.Refusals.{Uses, first}
 use Rattle.error.proofs.First.{stops-in, goes-past, stops, goes-on, clear}
 use Rattle.basis.specs.declared.Basis.{Basis}
 use Rattle.basis.specs.Basis.{stepOf, matrixOf}
+use Rattle.doubles.specs.Numbers.{nought, one}
 use Rattle.spline.specs.declared.Weights.{Weights}
 use Rattle.spline.specs.Segment.{weightsOf, hornerOf}
 use Rattle.checks.specs.Checks.{segmentLength, allInRange, badKnot, precise, asked}
@@ -23,13 +24,11 @@ use Rattle.inverse_segment.specs.declared.Inverted.{Inverted}
 use Rattle.inverse_segment.specs.declared.Inverted.the-variants.{Refused, OffCurve as OffSegment, At}
 use Rattle.inverse_segment.specs.Evaluations.{Evaluations}
 use Rattle.inverse_segment.specs.declared.Place.{Place}
-use Rattle.inverse_segment.specs.declared.Tried.{Tried}
-use Rattle.inverse_segment.specs.declared.Tried.the-variants.{Outside, Inside}
 use Rattle.inverse_segment.specs.Round.{Rule}
-use Rattle.inverse_segment.specs.Segment.{Outcome, off, placed, Entry, enter, outcomeOf}
-use Rattle.inverse_segment.specs.Shown.{tried}
-use Rattle.inverse_segment.proofs.Turns.{was-outside, was-inside}
-use Rattle.inverse_segment.specs.Answer.{answered, alone, inverted, inverseSegmentUses, inverseSegmentBy}
+use Rattle.inverse_segment.specs.Segment.{Outcome, off, placed, encloses, entered, enter, outcomeOf}
+use Rattle.inverse_segment.specs.Shown.{keptOf, SettledIs}
+use Rattle.inverse_segment.proofs.Ends.{both}
+use Rattle.inverse_segment.specs.Answer.{placeOf, answered, alone, inverted, inverseSegmentUses, inverseSegmentBy}
 
 -- ---- the call's rows, in the order of its tests
 module _ (y : Float) (cv : List Float) (limit : ℕ) (ε : Float) {l : Verdict} (e : l ≡ first (segmentLength (length cv))) where
@@ -99,13 +98,19 @@ module _ (R : Rule) (b : Basis) (y : Float) (cv : List Float) (limit : ℕ) (ε 
       let told : Weights → Inverted = λ z. answered alone (outcomeOf (enter R (hornerOf z) 0 y ε limit [])) in
       rw (← e, d) (ap told e-w ∙ sym (ap (λ (n : ℕ). told (weightsOf (matrixOf b) (drop n cv))) (zero-mul (stepOf b))))
 
-  module _ (d : v ≡ Passed) (w : Weights) (e-w : w ≡ weightsOf (matrixOf b) cv) (t : Tried) (k : (ev : Evaluations) → length ev ≡ 0 → t ≡ tried (enter R (hornerOf w) 0 y ε limit ev)) where
-    pub place-is : {p : Place} → t ≡ Inside p → At p ≡ inverseSegmentBy R b y cv limit ε
-    place-is {p} i =
-        let r = was-inside R (hornerOf w) 0 y ε limit [] (sym i ∙ k [] refl) in
-        ap At (r .2) ∙ sym (ap (λ (z : Entry). answered alone (outcomeOf z)) (r .1)) ∙ told d w e-w
+  -- by whether its two ends, which are kept, enclose the target
+  module _ (d : v ≡ Passed) (w : Weights) (e-w : w ≡ weightsOf (matrixOf b) cv) {k : List Float} {h : Bool} (s : SettledIs w y k h) where
+    pub place-is : {p : Place} → h ≡ true → ((ev : Evaluations) → length ev ≡ 2 → p ≡ placeOf alone (entered R (hornerOf w) 0 y ε limit (getD k 4 nan) (getD k 5 nan) ev)) → At p ≡ inverseSegmentBy R b y cv limit ε
+    unfolding enter
+    place-is {p} i u =
+        let held : encloses (hornerOf w nought) (hornerOf w one) y ≡ true = sym (s .holds-is) ∙ i in
+        let at : List Float → Inverted = λ z. At (placeOf alone (entered R (hornerOf w) 0 y ε limit (getD z 4 nan) (getD z 5 nan) (both 0 []))) in
+        let tried : at (keptOf w) ≡ answered alone (outcomeOf (enter R (hornerOf w) 0 y ε limit [])) = simp held in
+        ap At (u (both 0 []) refl) ∙ ap at (s .kept-is) ∙ tried ∙ told d w e-w
 
-    pub off-is : {x : Float} → t ≡ Outside x → OffSegment 2 ≡ inverseSegmentBy R b y cv limit ε
+    pub off-is : h ≡ false → OffSegment 2 ≡ inverseSegmentBy R b y cv limit ε
+    unfolding enter
     off-is i =
-        let r = was-outside R (hornerOf w) 0 y ε limit [] (sym i ∙ k [] refl) in
-        sym (ap (λ (z : Entry). answered alone (outcomeOf z)) (r .1)) ∙ told d w e-w
+        let held : encloses (hornerOf w nought) (hornerOf w one) y ≡ false = sym (s .holds-is) ∙ i in
+        let tried : OffSegment 2 ≡ answered alone (outcomeOf (enter R (hornerOf w) 0 y ε limit [])) = simp held in
+        tried ∙ told d w e-w

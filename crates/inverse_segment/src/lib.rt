@@ -1,12 +1,9 @@
-// Inversion of one segment. Rust: `invert` of src/lib.rs, `spline_inverse_segment` of src/spline_trait.rs.
+// What an inversion of one segment is made of: its two ends, and the rounds as the crate makes them. Rust: `invert` of src/lib.rs.
 ghost use mathlib.Core.Path.{_≡_};
 ghost use Prim.Native.Nat.{_≤_, _<_, _+_};
 ghost use Rattle.inverse_segment.specs.Segment.{encloses, near};
-ghost use Rattle.inverse_segment.specs.Shown.{toldAt, RoundsIs, EnteredIs, EnterIs};
-ghost use Rattle.inverse_segment.specs.Answer.{inverseSegmentOf, defaultLimit, defaultPrecision};
-use basis::Basis;
+ghost use Rattle.inverse_segment.specs.Shown.{toldAt, SettledIs, RoundsIs, EnteredIs};
 use error::Refusal;
-use error::Verdict;
 use spline::Weights;
 
 pub mod refusals;
@@ -59,12 +56,6 @@ pub struct Place {
     pub lower: f64,
     pub upper: f64,
     pub count: u32,
-}
-
-// What trying a segment comes to: its ends do not enclose the target, and the value of its start; or a place in it.
-pub enum Tried {
-    Outside(f64),
-    Inside(Place),
 }
 
 // An answer: refused by a row of the table, not on the curve after so many evaluations, or a place.
@@ -147,6 +138,16 @@ pub fn encloses(v0: f64, v1: f64, y: f64) -> bool
     }
 }
 
+// Both ends of the segment with these row sums are evaluated, once, and kept behind them: do they enclose y?
+pub fn settle(w: Weights, y: f64, ends: &mut [f64; 6]) -> bool
+    ensures { λ r. ⌜ SettledIs w y (now (ends .exit)) r ⌝ }
+{
+    let v0 = spline::segment::horner(w, 0.0);
+    let v1 = spline::segment::horner(w, 1.0);
+    *ends = [w.w0, w.w1, w.w2, w.w3, v0, v1];
+    encloses(v0, v1, y)
+}
+
 pub fn is_near(y: f64, v: f64, precision: f64) -> bool
     ensures { λ r. ⌜ r ≡ near y v precision ⌝ }
 {
@@ -181,63 +182,4 @@ pub fn entered(
         return told_at(s, Ground::Edge, 1.0, whole, n);
     }
     rounds(m, w, s, y, precision, v0 < v1, whole, limit, n)
-}
-
-// Segment s is tried: both its ends are evaluated, once, and it is entered where they enclose y. `count` evaluations have been made before.
-pub fn enter(
-    m: Weighing,
-    w: Weights,
-    s: usize,
-    y: f64,
-    precision: f64,
-    limit: u16,
-    count: u32,
-) -> Tried
-    requires { ⌜ count < 900000 ⌝ }
-    ensures { λ r. ⌜ EnterIs m w s y precision limit count r ⌝ }
-{
-    let v0 = spline::segment::horner(w, 0.0);
-    let v1 = spline::segment::horner(w, 1.0);
-    if encloses(v0, v1, y) {
-        return Tried::Inside(entered(m, w, s, y, precision, limit, v0, v1, count + 2));
-    }
-    Tried::Outside(v0)
-}
-
-// The place of y on the segment whose four knots are cv.
-pub fn spline_inverse_segment_with(
-    b: Basis,
-    y: f64,
-    cv: &[f64],
-    limit: u16,
-    precision: f64,
-) -> Inverted
-    ensures { λ r. ⌜ r ≡ inverseSegmentOf b y (now (cv .entry)) limit precision ⌝ }
-{
-    let v = refusals::segment_verdict(y, cv, limit, precision);
-    match v {
-        Verdict::Failed(r) => Inverted::Refused(r),
-        Verdict::Passed => {
-            let t = enter(
-                Weighing::Value,
-                spline::segment::weights(b, cv),
-                0,
-                y,
-                precision,
-                limit,
-                0,
-            );
-            let Tried::Inside(p) = t else {
-                return Inverted::OffCurve(2);
-            };
-            Inverted::At(p)
-        }
-    }
-}
-
-// The same with limit 32 and precision 1e-10.
-pub fn spline_inverse_segment(b: Basis, y: f64, cv: &[f64]) -> Inverted
-    ensures { λ r. ⌜ r ≡ inverseSegmentOf b y (now (cv .entry)) defaultLimit defaultPrecision ⌝ }
-{
-    spline_inverse_segment_with(b, y, cv, 32, 1e-10)
 }

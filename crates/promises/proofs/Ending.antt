@@ -1,63 +1,69 @@
--- The steady method ends in time, of the call: the limit is never told as spent where it is above N, and the count is bounded as if it were N. Assumes nothing.
+-- The steady method ends in time, of the calls with options: where N rounds are enough for the precision, the limit is never told as spent if it is above N, and
+-- the count is bounded as if it were N. N is 39 for the default precision, p + 6 for one of 2^-p at least, and 59 for any of 2^-50 at least. Assumes nothing.
 use mathlib.Core.Path.{_≡_, sym, ap, subst, _∙_}
-use mathlib.Core.Bool.{Bool, false}
+use mathlib.Core.Bool.{Bool}
 use mathlib.Core.List.{List}
-use Prim.Native.Nat.{ℕ}
+use Prim.Native.Nat.{ℕ, _+_, _≤_}
 use denote.Ref.{now}
-use lib.IntN.{negsuc}
 use lib.Dec.{T}
-use lib.Ieee.{Float, fin, binary64, le, fits}
+use lib.Ieee.{Float, le}
 use Rattle.basis.specs.declared.Basis.{Basis}
-use Rattle.doubles.proofs.Units.{clear}
 use Rattle.inverse_segment.specs.declared.Inverted.{Inverted}
 use Rattle.inverse_segment.specs.Answer.{inverseSegmentBy, defaultPrecision}
 use Rattle.inverse_methods.specs.declared.Method.{Method}
 use Rattle.inverse_methods.specs.declared.Method.the-variants.{Steady}
 use Rattle.inverse_methods.specs.Method.{ruleOf}
 use Rattle.inverse_methods.specs.Steady.{steady}
-use Rattle.inverse_methods.proofs.Timely.{SegmentWithin, default-segment-timely, any-segment-timely}
+use Rattle.inverse_methods.proofs.Ending.{Enough}
+use Rattle.inverse_methods.proofs.Times.{twoToMinus, default-enough, power-enough, any-enough}
+use Rattle.inverse_methods.proofs.Timely.{SegmentWithin, segment-timely}
 use Rattle.inverse_methods.proofs.spline_inverse_segment_by.Reads as spline_inverse_segment_by
 use Rattle.inverse.specs.declared.EndsBy.{EndsBy}
 use Rattle.inverse.specs.Inverse.{inverseBy}
-use Rattle.inverse.proofs.Timely.{Within, default-timely, any-timely}
+use Rattle.inverse.proofs.Timely.{Within, timely}
 use Rattle.inverse.proofs.spline_inverse_by.Reads as spline_inverse_by
 use Rattle.promises.specs.Calls.{Keeps}
 
 -- ---- a curve
-module _ (m : EndsBy) (how : Method) (b : Basis) (y : Float) (ks : List Float) (check : Bool) (limit : ℕ) (ε : Float) (r : Inverted) (p : r ≡ inverseBy m how b y ks check limit ε) (s : how ≡ Steady) where
-  steadily : r ≡ inverseBy m Steady b y ks check limit ε
-  steadily = p ∙ ap (λ (h : Method). inverseBy m h b y ks check limit ε) s
-
-  by-default : ε ≡ defaultPrecision → Within m b y ks check limit 39 r
-  by-default e = subst (Within m b y ks check limit 39) (sym (steadily ∙ ap (inverseBy m Steady b y ks check limit) e)) (default-timely m b y ks check limit)
-
-  by-any : T (fits binary64 ε) → T (clear ε) → T (le (fin false 1 (negsuc 49)) ε) → Within m b y ks check limit 59 r
-  by-any f c l = subst (Within m b y ks check limit 59) (sym steadily) (any-timely m b y ks check limit ε f c l)
+in-time : (m : EndsBy) (how : Method) (b : Basis) (y : Float) (ks : List Float) (check : Bool) (limit : ℕ) (ε : Float) (N : ℕ) (r : Inverted)
+    → r ≡ inverseBy m how b y ks check limit ε → how ≡ Steady → Enough ε N → Within m b ks limit N r
+in-time m how b y ks check limit ε N r p s E =
+    subst (Within m b ks limit N) (sym (p ∙ ap (λ (h : Method). inverseBy m h b y ks check limit ε) s)) (timely m b ks limit y check ε N E)
 
 -- with the default precision
-pub spline-inverse-by-timely : Keeps spline_inverse_by.Learnt (λ κs a z e. a .0 .method ≡ Steady → a .0 .precision ≡ defaultPrecision → Within (a .0 .ends) (a .1 .0) (a .1 .1 .0) (now (a .1 .1 .1 .0)) (a .0 .check) (a .0 .limit) 39 z)
-spline-inverse-by-timely κs a z e p = by-default (a .0 .ends) (a .0 .method) (a .1 .0) (a .1 .1 .0) (now (a .1 .1 .1 .0)) (a .0 .check) (a .0 .limit) (a .0 .precision) z p
+pub spline-inverse-by-timely : Keeps spline_inverse_by.Learnt (λ κs a z e. a .0 .method ≡ Steady → a .0 .precision ≡ defaultPrecision → Within (a .0 .ends) (a .1 .0) (now (a .1 .1 .1 .0)) (a .0 .limit) 39 z)
+spline-inverse-by-timely κs a z e p s d =
+    in-time (a .0 .ends) (a .0 .method) (a .1 .0) (a .1 .1 .0) (now (a .1 .1 .1 .0)) (a .0 .check) (a .0 .limit) (a .0 .precision) 39 z p s (subst (λ (ε : Float). Enough ε 39) (sym d) default-enough)
+
+-- with one of 2^-p at least, p up to 49
+pub spline-inverse-by-power-timely : Keeps spline_inverse_by.Learnt
+    (λ κs a z e. a .0 .method ≡ Steady → (p : ℕ) → p ≤ 49 → T (le (twoToMinus p) (a .0 .precision)) → Within (a .0 .ends) (a .1 .0) (now (a .1 .1 .1 .0)) (a .0 .limit) (p + 6) z)
+spline-inverse-by-power-timely κs a z e q s p l o =
+    in-time (a .0 .ends) (a .0 .method) (a .1 .0) (a .1 .1 .0) (now (a .1 .1 .1 .0)) (a .0 .check) (a .0 .limit) (a .0 .precision) (p + 6) z q s (power-enough (a .0 .precision) p l o)
 
 -- with any of 2^-50 at least
 pub spline-inverse-by-any-timely : Keeps spline_inverse_by.Learnt
-    (λ κs a z e. a .0 .method ≡ Steady → T (fits binary64 (a .0 .precision)) → T (clear (a .0 .precision)) → T (le (fin false 1 (negsuc 49)) (a .0 .precision)) → Within (a .0 .ends) (a .1 .0) (a .1 .1 .0) (now (a .1 .1 .1 .0)) (a .0 .check) (a .0 .limit) 59 z)
-spline-inverse-by-any-timely κs a z e p = by-any (a .0 .ends) (a .0 .method) (a .1 .0) (a .1 .1 .0) (now (a .1 .1 .1 .0)) (a .0 .check) (a .0 .limit) (a .0 .precision) z p
+    (λ κs a z e. a .0 .method ≡ Steady → T (le (twoToMinus 50) (a .0 .precision)) → Within (a .0 .ends) (a .1 .0) (now (a .1 .1 .1 .0)) (a .0 .limit) 59 z)
+spline-inverse-by-any-timely κs a z e p s o =
+    in-time (a .0 .ends) (a .0 .method) (a .1 .0) (a .1 .1 .0) (now (a .1 .1 .1 .0)) (a .0 .check) (a .0 .limit) (a .0 .precision) 59 z p s (any-enough (a .0 .precision) o)
 
--- ---- one segment: at most N + 2 evaluations
-module _ (how : Method) (b : Basis) (y : Float) (cv : List Float) (limit : ℕ) (ε : Float) (r : Inverted) (p : r ≡ inverseSegmentBy (ruleOf how) b y cv limit ε) (s : how ≡ Steady) where
-  steadily-in : r ≡ inverseSegmentBy steady b y cv limit ε
-  steadily-in = p ∙ ap (λ (h : Method). inverseSegmentBy (ruleOf h) b y cv limit ε) s
-
-  segment-by-default : ε ≡ defaultPrecision → SegmentWithin b y cv limit 39 r
-  segment-by-default e = subst (SegmentWithin b y cv limit 39) (sym (steadily-in ∙ ap (inverseSegmentBy steady b y cv limit) e)) (default-segment-timely b y cv limit)
-
-  segment-by-any : T (fits binary64 ε) → T (clear ε) → T (le (fin false 1 (negsuc 49)) ε) → SegmentWithin b y cv limit 59 r
-  segment-by-any f c l = subst (SegmentWithin b y cv limit 59) (sym steadily-in) (any-segment-timely b y cv limit ε f c l)
+-- ---- one segment
+segment-in-time : (how : Method) (b : Basis) (y : Float) (cv : List Float) (limit : ℕ) (ε : Float) (N : ℕ) (r : Inverted)
+    → r ≡ inverseSegmentBy (ruleOf how) b y cv limit ε → how ≡ Steady → Enough ε N → SegmentWithin limit N r
+segment-in-time how b y cv limit ε N r p s E =
+    subst (SegmentWithin limit N) (sym (p ∙ ap (λ (h : Method). inverseSegmentBy (ruleOf h) b y cv limit ε) s)) (segment-timely limit b y cv ε N E)
 
 pub spline-inverse-segment-by-timely : Keeps spline_inverse_segment_by.Learnt
-    (λ κs a z e. (a .1 .1 .1 .1 .1 .0) ≡ Steady → (a .1 .1 .1 .1 .0) ≡ defaultPrecision → SegmentWithin (a .0) (a .1 .0) (now (a .1 .1 .0)) (a .1 .1 .1 .0) 39 z)
-spline-inverse-segment-by-timely κs a z e p = segment-by-default (a .1 .1 .1 .1 .1 .0) (a .0) (a .1 .0) (now (a .1 .1 .0)) (a .1 .1 .1 .0) (a .1 .1 .1 .1 .0) z p
+    (λ κs a z e. (a .1 .1 .1 .1 .1 .0) ≡ Steady → (a .1 .1 .1 .1 .0) ≡ defaultPrecision → SegmentWithin (a .1 .1 .1 .0) 39 z)
+spline-inverse-segment-by-timely κs a z e p s d =
+    segment-in-time (a .1 .1 .1 .1 .1 .0) (a .0) (a .1 .0) (now (a .1 .1 .0)) (a .1 .1 .1 .0) (a .1 .1 .1 .1 .0) 39 z p s (subst (λ (ε : Float). Enough ε 39) (sym d) default-enough)
+
+pub spline-inverse-segment-by-power-timely : Keeps spline_inverse_segment_by.Learnt
+    (λ κs a z e. (a .1 .1 .1 .1 .1 .0) ≡ Steady → (p : ℕ) → p ≤ 49 → T (le (twoToMinus p) (a .1 .1 .1 .1 .0)) → SegmentWithin (a .1 .1 .1 .0) (p + 6) z)
+spline-inverse-segment-by-power-timely κs a z e q s p l o =
+    segment-in-time (a .1 .1 .1 .1 .1 .0) (a .0) (a .1 .0) (now (a .1 .1 .0)) (a .1 .1 .1 .0) (a .1 .1 .1 .1 .0) (p + 6) z q s (power-enough (a .1 .1 .1 .1 .0) p l o)
 
 pub spline-inverse-segment-by-any-timely : Keeps spline_inverse_segment_by.Learnt
-    (λ κs a z e. (a .1 .1 .1 .1 .1 .0) ≡ Steady → T (fits binary64 (a .1 .1 .1 .1 .0)) → T (clear (a .1 .1 .1 .1 .0)) → T (le (fin false 1 (negsuc 49)) (a .1 .1 .1 .1 .0)) → SegmentWithin (a .0) (a .1 .0) (now (a .1 .1 .0)) (a .1 .1 .1 .0) 59 z)
-spline-inverse-segment-by-any-timely κs a z e p = segment-by-any (a .1 .1 .1 .1 .1 .0) (a .0) (a .1 .0) (now (a .1 .1 .0)) (a .1 .1 .1 .0) (a .1 .1 .1 .1 .0) z p
+    (λ κs a z e. (a .1 .1 .1 .1 .1 .0) ≡ Steady → T (le (twoToMinus 50) (a .1 .1 .1 .1 .0)) → SegmentWithin (a .1 .1 .1 .0) 59 z)
+spline-inverse-segment-by-any-timely κs a z e p s o =
+    segment-in-time (a .1 .1 .1 .1 .1 .0) (a .0) (a .1 .0) (now (a .1 .1 .0)) (a .1 .1 .1 .0) (a .1 .1 .1 .1 .0) 59 z p s (any-enough (a .1 .1 .1 .1 .0) o)

@@ -78,7 +78,7 @@ spline-segment-writes-nothing κs a z e p h =
     p .1 ∙ value-kept (chosenOf (a .0)) (λ b. splineSegmentOf b (a .1 .0) (now (a .1 .1 .0))) (now (a .1 .1 .1 .0)) (λ w. h (p .0 ∙ w))
 
 -- of an inversion: the four doubles, and but for 11 the three whole numbers
-place-kept : (c : Chosen) (f : Basis → Inverted) (old : List Float) → NotZero (chosen c noBasis (λ b. invertedReply (f b))) → chosen c old (λ b. placeLeft (f b) old) ≡ old
+pub place-kept : (c : Chosen) (f : Basis → Inverted) (old : List Float) → NotZero (chosen c noBasis (λ b. invertedReply (f b))) → chosen c old (λ b. placeLeft (f b) old) ≡ old
 place-kept Unknown f old h = refl
 place-kept (Known b) f old h = go (f b) h
   where
@@ -87,7 +87,7 @@ place-kept (Known b) f old h = go (f b) h
     go (I.OffCurve n) h = refl
     go (I.Refused r) h = refl
 
-whole-kept : (c : Chosen) (f : Basis → Inverted) (old : List ℕ) → NotZero (chosen c noBasis (λ b. invertedReply (f b))) → (chosen c noBasis (λ b. invertedReply (f b)) ≡ 11 → ⊥) → chosen c old (λ b. wholeLeft (f b) old) ≡ old
+pub whole-kept : (c : Chosen) (f : Basis → Inverted) (old : List ℕ) → NotZero (chosen c noBasis (λ b. invertedReply (f b))) → (chosen c noBasis (λ b. invertedReply (f b)) ≡ 11 → ⊥) → chosen c old (λ b. wholeLeft (f b) old) ≡ old
 whole-kept Unknown f old h g = refl
 whole-kept (Known b) f old h g = go (f b) h g
   where

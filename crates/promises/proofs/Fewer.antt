@@ -20,7 +20,7 @@ use Rattle.inverse.proofs.spline_inverse_with.Reads as spline_inverse_with
 use Rattle.inverse.proofs.spline_inverse.Reads as spline_inverse
 use Rattle.promises.specs.Calls.{Keeps}
 
-reply-fewer : (m : EndsBy) (how : Method) (b : Basis) (y : Float) (ks : List Float) (check : Bool) (limit : ℕ) (ε : Float) (r : Inverted) → r ≡ inverseBy m how b y ks check limit ε → Fewer 2 r (twice m how b y ks check limit ε)
+pub reply-fewer : (m : EndsBy) (how : Method) (b : Basis) (y : Float) (ks : List Float) (check : Bool) (limit : ℕ) (ε : Float) (r : Inverted) → r ≡ inverseBy m how b y ks check limit ε → Fewer 2 r (twice m how b y ks check limit ε)
 reply-fewer m how b y ks check limit ε r e = subst (λ (z : Inverted). Fewer 2 z (twice m how b y ks check limit ε)) (sym e) (inverse-fewer m how b y ks check limit ε)
 
 -- by either rule of the ends and any method

@@ -15,8 +15,8 @@ use Rattle.inverse_segment.specs.Agreed.{Agreed}
 use Rattle.inverse_segment.specs.Segment.{enter, outcomeOf}
 use Rattle.inverse_segment.specs.Answer.{countTold, answered, alone, inverted, inverseSegmentUses, inverseSegmentBy, segmentEvaluationsBy, defaultLimit, defaultPrecision}
 use Rattle.inverse_segment.proofs.Call.{Owed, inverse-segment-listed, inverse-segment-unlisted, inverse-segment-owed, inverse-segment-count}
-use Rattle.inverse_segment.proofs.spline_inverse_segment_with.Reads as spline_inverse_segment_with
-use Rattle.inverse_segment.proofs.spline_inverse_segment.Reads as spline_inverse_segment
+use Rattle.inverse_methods.proofs.spline_inverse_segment_with.Reads as spline_inverse_segment_with
+use Rattle.inverse_methods.proofs.spline_inverse_segment.Reads as spline_inverse_segment
 use Rattle.inverse_methods.specs.declared.Method.{Method}
 use Rattle.inverse_methods.specs.declared.Method.the-variants.{AsCrate}
 use Rattle.inverse_methods.specs.Method.{ruleOf}

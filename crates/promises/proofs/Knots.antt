@@ -26,8 +26,8 @@ use Rattle.convert.specs.declared.Converted.the-variants as C
 use Rattle.convert.specs.Conversion.{convertSegmentUses, convertUses}
 use Rattle.spline.proofs.spline.Reads as spline
 use Rattle.spline.proofs.spline_segment.Reads as spline_segment
-use Rattle.inverse_segment.proofs.spline_inverse_segment_with.Reads as spline_inverse_segment_with
-use Rattle.inverse_segment.proofs.spline_inverse_segment.Reads as spline_inverse_segment
+use Rattle.inverse_methods.proofs.spline_inverse_segment_with.Reads as spline_inverse_segment_with
+use Rattle.inverse_methods.proofs.spline_inverse_segment.Reads as spline_inverse_segment
 use Rattle.inverse_methods.proofs.spline_inverse_segment_by.Reads as spline_inverse_segment_by
 use Rattle.inverse.proofs.spline_inverse_by.Reads as spline_inverse_by
 use Rattle.inverse.proofs.spline_inverse_with.Reads as spline_inverse_with
@@ -60,7 +60,7 @@ first-bad-first (x ∷ xs) h = go (inRange x) refl h (first-bad-first xs)
     go true e k r = after x xs (firstBad xs) e (r k)
     go false e k r = record { below = omega arith; bad = e; before = λ j l. absurd (omega (arith, l)) }
 
-knot-first : (us : Uses) (ks : List Float) (i : ℕ) → applies 4 us ≡ not (allInRange ks) → refusalBy 4 us ≡ BadKnot (firstBad ks) → First us rows (BadKnot i) → FirstBad ks i
+pub knot-first : (us : Uses) (ks : List Float) (i : ℕ) → applies 4 us ≡ not (allInRange ks) → refusalBy 4 us ≡ BadKnot (firstBad ks) → First us rows (BadKnot i) → FirstBad ks i
 knot-first us ks i a b f =
     let p = first-applies us rows (BadKnot i) f in
     let h : allInRange ks ≡ false = not-true (allInRange ks) (sym a ∙ p .0) in

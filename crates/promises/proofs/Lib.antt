@@ -21,5 +21,6 @@ pub mod Telling
 pub mod Uneven
 pub mod NumbersBeyond
 pub mod Spans
+pub mod Steady
 pub mod Programs
 pub mod Sheets

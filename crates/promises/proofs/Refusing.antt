@@ -31,8 +31,8 @@ use Rattle.inverse_segment.specs.Segment.{Outcome, enter, outcomeOf}
 use Rattle.inverse.specs.declared.EndsBy.the-variants.{Knots}
 use Rattle.inverse_segment.specs.Answer.{answered, inverted, alone, inverseSegmentUses, inverseSegmentBy, defaultLimit, defaultPrecision}
 use Rattle.inverse_segment.proofs.Verdicts.{answered-past, refused-by}
-use Rattle.inverse_segment.proofs.spline_inverse_segment_with.Reads as spline_inverse_segment_with
-use Rattle.inverse_segment.proofs.spline_inverse_segment.Reads as spline_inverse_segment
+use Rattle.inverse_methods.proofs.spline_inverse_segment_with.Reads as spline_inverse_segment_with
+use Rattle.inverse_methods.proofs.spline_inverse_segment.Reads as spline_inverse_segment
 use Rattle.inverse.specs.Inverse.{inverseUses, inverseOf}
 use Rattle.inverse.proofs.Refusing.{inverse-refused-only, inverse-refused-where}
 use Rattle.inverse_methods.specs.Method.{ruleOf}
@@ -131,7 +131,7 @@ unfolding convertedOf
 conversion-refused from to ks room r = two-ways (by-answer (first (convertUses from to ks room)) (splineOutput from to ks) r) (by-first (convertUses from to ks room) r)
 
 -- ---- and so do the calls
-carried : {Z : Type 0} {z d t : Z} {Q : Type 0} → z ≡ d → Exactly (d ≡ t) Q → Exactly (z ≡ t) Q
+pub carried : {Z : Type 0} {z d t : Z} {Q : Type 0} → z ≡ d → Exactly (d ≡ t) Q → Exactly (z ≡ t) Q
 carried e x = (λ p. x .0 (sym e ∙ p), λ q. e ∙ x .1 q)
 
 pub spline-refuses : Keeps spline.Learnt (λ κs a z e. (r : Refusal) → Exactly (z ≡ E.Refused r) (First (splineUses (a .0) (a .1 .0) (now (a .1 .1 .0))) rows r))

@@ -197,12 +197,12 @@ table-convert-spline-writes-nothing κs a z e p r h =
     p .1 ∙ kept (a .0 .span) (a .1 .0) (tableConvertedOf (a .0) (a .1 .0) (now (a .1 .1 .0)) (length (now (a .1 .1 .1 .0)))) (now (a .1 .1 .1 .0)) r (sym (p .0) ∙ h)
 
 -- ---- the second that is told
-at-second : (s : ℕ) (i : Inverted) (p : Place) (n : ℕ) → timedOf s i ≡ T.At p n → (i ≡ I.At p) × (n ≡ secondOf s (p .parameter))
+pub at-second : (s : ℕ) (i : Inverted) (p : Place) (n : ℕ) → timedOf s i ≡ T.At p n → (i ≡ I.At p) × (n ≡ secondOf s (p .parameter))
 at-second s (I.Refused r) p n h = never (cc)
 at-second s (I.OffCurve m) p n h = never (cc)
 at-second s (I.At q) p n h = let e : q ≡ p = cc in let f : secondOf s (q .parameter) ≡ n = cc in (ap I.At e, sym f ∙ ap (λ (x : Place). secondOf s (x .parameter)) e)
 
-past : (v : Verdict) (a : Timed) (p : Place) (n : ℕ) → timedUnless v a ≡ T.At p n → (v ≡ Passed) × (a ≡ T.At p n)
+pub past : (v : Verdict) (a : Timed) (p : Place) (n : ℕ) → timedUnless v a ≡ T.At p n → (v ≡ Passed) × (a ≡ T.At p n)
 past Passed a p n h = (refl, h)
 past (Failed r) a p n h = never (cc)
 

@@ -88,12 +88,12 @@ timed-whole-kept (T.At p s) old h g = absurd (h refl)
 timed-whole-kept (T.OffCurve n) old h g = absurd (g refl)
 timed-whole-kept (T.Refused r) old h g = refl
 
-place-kept : (c : Chosen) (w : Way) (f : Basis → EndsBy → Method → Timed) (old : List Float) → NotZero (chosen c noBasis (λ b. way w noBasis (λ e m. timedReply (f b e m)))) → chosen c old (λ b. way w old (λ e m. timedPlace (f b e m) old)) ≡ old
+pub place-kept : (c : Chosen) (w : Way) (f : Basis → EndsBy → Method → Timed) (old : List Float) → NotZero (chosen c noBasis (λ b. way w noBasis (λ e m. timedReply (f b e m)))) → chosen c old (λ b. way w old (λ e m. timedPlace (f b e m) old)) ≡ old
 place-kept Unknown w f old h = refl
 place-kept (Known b) W.Unknown f old h = refl
 place-kept (Known b) (W.Known e m) f old h = timed-place-kept (f b e m) old h
 
-whole-kept : (c : Chosen) (w : Way) (f : Basis → EndsBy → Method → Timed) (old : List ℕ) → NotZero (chosen c noBasis (λ b. way w noBasis (λ e m. timedReply (f b e m)))) → (chosen c noBasis (λ b. way w noBasis (λ e m. timedReply (f b e m))) ≡ 11 → ⊥) → chosen c old (λ b. way w old (λ e m. timedWhole (f b e m) old)) ≡ old
+pub whole-kept : (c : Chosen) (w : Way) (f : Basis → EndsBy → Method → Timed) (old : List ℕ) → NotZero (chosen c noBasis (λ b. way w noBasis (λ e m. timedReply (f b e m)))) → (chosen c noBasis (λ b. way w noBasis (λ e m. timedReply (f b e m))) ≡ 11 → ⊥) → chosen c old (λ b. way w old (λ e m. timedWhole (f b e m) old)) ≡ old
 whole-kept Unknown w f old h g = refl
 whole-kept (Known b) W.Unknown f old h g = refl
 whole-kept (Known b) (W.Known e m) f old h g = timed-whole-kept (f b e m) old h g

@@ -39,8 +39,8 @@ use Rattle.inverse.specs.EndRule.{atLow, atHigh, EndRule, endRuleOf}
 use Rattle.inverse.specs.Curve.{parameterOf, ended, located, evaluations}
 use Rattle.inverse.specs.Inverse.{inverseUses, inverseBy, evaluationsBy}
 use Rattle.inverse.proofs.Facts.{AtPlace}
-use Rattle.inverse_segment.proofs.spline_inverse_segment_with.Reads as spline_inverse_segment_with
-use Rattle.inverse_segment.proofs.spline_inverse_segment.Reads as spline_inverse_segment
+use Rattle.inverse_methods.proofs.spline_inverse_segment_with.Reads as spline_inverse_segment_with
+use Rattle.inverse_methods.proofs.spline_inverse_segment.Reads as spline_inverse_segment
 use Rattle.inverse_methods.proofs.spline_inverse_segment_by.Reads as spline_inverse_segment_by
 use Rattle.inverse.proofs.spline_inverse_by.Reads as spline_inverse_by
 use Rattle.inverse.proofs.spline_inverse_with.Reads as spline_inverse_with

@@ -33,6 +33,7 @@ pub mod hours;
 pub mod options;
 pub mod seams;
 pub mod spans;
+pub mod steady;
 
 pub enum Chosen {
     Known(Basis),
@@ -202,7 +203,7 @@ pub extern "C" fn simmerstoat_spline_inverse_segment(
         return 255;
     };
     place_told(
-        inverse_segment::spline_inverse_segment(b, y, cv),
+        inverse_methods::spline_inverse_segment(b, y, cv),
         place,
         whole,
     )
@@ -228,7 +229,7 @@ pub extern "C" fn simmerstoat_spline_inverse_segment_with(
         return 255;
     };
     place_told(
-        inverse_segment::spline_inverse_segment_with(b, y, cv, limit, precision),
+        inverse_methods::spline_inverse_segment_with(b, y, cv, limit, precision),
         place,
         whole,
     )

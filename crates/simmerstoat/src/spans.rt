@@ -49,7 +49,7 @@ pub extern "C" fn simmerstoat_table_spline(
 }
 
 // A place leaves what it leaves without a span, and its second; refusal 11 its count.
-fn timed_told(a: Timed, place: &mut [f64; 4], whole: &mut [usize; 4]) -> u32
+pub fn timed_told(a: Timed, place: &mut [f64; 4], whole: &mut [usize; 4]) -> u32
     ensures { λ r. ⌜ (r ≡ timedReply a) × (now (place .exit) ≡ timedPlace a (now (place .entry))) × (now (whole .exit) ≡ timedWhole a (now (whole .entry))) ⌝ }
 {
     match a {

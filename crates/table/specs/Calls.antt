@@ -12,10 +12,14 @@ use Rattle.error.specs.declared.Verdict.{Verdict}
 use Rattle.error.specs.declared.Verdict.the-variants.{Passed, Failed}
 use Rattle.error.specs.Refusals.{Uses, first}
 use Rattle.inverse.specs.declared.EndsBy.{EndsBy}
+use Rattle.inverse.specs.declared.EndsBy.the-variants.{Knots}
 use Rattle.inverse.specs.Inverse.{inverseUses, inverseBy}
 use Rattle.inverse_segment.specs.declared.Inverted.{Inverted}
 use Rattle.inverse_segment.specs.declared.Inverted.the-variants as I
+use Rattle.inverse_segment.specs.Answer.{defaultPrecision}
 use Rattle.inverse_methods.specs.declared.Method.{Method}
+use Rattle.inverse_methods.specs.declared.Method.the-variants.{Steady}
+use Rattle.inverse_methods.specs.Method.{steadyLimit}
 use Rattle.spline.specs.Evaluation.{splineUses, splineOf}
 use Rattle.spline.specs.declared.Evaluated.{Evaluated}
 use Rattle.spline.specs.declared.Evaluated.the-variants as E
@@ -52,6 +56,10 @@ timedUnless (Failed r) a = T.Refused r
 unfoldable pub tableInverseBy : EndsBy → Method → Table → Float → List Float → Bool → ℕ → Float → Timed
 tableInverseBy m how t y ks check limit ε =
     timedUnless (verdictOf t (inverseUses (t .basis) y ks check limit ε)) (timedOf (t .span) (inverseBy m how (t .basis) y ks check limit ε))
+
+-- by the knots and by the steady method, with its defaults
+abbrev pub tableSteadyOf : Table → Float → List Float → Bool → Timed
+tableSteadyOf t y ks check = tableInverseBy Knots Steady t y ks check steadyLimit defaultPrecision
 
 -- ---- conversion
 abbrev pub conversionUnless : Verdict → Conversion → Conversion

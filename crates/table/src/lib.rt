@@ -12,7 +12,7 @@ ghost use Rattle.inverse_segment.specs.Answer.{defaultLimit, defaultPrecision};
 ghost use Rattle.inverse_methods.specs.declared.Method.the-variants.{AsCrate};
 ghost use Rattle.checks.specs.Checks.{curveLength};
 ghost use Rattle.table.specs.Second.{goodSpan, secondsOf, secondsIn};
-ghost use Rattle.table.specs.Calls.{timedOf, tableSplineOf, tableInverseBy, tableConvertedOf, handedOf};
+ghost use Rattle.table.specs.Calls.{timedOf, tableSplineOf, tableInverseBy, tableSteadyOf, tableConvertedOf, handedOf};
 use basis::Basis;
 use convert::Converted;
 use error::Refusal;
@@ -124,6 +124,20 @@ pub fn table_spline_inverse(t: Table, y: f64, knots: &[f64], check: bool) -> Tim
         precision: 1e-10,
         ends: EndsBy::Knots,
         method: Method::AsCrate,
+    };
+    table_spline_inverse_by(o, t, y, knots)
+}
+
+// By the knots and by the steady method, with limit 64 and precision 1e-10: never spent.
+pub fn table_spline_inverse_steady(t: Table, y: f64, knots: &[f64], check: bool) -> Timed
+    ensures { λ r. ⌜ r ≡ tableSteadyOf t y (now (knots .entry)) check ⌝ }
+{
+    let o = Options {
+        check: check,
+        limit: 64,
+        precision: 1e-10,
+        ends: EndsBy::Knots,
+        method: Method::Steady,
     };
     table_spline_inverse_by(o, t, y, knots)
 }

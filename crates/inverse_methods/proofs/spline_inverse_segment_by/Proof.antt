@@ -1,4 +1,5 @@
--- The verdict is the definition's. Where it passed there are four knots; trying the segment gives its place, or 2 evaluations off it.
+-- The verdict is the definition's. Where it passed there are four knots, and the place is the method's in a segment whose ends enclose the target
+-- (`place-is`), or 2 evaluations off it (`off-is`).
 use Rattle.inverse_methods.specs.Method.{ruleOf}
 use Rattle.inverse_segment.proofs.Verdicts.{four-for, refused-is, place-is, off-is}
 use borrow.Author.Needs.{needs}
@@ -15,25 +16,42 @@ enum-told : tie.Need-enum-told
 enum-told c = search needs
 
 weights-requires : tie.Need-weights-requires
-weights-requires c κs = four-for (ruleOf (c .before .before .before .before .args .how)) (c .before .before .before .before .args .b) (c .before .before .before .before .args .y) (c .before .before .before .before .args .cv .now) (c .before .before .before .before .args .limit) (c .before .before .before .before .args .precision) (c .before .before .segment-verdict .ensures) (c .enum-told .given .1)
+weights-requires c κs =
+    let a = c .before .before .before .before .args in
+    four-for (ruleOf (a .how)) (a .b) (a .y) (a .cv .now) (a .limit) (a .precision) (c .before .before .segment-verdict .ensures) (c .enum-told .given .1)
 
-enter-requires : tie.Need-enter-requires
-enter-requires c κs = search needs
+settle-requires : tie.Need-settle-requires
+settle-requires c κs = search needs
 
-enum-known-t : tie.Need-enum-known-t
-enum-known-t c = search needs
+array-read-entered-by : tie.Need-array-read-entered-by
+array-read-entered-by c = search needs
 
-enum-told-2 : tie.Need-enum-told-2
-enum-told-2 c = search needs
+array-read-entered-by-2 : tie.Need-array-read-entered-by-2
+array-read-entered-by-2 c = search needs
+
+entered-by-requires : tie.Need-entered-by-requires
+entered-by-requires c κs = search needs
 
 returns : tie.Need-returns
-returns c = off-is (ruleOf (c .before .before .before .before .before .before .before .before .args .how)) (c .before .before .before .before .before .before .before .before .args .b) (c .before .before .before .before .before .before .before .before .args .y) (c .before .before .before .before .before .before .before .before .args .cv .now) (c .before .before .before .before .before .before .before .before .args .limit) (c .before .before .before .before .before .before .before .before .args .precision) (c .before .before .before .before .before .before .segment-verdict .ensures) (c .before .before .before .before .enum-told .given .1) (c .before .before .before .weights .result) (c .before .before .before .weights .ensures) (c .before .before .enter .result) (c .before .before .enter .ensures) (c .enum-told2 .given .1)
+returns c =
+    let a = c .before .before .before .before .before .before .before .before .before .args in
+    let verdict = c .before .before .before .before .before .before .before .segment-verdict .ensures in
+    let passed = c .before .before .before .before .before .enum-told .given .1 in
+    let sums = c .before .before .before .before .weights in
+    place-is (ruleOf (a .how)) (a .b) (a .y) (a .cv .now) (a .limit) (a .precision) verdict passed (sums .result) (sums .ensures) (c .before .before .settle .ensures) (c .before .if1 .taken) (c .entered-by .ensures)
 
 returns-2 : tie.Need-returns-2
-returns-2 c = refused-is (ruleOf (c .before .before .before .before .before .args .how)) (c .before .before .before .before .before .args .b) (c .before .before .before .before .before .args .y) (c .before .before .before .before .before .args .cv .now) (c .before .before .before .before .before .args .limit) (c .before .before .before .before .before .args .precision) (c .before .before .before .segment-verdict .ensures) (c .before .v .given .1)
+returns-2 c =
+    let a = c .before .before .before .before .before .args in
+    refused-is (ruleOf (a .how)) (a .b) (a .y) (a .cv .now) (a .limit) (a .precision) (c .before .before .before .segment-verdict .ensures) (c .before .v .given .1)
 
 returns-3 : tie.Need-returns-3
-returns-3 c = place-is (ruleOf (c .before .before .before .before .before .before .before .before .before .args .how)) (c .before .before .before .before .before .before .before .before .before .args .b) (c .before .before .before .before .before .before .before .before .before .args .y) (c .before .before .before .before .before .before .before .before .before .args .cv .now) (c .before .before .before .before .before .before .before .before .before .args .limit) (c .before .before .before .before .before .before .before .before .before .args .precision) (c .before .before .before .before .before .before .before .segment-verdict .ensures) (c .before .before .before .before .before .enum-told .given .1) (c .before .before .before .before .weights .result) (c .before .before .before .before .weights .ensures) (c .before .before .before .enter .result) (c .before .before .before .enter .ensures) (c .before .t .given .1)
+returns-3 c =
+    let a = c .before .before .before .before .before .before .before .before .args in
+    let verdict = c .before .before .before .before .before .before .segment-verdict .ensures in
+    let passed = c .before .before .before .before .enum-told .given .1 in
+    let sums = c .before .before .before .weights in
+    off-is (ruleOf (a .how)) (a .b) (a .y) (a .cv .now) (a .limit) (a .precision) verdict passed (sums .result) (sums .ensures) (c .before .settle .ensures) (c .if1 .left)
 
 pub spline-inverse-segment-by-spec : {M : Type 1} → statement M
 spline-inverse-segment-by-spec =
@@ -43,9 +61,10 @@ spline-inverse-segment-by-spec =
     enum-known-v
     enum-told
     weights-requires
-    enter-requires
-    enum-known-t
-    enum-told-2
+    settle-requires
+    array-read-entered-by
+    array-read-entered-by-2
+    entered-by-requires
     returns
     returns-2
     returns-3)

@@ -1,9 +1,9 @@
 -- Both end values are the cubic at 0 and at 1, and what is kept are the row sums and these two.
 use lib.Ieee.{ofBits}
-use Rattle.inverse_search.proofs.Calls.{settled}
+use Rattle.inverse_segment.proofs.Ends.{settled}
 use borrow.Author.Needs.{needs}
-use Rattle.inverse_search.proofs.settle.Statement.{statement}
-use Rattle.inverse_search.proofs.settle.Tie as tie
+use Rattle.inverse_segment.proofs.settle.Statement.{statement}
+use Rattle.inverse_segment.proofs.settle.Tie as tie
 
 horner-requires : tie.Need-horner-requires
 horner-requires c κs = search needs
