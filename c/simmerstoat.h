@@ -146,6 +146,11 @@ uint32_t simmerstoat_spline_inverse_with(uint8_t basis, double y, const double *
 uint32_t simmerstoat_spline_inverse_by(uint8_t basis, double y, const double *knots, size_t n, bool check, uint16_t limit,
                                        double precision, uint8_t ends, uint8_t method, double place[4], size_t whole[3]);
 
+/* By the steady method: limit 64, precision 1e-10, the ends by the knots. It never gives SIMMERSTOAT_SPENT, and makes at most
+ * 63 evaluations on up to 12 segments and 43 + 2 b above, whatever the curve. Refusals: 255, 1, 2, 3, 5, 4, 10, 11. */
+uint32_t simmerstoat_spline_inverse_steady(uint8_t basis, double y, const double *knots, size_t n, bool check,
+                                           double place[4], size_t whole[3]);
+
 /* Where one segment of four knots is at y: limit 32, precision 1e-10. Refusals: 255, 1, 2, 5, 4, 11. */
 uint32_t simmerstoat_spline_inverse_segment(uint8_t basis, double y, const double *cv, size_t n, double place[4],
                                             size_t whole[3]);
@@ -157,6 +162,11 @@ uint32_t simmerstoat_spline_inverse_segment_with(uint8_t basis, double y, const 
 /* The same, with a method. Refusals: 255, 1, 2, 5, 6, 7, 4, 11. */
 uint32_t simmerstoat_spline_inverse_segment_by(uint8_t basis, double y, const double *cv, size_t n, uint16_t limit,
                                                double precision, uint8_t method, double place[4], size_t whole[3]);
+
+/* By the steady method: limit 64, precision 1e-10. It never gives SIMMERSTOAT_SPENT, and makes at most 41 evaluations.
+ * Refusals: 255, 1, 2, 5, 4, 11. */
+uint32_t simmerstoat_spline_inverse_segment_steady(uint8_t basis, double y, const double *cv, size_t n, double place[4],
+                                                   size_t whole[3]);
 
 /* The four knots of one segment in another basis, to the first four places of out, of which there are room; further
  * places keep what they hold. Refusals: 255, 1, 2, 8, 9, 4. */
@@ -203,6 +213,10 @@ uint32_t simmerstoat_table_spline_inverse(uint8_t basis, uint32_t span, double y
 uint32_t simmerstoat_table_spline_inverse_by(uint8_t basis, uint32_t span, double y, const double *knots, size_t n,
                                              bool check, uint16_t limit, double precision, uint8_t ends, uint8_t method,
                                              double place[4], size_t whole[4]);
+
+/* As simmerstoat_spline_inverse_steady. Refusals: 255, 1, 2, 3, 14, 5, 4, 10, 11. */
+uint32_t simmerstoat_table_spline_inverse_steady(uint8_t basis, uint32_t span, double y, const double *knots, size_t n,
+                                                 bool check, double place[4], size_t whole[4]);
 
 /* The knots in another basis, as simmerstoat_convert_spline. The new table has the same span, which is written to handed.
  * Refusals: 255, 1, 2, 3, 14, 8, 9, 4. */

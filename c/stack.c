@@ -44,6 +44,12 @@ static void spline_inverse_by(void) {
 static void spline_inverse_segment_by(void) {
     reply = simmerstoat_spline_inverse_segment_by(basis, 0.991 + at * 0.02, knots + 99, 4, 300, 1e-300, other % 3, place, whole);
 }
+static void spline_inverse_steady(void) {
+    reply = simmerstoat_spline_inverse_steady(basis, at * 40, knots, length, true, place, whole);
+}
+static void spline_inverse_segment_steady(void) {
+    reply = simmerstoat_spline_inverse_segment_steady(basis, 0.991 + at * 0.02, knots + 99, 4, place, whole);
+}
 static void convert_segment(void) { reply = simmerstoat_convert_segment(basis, other, knots, 4, out, 4); }
 static void convert_spline(void) {
     reply = simmerstoat_convert_spline(basis, other, knots, length, out, 4 * KNOTS, &written);
@@ -80,6 +86,8 @@ int main(void) {
                  {"spline_inverse_segment", spline_inverse_segment, INVERSION},
                  {"spline_inverse_segment_with", spline_inverse_segment_with, INVERSION},
                  {"spline_inverse_segment_by", spline_inverse_segment_by, INVERSION},
+                 {"spline_inverse_steady", spline_inverse_steady, INVERSION},
+                 {"spline_inverse_segment_steady", spline_inverse_segment_steady, INVERSION},
                  {"convert_segment", convert_segment, CONVERSION},
                  {"convert_spline", convert_spline, CONVERSION},
                  {"convert_spline_strict", convert_spline_strict, STRICT}};

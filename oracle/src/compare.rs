@@ -5,7 +5,7 @@ use std::fmt::Debug;
 use std::process;
 
 use crate::crates;
-use crate::model::{self, Fate, Inversion, Options, Refused};
+use crate::model::{self, Ends, Fate, Inversion, Method, Options, Refused};
 use crate::port::{self, Converted, Inverted, Valued, UNTOUCHED, UNTOUCHED_WHOLE};
 use crate::promised;
 use crate::tally::{of_ground, of_reply, Call, Tally, PLAIN};
@@ -103,6 +103,11 @@ fn is_default(o: &Options) -> bool {
     o.is_the_crates() && o.limit == 32 && o.precision == 1e-10
 }
 
+/// Whether these are the steady method's defaults; `ends` is a curve's alone.
+fn is_steady(o: &Options) -> bool {
+    o.method == Method::Steady && o.limit == Options::STEADY.limit && o.precision == Options::STEADY.precision
+}
+
 pub fn spline_inverse(t: &mut Tally, b: usize, y: f64, knots: &[f64], o: &Options) {
     let input = Input { call: Call::curve_inversion(o), bases: &[b], at: y, knots, more: o };
     let expected = model::spline_inverse(b, y, knots, o);
@@ -122,6 +127,9 @@ pub fn spline_inverse(t: &mut Tally, b: usize, y: f64, knots: &[f64], o: &Option
     }
     if is_default(o) {
         hold("the call with options", &input, ours, port::spline_inverse_default(b as u8, y, knots, o.check));
+    }
+    if is_steady(o) && o.ends == Ends::Knots {
+        hold("the call with options", &input, ours, port::spline_inverse_steady(b as u8, y, knots, o.check));
     }
 }
 
@@ -145,6 +153,9 @@ pub fn spline_inverse_segment(t: &mut Tally, b: usize, y: f64, cv: &[f64], o: &O
     }
     if is_default(o) {
         hold("the call with options", &input, ours, port::spline_inverse_segment_default(b as u8, y, cv));
+    }
+    if is_steady(o) {
+        hold("the call with options", &input, ours, port::spline_inverse_segment_steady(b as u8, y, cv));
     }
 }
 

@@ -7,6 +7,7 @@ pub mod modes;
 pub mod parts;
 pub mod port;
 pub mod promised;
+pub mod sets;
 pub mod steady;
 pub mod strict;
 pub mod table;

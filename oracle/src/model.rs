@@ -127,6 +127,9 @@ impl Options {
     pub const DEFAULT: Options =
         Options { check: false, limit: 32, precision: 1e-10, ends: Ends::Knots, method: Method::AsCrate };
 
+    /// The steady method's: no order check, 64 rounds, 1e-10.
+    pub const STEADY: Options = Options { limit: 64, method: Method::Steady, ..Options::DEFAULT };
+
     /// Whether the crate has this inversion.
     pub fn is_the_crates(&self) -> bool {
         self.ends == Ends::Knots && self.method == Method::AsCrate
@@ -169,9 +172,18 @@ fn row(m: &[f64; 4], cv: &[f64]) -> f64 {
     ((cv[0] * m[0] + cv[1] * m[1]) + cv[2] * m[2]) + cv[3] * m[3]
 }
 
+/// The row sums of a segment.
+pub fn sums(b: usize, cv: &[f64]) -> [f64; 4] {
+    MATRIX[b].map(|m| row(&m, cv))
+}
+
+/// The cubic of these row sums.
+pub fn cubic(w: &[f64; 4], t: f64) -> f64 {
+    ((w[0] * t + w[1]) * t + w[2]) * t + w[3]
+}
+
 pub fn value(b: usize, t: f64, cv: &[f64]) -> f64 {
-    let m = &MATRIX[b];
-    ((row(&m[0], cv) * t + row(&m[1], cv)) * t + row(&m[2], cv)) * t + row(&m[3], cv)
+    cubic(&sums(b, cv), t)
 }
 
 pub fn spline_segment(b: usize, x: f64, cv: &[f64]) -> Result<f64, Refused> {

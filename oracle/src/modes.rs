@@ -25,12 +25,15 @@ fn knots(t: &mut Tally, r: &mut Rng, b: usize, knots: &[f64]) {
                 }
             }
         }
+        let steady = Options { check: o.check, ..Options::STEADY };
+        compare::spline_inverse(t, b, y, knots, &steady);
         let s = r.below(knots.len().max(1));
         let cv = &knots[s.min(knots.len())..(s + 4).min(knots.len())];
         let y = inputs::target(r, b, cv);
         for method in [Method::Taught, Method::Steady] {
             compare::spline_inverse_segment(t, b, y, cv, &Options { method, ..o });
         }
+        compare::spline_inverse_segment(t, b, y, cv, &steady);
     }
 }
 
@@ -50,6 +53,10 @@ fn once(t: &mut Tally) {
                     if b > 5 || method > 2 {
                         assert_eq!(port::spline_inverse_segment_numbered(b, y, cv, limit, y, method), nothing);
                         t.add(Call::SegmentTaught, NO_NUMBER, false);
+                    }
+                    if b > 5 {
+                        assert_eq!(port::spline_inverse_steady(b, y, cv, true), nothing);
+                        assert_eq!(port::spline_inverse_segment_steady(b, y, cv), nothing);
                     }
                 }
             }

@@ -93,6 +93,13 @@ pub fn spline_inverse_default(b: u8, y: f64, knots: &[f64], check: bool) -> Inve
     })
 }
 
+/// By the steady method with its defaults.
+pub fn spline_inverse_steady(b: u8, y: f64, knots: &[f64], check: bool) -> Inverted {
+    inverted(|place, whole| unsafe {
+        raw::simmerstoat_spline_inverse_steady(b, y, knots.as_ptr(), knots.len(), check, place, whole)
+    })
+}
+
 pub fn spline_inverse_segment_numbered(b: u8, y: f64, cv: &[f64], limit: u16, precision: f64, method: u8) -> Inverted {
     inverted(|place, whole| unsafe {
         let (at, n) = (cv.as_ptr(), cv.len());
@@ -115,6 +122,13 @@ pub fn spline_inverse_segment_with(b: u8, y: f64, cv: &[f64], o: &Options) -> In
 pub fn spline_inverse_segment_default(b: u8, y: f64, cv: &[f64]) -> Inverted {
     inverted(|place, whole| unsafe {
         raw::simmerstoat_spline_inverse_segment(b, y, cv.as_ptr(), cv.len(), place, whole)
+    })
+}
+
+/// By the steady method with its defaults.
+pub fn spline_inverse_segment_steady(b: u8, y: f64, cv: &[f64]) -> Inverted {
+    inverted(|place, whole| unsafe {
+        raw::simmerstoat_spline_inverse_segment_steady(b, y, cv.as_ptr(), cv.len(), place, whole)
     })
 }
 

@@ -2,7 +2,7 @@
 
 use crate::compare;
 use crate::inputs::{self, Rng, LIMITS, PRECISIONS, SEGMENTS};
-use crate::model::{Ends, Method, Options, STEP};
+use crate::model::{Ends, Options, STEP};
 use crate::tally::Tally;
 
 /// Inversions of a whole run whose answer took rounds; those that end at once come on top.
@@ -39,10 +39,8 @@ fn curve(t: &mut Tally, r: &mut Rng, b: usize, k: usize) {
 fn options(r: &mut Rng) -> Options {
     let o = Options {
         check: r.below(4) == 0,
-        limit: 64,
         ends: r.one_of(&[Ends::Knots, Ends::Curve]),
-        method: Method::Steady,
-        ..Options::DEFAULT
+        ..Options::STEADY
     };
     match r.below(2) {
         0 => o,

@@ -65,6 +65,12 @@ fn spline_inverse(b: u8, span: u32, y: f64, knots: &[f64], check: bool) -> Timed
     })
 }
 
+fn spline_inverse_steady(b: u8, span: u32, y: f64, knots: &[f64], check: bool) -> Timed {
+    timed(|place, whole| unsafe {
+        raw::simmerstoat_table_spline_inverse_steady(b, span, y, knots.as_ptr(), knots.len(), check, place, whole)
+    })
+}
+
 fn spline_inverse_by(b: u8, span: u32, y: f64, knots: &[f64], o: &Options, ends: u8, method: u8) -> Timed {
     timed(|place, whole| unsafe {
         let (at, n) = (knots.as_ptr(), knots.len());
@@ -105,6 +111,9 @@ fn compare_inverse(t: &mut Tally, b: usize, span: u32, y: f64, knots: &[f64], o:
     let plain = Options { limit: 32, precision: 1e-10, ends: Ends::Knots, method: Method::AsCrate, ..*o };
     let theirs = expected(&inversion(b, span, y, knots, &plain), span);
     hold("the model by default", &input, theirs, spline_inverse(b as u8, span, y, knots, o.check));
+    let steady = Options { check: o.check, ..Options::STEADY };
+    let theirs = expected(&inversion(b, span, y, knots, &steady), span);
+    hold("the model by the steady method", &input, theirs, spline_inverse_steady(b as u8, span, y, knots, o.check));
 }
 
 fn knots(t: &mut Tally, r: &mut Rng, b: usize, knots: &[f64]) {
@@ -139,6 +148,7 @@ fn once(t: &mut Tally) {
     hold("no ends", &input, nothing, spline_inverse_by(4, 1, 0.5, &KNOTS, &o, 2, 0));
     hold("no method", &input, nothing, spline_inverse_by(4, 1, 0.5, &KNOTS, &o, 0, 3));
     hold("no basis", &input, nothing, spline_inverse(255, 0, 0.5, &KNOTS, true));
+    hold("no basis", &input, nothing, spline_inverse_steady(255, 0, 0.5, &KNOTS, true));
     hold("no basis", &input, Valued { reply: 255, value: UNTOUCHED }, spline(6, 0, 0.5, &KNOTS));
     hold("no basis", &input, converted(Err(Refused { no: 255, place: 0 }), 4, true), convert_spline(4, 1, 6, &KNOTS, 4).0);
     for (span, y, second) in [(86_400, 0.0, 0), (86_400, 1.0, 86_400), (86_400, 0.5, 43_200), (65_536, 0.25, 16_384), (1, 0.999, 0)] {

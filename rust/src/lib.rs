@@ -55,6 +55,7 @@ pub mod convert;
 mod double;
 mod options;
 pub mod raw;
+mod steady;
 pub mod uneven;
 pub mod strict;
 pub mod table;
@@ -65,6 +66,7 @@ pub(crate) use answer::{done, found};
 pub use basis::*;
 pub use double::Double;
 pub use options::{Ends, Method, SplineInverseOptions};
+pub use steady::{spline_inverse_segment_steady, spline_inverse_steady};
 
 pub mod prelude {
     //! All names but the raw exports.

@@ -84,6 +84,25 @@ extern "C" {
         whole: *mut [usize; 3],
     ) -> u32;
 
+    pub fn simmerstoat_spline_inverse_steady(
+        basis: u8,
+        y: f64,
+        knots: *const f64,
+        n: usize,
+        check: bool,
+        place: *mut [f64; 4],
+        whole: *mut [usize; 3],
+    ) -> u32;
+
+    pub fn simmerstoat_spline_inverse_segment_steady(
+        basis: u8,
+        y: f64,
+        cv: *const f64,
+        n: usize,
+        place: *mut [f64; 4],
+        whole: *mut [usize; 3],
+    ) -> u32;
+
     pub fn simmerstoat_convert_segment(from: u8, to: u8, cv: *const f64, n: usize, out: *mut f64, room: usize) -> u32;
 
     pub fn simmerstoat_convert_spline(
@@ -153,6 +172,17 @@ extern "C" {
         precision: f64,
         ends: u8,
         method: u8,
+        place: *mut [f64; 4],
+        whole: *mut [usize; 4],
+    ) -> u32;
+
+    pub fn simmerstoat_table_spline_inverse_steady(
+        basis: u8,
+        span: u32,
+        y: f64,
+        knots: *const f64,
+        n: usize,
+        check: bool,
         place: *mut [f64; 4],
         whole: *mut [usize; 4],
     ) -> u32;

@@ -105,6 +105,27 @@ impl<B: Basis> Table<B> {
         timed(reply, place, whole)
     }
 
+    /// The place where the curve is at `y` and its second, by the steady method with its defaults and the order check.
+    ///
+    /// Refusals: those of [`crate::spline_inverse_steady`], and `BadSpan` after the lengths.
+    pub fn spline_inverse_steady(self, y: f64, knots: &[f64]) -> Result<Timed, Refusal> {
+        let (mut place, mut whole) = ([0.0; 4], [0; 4]);
+        // SAFETY: as in `spline_inverse`.
+        let reply = unsafe {
+            raw::simmerstoat_table_spline_inverse_steady(
+                B::NUMBER,
+                self.span,
+                y,
+                knots.as_ptr(),
+                knots.len(),
+                true,
+                &mut place,
+                &mut whole,
+            )
+        };
+        timed(reply, place, whole)
+    }
+
     /// The table over `Out`, which has the same span, and how many knots of it were written into the lent buffer. On a
     /// refusal the buffer keeps all.
     ///
