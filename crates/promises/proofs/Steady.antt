@@ -4,6 +4,8 @@ use mathlib.Core.Path.{_≡_, refl, sym, subst, _∙_}
 use mathlib.Core.Bool.{Bool, true, not}
 use mathlib.Core.List.{List, _∷_}
 use Prim.Native.Nat.{ℕ, _≤_}
+use native.Mathlib.Nat.{le-trans}
+use native.Mathlib.Omega.{arith}
 use denote.Ref.{now}
 use lib.Dec.{T, lit<}
 use lib.ListN.{length}
@@ -32,9 +34,9 @@ use Rattle.inverse.specs.declared.EndsBy.the-variants.{Knots}
 use Rattle.inverse.specs.Inverse.{inverseUses, steadyOf}
 use Rattle.inverse.proofs.Fewer.{Fewer, twice}
 use Rattle.inverse.proofs.Promises.{Promised, reply-promised}
-use Rattle.inverse.proofs.Refusals.{inverse-refused-only, inverse-refused-where}
+use Rattle.inverse.proofs.Refusals.{inverse-refused-only, inverse-refused-where, inverse-turns-back}
 use Rattle.inverse.proofs.Timely.{timely}
-use Rattle.inverse.proofs.TurnsBack.{AgainstAt, inverse-turns-back}
+use Rattle.inverse.proofs.TurnsBack.{AgainstAt}
 use Rattle.inverse.proofs.spline_inverse_steady.Reads as spline_inverse_steady
 use Rattle.table.specs.declared.Table.{Table}
 use Rattle.table.specs.declared.Timed.{Timed}
@@ -95,7 +97,7 @@ abbrev pub SteadyWithin : Basis → List Float → Inverted → Type 0
 SteadyWithin b ks z = NeverSpent z × (countTold z ≤ boundOf (segmentsOf b (length ks)) 39)
 
 steady-timely : (b : Basis) (y : Float) (ks : List Float) (check : Bool) → SteadyWithin b ks (steadyOf b y ks check)
-steady-timely b y ks check = let r = timely Knots b ks steadyLimit y check defaultPrecision 39 default-enough in (r .0 (lit< tt), r .1)
+steady-timely b y ks check = let r = timely Knots b ks steadyLimit y check defaultPrecision 39 default-enough in (r .0 (lit< tt), le-trans (r .1) (omega arith))
 
 pub spline-inverse-steady-timely : Keeps spline_inverse_steady.Learnt (λ κs a z e. SteadyWithin (a .0) (now (a .1 .1 .0)) z)
 spline-inverse-steady-timely κs a z e p = subst (SteadyWithin (a .0) (now (a .1 .1 .0))) (sym p) (steady-timely (a .0) (a .1 .0) (now (a .1 .1 .0)) (a .1 .1 .1 .0))
