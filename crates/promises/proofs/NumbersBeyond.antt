@@ -47,7 +47,7 @@ use Rattle.promises.proofs.Uneven.{Sounds, depth-at-sounds}
 use Rattle.promises.proofs.Valve.{mix-refuses}
 
 -- ---- a table with a span
-timed-owed : (us : Uses) (z : Timed) → Refuses T.Refused us z → Owes (numberBy us) (timedNumber z) (Counts T.OffCurve z)
+pub timed-owed : (us : Uses) (z : Timed) → Refuses T.Refused us z → Owes (numberBy us) (timedNumber z) (Counts T.OffCurve z)
 timed-owed us (T.Refused r) d = inl (row-first us r (d r .0 refl))
 timed-owed us (T.OffCurve n) d = inr (sym (none-first us (λ r f. let h : T.OffCurve n ≡ T.Refused r = d r .1 f in never (cc))), refl, (n, refl))
 timed-owed us (T.At q s) d = inl (none-first us (λ r f. let h : T.At q s ≡ T.Refused r = d r .1 f in never (cc)))

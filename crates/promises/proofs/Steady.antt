@@ -53,12 +53,14 @@ use Rattle.simmerstoat.proofs.steady.simmerstoat_spline_inverse_steady.Reads as
 use Rattle.simmerstoat.proofs.steady.simmerstoat_spline_inverse_segment_steady.Reads as c_spline_inverse_segment_steady
 use Rattle.simmerstoat.proofs.steady.simmerstoat_table_spline_inverse_steady.Reads as c_table_spline_inverse_steady
 use Rattle.promises.specs.Calls.{AsksNothing, Keeps, OneReply, Exactly}
+use Rattle.promises.specs.Numbers.{timedNumber}
 use Rattle.promises.proofs.Eleven.{Eleven, by-eleven}
 use Rattle.promises.proofs.Exports.{NotZero, place-kept, whole-kept}
 use Rattle.promises.proofs.Fewer.{reply-fewer}
 use Rattle.promises.proofs.Inverting.{SegmentPromised, segment-promised}
 use Rattle.promises.proofs.Knots.{FirstBad, knot-first}
-use Rattle.promises.proofs.Numbers.{PlaceNumber, place-number}
+use Rattle.promises.proofs.Numbers.{InverseNumber, inverts, by-places}
+use Rattle.promises.proofs.NumbersBeyond.{TimedNumber, timed-owed}
 use Rattle.promises.proofs.Refusing.{carried, segment-place-refused}
 use Rattle.promises.proofs.Seconds.{table-place-refused, past, at-second, second-is-largest}
 use Rattle.promises.proofs.Spans as timed
@@ -85,8 +87,8 @@ pub spline-inverse-segment-steady-refuses : Keeps spline_inverse_segment_steady.
     (λ κs a z e. (r : Refusal) → Exactly (z ≡ I.Refused r) (First (inverseSegmentUses (a .1 .0) (now (a .1 .1 .0)) steadyLimit defaultPrecision) rows r))
 spline-inverse-segment-steady-refuses κs a z e p r = carried p (segment-place-refused steady (a .0) (a .1 .0) (now (a .1 .1 .0)) steadyLimit defaultPrecision r)
 
-pub spline-inverse-segment-steady-number : Keeps spline_inverse_segment_steady.Learnt (λ κs a z e. PlaceNumber (inverseSegmentUses (a .1 .0) (now (a .1 .1 .0)) steadyLimit defaultPrecision) z)
-spline-inverse-segment-steady-number κs a z e p = place-number _ z refl refl (spline-inverse-segment-steady-refuses κs a z e p)
+pub spline-inverse-segment-steady-number : Keeps spline_inverse_segment_steady.Learnt (λ κs a z e. InverseNumber (inverseSegmentUses (a .1 .0) (now (a .1 .1 .0)) steadyLimit defaultPrecision) z)
+spline-inverse-segment-steady-number κs a z e p = inverts _ z refl refl (spline-inverse-segment-steady-refuses κs a z e p)
 
 pub spline-inverse-segment-steady-first-bad : Keeps spline_inverse_segment_steady.Learnt (λ κs a z e. (i : ℕ) → z ≡ I.Refused (BadKnot i) → FirstBad (now (a .1 .1 .0)) i)
 spline-inverse-segment-steady-first-bad κs a z e p i h =
@@ -119,8 +121,8 @@ pub spline-inverse-steady-refuses : Keeps spline_inverse_steady.Learnt
 spline-inverse-steady-refuses κs a z e p r =
     carried p (inverse-refused-only Knots Steady (a .0) (a .1 .0) (now (a .1 .1 .0)) (a .1 .1 .1 .0) steadyLimit defaultPrecision r, inverse-refused-where Knots Steady (a .0) (a .1 .0) (now (a .1 .1 .0)) (a .1 .1 .1 .0) steadyLimit defaultPrecision r)
 
-pub spline-inverse-steady-number : Keeps spline_inverse_steady.Learnt (λ κs a z e. PlaceNumber (inverseUses (a .0) (a .1 .0) (now (a .1 .1 .0)) (a .1 .1 .1 .0) steadyLimit defaultPrecision) z)
-spline-inverse-steady-number κs a z e p = place-number _ z refl refl (spline-inverse-steady-refuses κs a z e p)
+pub spline-inverse-steady-number : Keeps spline_inverse_steady.Learnt (λ κs a z e. InverseNumber (inverseUses (a .0) (a .1 .0) (now (a .1 .1 .0)) (a .1 .1 .1 .0) steadyLimit defaultPrecision) z)
+spline-inverse-steady-number κs a z e p = inverts _ z refl refl (spline-inverse-steady-refuses κs a z e p)
 
 pub spline-inverse-steady-eleven : Keeps spline_inverse_steady.Learnt (λ κs a z e. Eleven Knots Steady (a .0) (a .1 .0) (now (a .1 .1 .0)) (a .1 .1 .1 .0) steadyLimit defaultPrecision z)
 spline-inverse-steady-eleven κs a z e p =
@@ -158,6 +160,10 @@ table-spline-inverse-steady-base κs a z e p g = p ∙ inverse-base Knots Steady
 pub table-spline-inverse-steady-refuses : Keeps table_spline_inverse_steady.Learnt
     (λ κs a z e. (r : Refusal) → Exactly (z ≡ T.Refused r) (First (badSpan (a .0 .span) ∷ inverseUses (a .0 .basis) (a .1 .0) (now (a .1 .1 .0)) (a .1 .1 .1 .0) steadyLimit defaultPrecision) rows r))
 table-spline-inverse-steady-refuses κs a z e p r = carried p (table-place-refused (a .0) r Knots Steady (a .1 .0) (now (a .1 .1 .0)) (a .1 .1 .1 .0) steadyLimit defaultPrecision)
+
+pub table-spline-inverse-steady-number : Keeps table_spline_inverse_steady.Learnt
+    (λ κs a z e. TimedNumber (badSpan (a .0 .span) ∷ inverseUses (a .0 .basis) (a .1 .0) (now (a .1 .1 .0)) (a .1 .1 .1 .0) steadyLimit defaultPrecision) z)
+table-spline-inverse-steady-number κs a z e p = by-places timedNumber T.Refused T.OffCurve timed-owed _ z refl refl (table-spline-inverse-steady-refuses κs a z e p)
 
 pub table-spline-inverse-steady-second : Keeps table_spline_inverse_steady.Learnt (λ κs a z e. (p : Place) (n : ℕ) → z ≡ T.At p n → Largest (a .0 .span) (elapsed (a .0 .span) (p .parameter)) n)
 table-spline-inverse-steady-second κs a z e p q n h = second-is-largest Knots Steady (a .0) (a .1 .0) (now (a .1 .1 .0)) (a .1 .1 .1 .0) steadyLimit defaultPrecision q n (sym p ∙ h)
