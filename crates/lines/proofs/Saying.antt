@@ -27,11 +27,15 @@ pub said-over : (n : ℕ) (line : List ℕ) → widest < n → Bad ≡ says (ope
 unfolding says
 said-over n line h = rw (lt-leb n widest h) refl
 
--- ---- its answer
-module _ {c : Curve} {r : Record} {a : Answered} {table turned : List Float} (o : Line) (e : r ≡ says o) (h : Answers c r a table turned) where
-  pub line-state : curveOf (a .held) table ≡ lineProgram .after c o
-  line-state = h .held ∙ ap (afterOf c) e
+-- ---- a record's answer: what is written is its reply
+pub reply-wrote : {c : Curve} {r : Record} {a : Answered} {table turned : List Float} → Answers c r a table turned → {out : List ℕ} {at : ℕ} {out′ : List ℕ} {next : ℕ}
+    → Wrote out at (textOf (replyOf (a .told) turned)) out′ next → Wrote out at (textOf (replyTo c r)) out′ next
+reply-wrote h {out} {at} {out′} {next} w = subst (λ (t : Reply). Wrote out at (textOf t) out′ next) (h .told) w
 
-  pub line-wrote : {out : List ℕ} {at : ℕ} {out′ : List ℕ} {next : ℕ} → Wrote out at (textOf (replyOf (a .told) turned)) out′ next
-      → Wrote out at (lineProgram .tells c o) out′ next
-  line-wrote {out} {at} {out′} {next} w = subst (λ (t : Reply). Wrote out at (textOf t) out′ next) (h .told ∙ ap (replyTo c) e) w
+-- ---- a line is answered as its record
+module _ (c : Curve) {r : Record} (o : Line) (e : r ≡ says o) where
+  pub line-state : {d : Curve} → d ≡ afterOf c r → d ≡ lineProgram .after c o
+  line-state h = h ∙ ap (afterOf c) e
+
+  pub line-wrote : {out : List ℕ} {at : ℕ} {out′ : List ℕ} {next : ℕ} → Wrote out at (textOf (replyTo c r)) out′ next → Wrote out at (lineProgram .tells c o) out′ next
+  line-wrote {out} {at} {out′} {next} w = subst (λ (q : Record). Wrote out at (textOf (replyTo c q)) out′ next) e w

@@ -1,0 +1,4 @@
+pub mod Cases
+pub mod Swap
+pub mod Twice
+pub mod Own

@@ -1,0 +1,76 @@
+// A claim: that a curve's segment, at a local place, comes near a target.
+ghost use mathlib.Core.Path.{_≡_};
+ghost use Prim.Native.Nat.{_+_, _*_, _≤_};
+ghost use lib.ListN.{length};
+ghost use Rattle.error.specs.Refusals.{first};
+ghost use Rattle.basis.specs.Basis.{stepOf};
+ghost use Rattle.spline.specs.Segment.{segmentOf};
+ghost use Rattle.claim.specs.Claim.{claimUses, accepts, claimOf};
+use basis::Basis;
+use error::Refusal;
+use error::Verdict;
+
+// What checking a claim comes to: refused by a row of the table, or it holds, or the value differs from the target.
+pub enum Claimed {
+    Refused(Refusal),
+    Holds,
+    Differs,
+}
+
+fn verdict(b: Basis, y: f64, s: usize, x: f64, precision: f64, knots: &[f64]) -> Verdict
+    ensures { λ r. ⌜ r ≡ first (claimUses b y s x precision (now (knots .entry))) ⌝ }
+{
+    let l = spline::rows::curve_length(b, knots.len());
+    let Verdict::Passed = l else {
+        return l;
+    };
+    if y != y {
+        return Verdict::Failed(Refusal::NotANumber);
+    }
+    if x != x {
+        return Verdict::Failed(Refusal::NotANumber);
+    }
+    if inverse_segment::rows::is_precise(precision) {
+        if s < basis::segments(b, knots.len()) {
+            if spline::rows::all_in_range(knots) {
+                return Verdict::Passed;
+            }
+            return Verdict::Failed(spline::rows::bad_knot(knots));
+        }
+        return Verdict::Failed(Refusal::NoSegment);
+    }
+    Verdict::Failed(Refusal::BadPrecision)
+}
+
+// The segment is evaluated only where the place lies in 0 to 1.
+fn is_accepted(b: Basis, y: f64, s: usize, x: f64, precision: f64, knots: &[f64]) -> bool
+    requires { ⌜ (s * stepOf b + 4 ≤ length (now knots)) × (length (now knots) ≤ 4096) ⌝ }
+    ensures { λ r. ⌜ r ≡ accepts y x (segmentOf b (now (knots .entry)) s x) precision ⌝ }
+{
+    if 0.0 <= x {
+        if x <= 1.0 {
+            let start = s * basis::step(b);
+            let v = spline::segment::segment_value(b, &knots[start..], x);
+            return inverse_segment::is_near(y, v, precision);
+        }
+        return false;
+    }
+    false
+}
+
+// Whether segment s of the curve, at the local place x, is within twice the precision of y.
+pub fn check_claim(b: Basis, y: f64, s: usize, x: f64, precision: f64, knots: &[f64]) -> Claimed
+    ensures { λ r. ⌜ r ≡ claimOf b y s x precision (now (knots .entry)) ⌝ }
+{
+    let v = verdict(b, y, s, x, precision, knots);
+    match v {
+        Verdict::Failed(r) => Claimed::Refused(r),
+        Verdict::Passed => {
+            if is_accepted(b, y, s, x, precision, knots) {
+                Claimed::Holds
+            } else {
+                Claimed::Differs
+            }
+        }
+    }
+}
