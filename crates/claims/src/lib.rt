@@ -124,7 +124,7 @@ fn said_in(line: &[u8]) -> Said
 }
 
 // What the line of len bytes says.
-fn said(len: usize, line: &[u8]) -> Said
+fn said_of(len: usize, line: &[u8]) -> Said
     requires { ⌜ length (now line) ≡ widest ⌝ }
     ensures { λ r. ⌜ r ≡ says (openOf len (now (line .entry))) ⌝ }
 {
@@ -192,7 +192,7 @@ pub fn line(
     ensures wrote { λ r. ⌜ Wrote (now (out .entry)) at (claimsProgram .tells (curveOf held (now (table .entry))) (openOf len (now (line .entry)))) (now (out .exit)) (r .at) ⌝ }
     ensures short { λ r. ⌜ r .at ≤ at + longest ⌝ }
 {
-    let told = said(len, line);
+    let told = said_of(len, line);
     match told {
         Said::Listed(r) => lines::answered(held, r, table, turned, out, at),
         Said::Claim(y, s, x, precision) => {

@@ -1,5 +1,5 @@
 -- The end of a line, a byte and the end of the input, case by case. Assumes nothing.
-use mathlib.Core.Path.{_≡_, refl, ap, subst, _∙_}
+use mathlib.Core.Path.{_≡_, refl, sym, ap, subst, _∙_}
 use mathlib.Core.Bool.{Bool, true, false}
 use mathlib.Core.List.{List, [], _∷_, _++_, append-nil}
 use Prim.Native.Nat.{ℕ, _+_, _≤_, _<_}
@@ -10,26 +10,20 @@ use lib.ListN.{length, take, getD}
 use native.Mathlib.Numerals.{add-one}
 use lib.Seq.{length-take-le, take-suc}
 use lib.Ieee.{Float}
-use Rattle.lines_answer.specs.declared.Held.{Held}
-use Rattle.lines_answer.specs.Answer.{Curve, places}
-use Rattle.lines_answer.specs.Held.{curveOf}
-use Rattle.lines_answer.specs.Held.{countOf as knotsOf}
+use Rattle.lines_answer.specs.Answer.{places}
 use Rattle.lines.specs.Lines.{lineProgram}
-use Rattle.sheet.specs.declared.Held.{Held as SheetHeld}
-use Rattle.sheet.specs.Sheet.{Sheet, sheetProgram}
-use Rattle.sheet.specs.Held.{sheetOf}
-use Rattle.sheet.specs.Held.{countOf as depthsOf}
+use Rattle.sheet.specs.Sheet.{sheetProgram}
+use Rattle.claims.specs.Claims.{claimsProgram}
 use Rattle.text.specs.Text.{LF}
 use Rattle.text.specs.Wrote.{Wrote}
 use Rattle.text.proofs.Writing.{nothing, then}
-use Rattle.lines_machine.specs.Program.{widest, Line, so}
+use Rattle.lines_machine.specs.Program.{widest, Line, so, Program}
 use Rattle.lines_machine.specs.Bytes.{State, stateAt, push, closeText, closed, nextOf, tellOf, toldOf, ranOf, lastText, endOf}
 use Rattle.lines_machine.specs.Held.{openOf}
 use Rattle.lines_machine.proofs.Whole.{Within, ran-append, told-append}
 use Rattle.lines_programs.specs.declared.Reader.{Reader}
 use Rattle.lines_programs.specs.declared.Job.{Job}
-use Rattle.lines_programs.specs.declared.Job.the-variants.{Asking, Reading}
-use Rattle.lines_programs.specs.Programs.{Running, asking, reading, tellsOf, afterOf, endsOf, running}
+use Rattle.lines_programs.specs.Programs.{Running, asking, reading, claiming, tellsOf, afterOf, endsOf, running}
 use Rattle.lines_programs.specs.Held.{runningOf, countOf, stateOf, Good, Went}
 
 -- ---- each program does within the whole what it does alone
@@ -41,23 +35,20 @@ pub sheet-within : Within sheetProgram running reading
 unfolding tellsOf afterOf endsOf
 sheet-within = record { tells = λ s o. refl; after = λ s o. refl; ends = λ s. refl }
 
--- ---- the end of a line
-pub asked-went : (held after : Held) (len : ℕ) (line : List ℕ) (table table′ : List Float) {out out′ : List ℕ} {at next : ℕ}
-    → length line ≡ widest → length table′ ≡ places → curveOf after table′ ≡ lineProgram .after (curveOf held table) (openOf len line) → knotsOf after ≤ places
-    → Wrote out at (lineProgram .tells (curveOf held table) (openOf len line)) out′ next
-    → (let s = stateAt (openOf len line) (asking (curveOf held table)) in
-    Went (closed running s) (closeText running s) (record { len = 0; job = Asking after }) line table′ out at out′ next)
-unfolding tellsOf afterOf
-asked-went held after len line table table′ f g e few w =
-    record { state = ap (λ (c : Curve). stateAt (so []) (asking c)) e; wrote = w; good = record { few = few; full = g; wide = f } }
+pub claims-within : Within claimsProgram running claiming
+unfolding tellsOf afterOf endsOf
+claims-within = record { tells = λ s o. refl; after = λ s o. refl; ends = λ s. refl }
 
-pub read-went : (held after : SheetHeld) (len : ℕ) (line : List ℕ) (table table′ : List Float) (out : List ℕ) (at : ℕ)
-    → length line ≡ widest → length table′ ≡ places → sheetOf after table′ ≡ sheetProgram .after (sheetOf held table) (openOf len line) → depthsOf after ≤ places
-    → (let s = stateAt (openOf len line) (reading (sheetOf held table)) in
-    Went (closed running s) (closeText running s) (record { len = 0; job = Reading after }) line table′ out at out at)
-unfolding tellsOf afterOf
-read-went held after len line table table′ out at f g e few =
-    record { state = ap (λ (s : Sheet). stateAt (so []) (reading s)) e; wrote = nothing out at; good = record { few = few; full = g; wide = f } }
+-- ---- the end of a line: a program within the whole has taken its own step, from its state s
+pub line-went : {S : Type 0} (P : Program S) (f : S → Running) → Within P running f → (s : S) (o : Line) {after : Job} {line : List ℕ} {table : List Float} {out out′ : List ℕ} {at next : ℕ}
+    → length line ≡ widest → length table ≡ places → countOf after ≤ places → runningOf after table ≡ f (P .after s o) → Wrote out at (P .tells s o) out′ next
+    → Went (closed running (stateAt o (f s))) (closeText running (stateAt o (f s))) (record { len = 0; job = after }) line table out at out′ next
+line-went P f w s o {after} {line} {table} {out} {out′} {at} {next} wide full few e t =
+    record {
+      state = ap (λ (r : Running). stateAt (so []) r) (e ∙ sym (w .after s o));
+      wrote = subst (λ (x : List ℕ). Wrote out at x out′ next) (sym (w .tells s o)) t;
+      good = record { few = few; full = full; wide = wide };
+    }
 
 -- ---- a byte
 pub step-end : (s : State Running) (byte : ℕ) {st : Reader} {line : List ℕ} {table : List Float} {out : List ℕ} {at : ℕ} {out′ : List ℕ} {r : ℕ}

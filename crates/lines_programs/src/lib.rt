@@ -7,13 +7,14 @@ ghost use Rattle.lines_reply.specs.Told.{longest};
 ghost use Rattle.sheet.specs.Sheet.{unbegun};
 ghost use Rattle.text.specs.Wrote.{Wrote};
 ghost use Rattle.lines_machine.specs.Bytes.{closed, closeText, nextOf, tellOf, endOf, ranOf, toldOf};
-ghost use Rattle.lines_programs.specs.Programs.{asking, reading, running, endsOf};
+ghost use Rattle.lines_programs.specs.Programs.{asking, reading, claiming, running, endsOf};
 ghost use Rattle.lines_programs.specs.Held.{runningOf, countOf, stateOf, Fresh, Good, Went};
 
 // Which program, and what it holds.
 pub enum Job {
     Asking(lines_answer::Held),
     Reading(sheet::Held),
+    Claiming(lines_answer::Held),
 }
 
 // `len`: bytes of the current line in the lent 64; 65 means that the line is too long.
@@ -44,6 +45,16 @@ pub fn sheet_program() -> Reader
     Reader {
         len: 0,
         job: Job::Reading(sheet::Held::Unbegun),
+    }
+}
+
+// The checker of claims, before the first byte.
+pub fn claims_program() -> Reader
+    ensures { λ st. ⌜ Fresh (claiming none) st ⌝ }
+{
+    Reader {
+        len: 0,
+        job: Job::Claiming(lines_answer::Held::Nothing),
     }
 }
 
@@ -83,6 +94,17 @@ fn ended(
                 at: at,
             }
         }
+        Job::Claiming(held) => {
+            let l = claims::line(held, len, line, table, turned, out, at);
+            let after = l.held;
+            Stepped {
+                st: Reader {
+                    len: 0,
+                    job: Job::Claiming(after),
+                },
+                at: l.at,
+            }
+        }
     }
 }
 
@@ -94,6 +116,7 @@ fn ends(job: Job, table: &[f64], out: &mut [u8], at: usize) -> usize
     match job {
         Job::Asking(_) => at,
         Job::Reading(held) => sheet::end(held, table, out, at),
+        Job::Claiming(_) => at,
     }
 }
 

@@ -24,3 +24,4 @@ pub mod Spans
 pub mod Steady
 pub mod Programs
 pub mod Sheets
+pub mod Claims

@@ -12,10 +12,11 @@ use Rattle.lines_machine.specs.Bytes.{State, start, toldOf, ranOf, endOf}
 use Rattle.lines_machine.proofs.Whole.{ran-append, told-append, whole, Within, within-output}
 use Rattle.sheet.specs.Sheet.{unbegun}
 use Rattle.lines_programs.specs.declared.Reader.{Reader}
-use Rattle.lines_programs.specs.Programs.{Running, asking, reading, running}
+use Rattle.lines_programs.specs.Programs.{Running, asking, reading, claiming, running}
 use Rattle.lines_programs.specs.Held.{stateOf}
 use Rattle.lines_programs.proofs.line_program.Reads as line_program
 use Rattle.lines_programs.proofs.sheet_program.Reads as sheet_program
+use Rattle.lines_programs.proofs.claims_program.Reads as claims_program
 use Rattle.lines_programs.proofs.step.Reads as step
 use Rattle.lines_programs.proofs.finish.Reads as finish
 use Rattle.lines_programs.proofs.feed.Reads as feed
@@ -37,6 +38,9 @@ line-program-one-reply κs a z z′ e e′ p q line table = one (p .begun line t
 
 pub sheet-program-one-reply : OneReply sheet_program.Learnt (λ κs z e z′ e′. (line : List ℕ) (table : List Float) → stateOf z line table ≡ stateOf z′ line table)
 sheet-program-one-reply κs a z z′ e e′ p q line table = one (p .begun line table) (q .begun line table)
+
+pub claims-program-one-reply : OneReply claims_program.Learnt (λ κs z e z′ e′. (line : List ℕ) (table : List Float) → stateOf z line table ≡ stateOf z′ line table)
+claims-program-one-reply κs a z z′ e e′ p q line table = one (p .begun line table) (q .begun line table)
 
 pub step-one-reply : OneReply step.Learnt
     (λ κs z e z′ e′.
@@ -76,6 +80,9 @@ line-program-begins κs a z e p line table = begins (asking none) z line table (
 
 pub sheet-program-begins : Keeps sheet_program.Learnt (λ κs a z e. (line : List ℕ) (table : List Float) → So (reading unbegun) z line table [] [])
 sheet-program-begins κs a z e p line table = begins (reading unbegun) z line table (p .begun line table)
+
+pub claims-program-begins : Keeps claims_program.Learnt (λ κs a z e. (line : List ℕ) (table : List Float) → So (claiming none) z line table [] [])
+claims-program-begins κs a z e p line table = begins (claiming none) z line table (p .begun line table)
 
 pub feed-goes-on : Keeps feed.Learnt
     (λ κs a z e. (r : Running) (x w : List ℕ) → So r (a .0) (now (a .1 .1 .0)) (now (a .1 .1 .1 .0)) x w

@@ -2,3 +2,4 @@ pub mod Replies
 pub mod Options
 pub mod Uneven
 pub mod Tables
+pub mod Claims

@@ -29,6 +29,7 @@ use inverse_segment::Ground;
 use inverse_segment::Inverted;
 use spline::Evaluated;
 
+pub mod claims;
 pub mod hours;
 pub mod options;
 pub mod seams;

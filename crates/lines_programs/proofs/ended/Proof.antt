@@ -1,31 +1,41 @@
 -- Each program's own step, taken within the whole.
 use native.Mathlib.Omega.{arith}
-use Rattle.lines_programs.proofs.Steps.{asked-went, read-went}
+use mathlib.Core.Path.{ap}
+use Rattle.text.proofs.Writing.{nothing}
+use Rattle.lines_machine.specs.Held.{openOf}
+use Rattle.lines_answer.specs.Held.{curveOf}
+use Rattle.lines.specs.Lines.{lineProgram}
+use Rattle.sheet.specs.Sheet.{sheetProgram}
+use Rattle.sheet.specs.Held.{sheetOf}
+use Rattle.claims.specs.Claims.{claimsProgram}
+use Rattle.lines_programs.specs.Programs.{asking, reading, claiming}
+use Rattle.lines_programs.proofs.Steps.{line-within, sheet-within, claims-within, line-went}
 use borrow.Author.Needs.{needs}
 use Rattle.lines_programs.proofs.ended.Statement.{statement}
 use Rattle.lines_programs.proofs.ended.Tie as tie
 use Rattle.lines_programs.proofs.ended.Reads as reads
 use Rattle.lines_programs.proofs.ended.Lts as lts
-use Rattle.lines.proofs.line.Reads as line-reads
-use Rattle.sheet.proofs.line.Reads as line-reads′
+use Rattle.claims.proofs.line.Reads as line-reads
+use Rattle.lines.proofs.line.Reads as line-reads′
+use Rattle.sheet.proofs.line.Reads as line-reads′′
 
 enum-known-job : tie.Need-enum-known-job
 enum-known-job c = search needs
 
 line-requires : tie.Need-line-requires
-line-requires c κs =
-    let j = c .before .before .before .before in
-    let pre = j .before .before .before .before .before .before .pre in
-    (pre .0 .wide, ((rw (j .job .given .1) at (pre .0 .few), pre .0 .full, pre .1), pre .2))
+line-requires c κs = (c .before .before .before .before .before .before .before .before .before .before .pre .0 .wide, ((rw (c .before .before .before .before .job .given .1) at (c .before .before .before .before .before .before .before .before .before .before .pre .0 .few), c .before .before .before .before .before .before .before .before .before .before .pre .0 .full, c .before .before .before .before .before .before .before .before .before .before .pre .1), c .before .before .before .before .before .before .before .before .before .before .pre .2))
 
 enum-known-job-2 : tie.Need-enum-known-job-2
 enum-known-job-2 c = search needs
 
 line-requires-2 : tie.Need-line-requires-2
-line-requires-2 c κs =
-    let j = c .before .before in
-    let pre = j .before .before .before .before .before .before .pre in
-    (pre .0 .wide, rw (j .job2 .given .1) at (pre .0 .few), pre .0 .full)
+line-requires-2 c κs = (c .before .before .before .before .before .before .before .before .pre .0 .wide, rw (c .before .before .job2 .given .1) at (c .before .before .before .before .before .before .before .before .pre .0 .few), c .before .before .before .before .before .before .before .before .pre .0 .full)
+
+enum-known-job-3 : tie.Need-enum-known-job-3
+enum-known-job-3 c = search needs
+
+line-requires-3 : tie.Need-line-requires-3
+line-requires-3 c κs = (c .before .before .before .before .before .before .before .before .before .before .pre .0 .wide, ((rw (c .before .before .before .before .job3 .given .1) at (c .before .before .before .before .before .before .before .before .before .before .pre .0 .few), c .before .before .before .before .before .before .before .before .before .before .pre .0 .full, c .before .before .before .before .before .before .before .before .before .before .pre .1), c .before .before .before .before .before .before .before .before .before .before .pre .2))
 
 same-length : tie.Need-same-length
 same-length c = search needs
@@ -37,24 +47,25 @@ same-length-3 : tie.Need-same-length-3
 same-length-3 c = search needs
 
 returns : tie.Need-returns
-returns c =
-    let l = c .before .before .before .before .before .before in
-    let j = l .before .before .before .before .before in
-    let s = j .before .before .before .before .before .before in
-    let r = l .line .ensures in
-    rw (j .job .given .1)
-    (asked-went (j .job .given .0 .0) _ (s .args .st .len) (s .args .line .now) (s .args .table .now) _ (s .pre .0 .wide) (omega arith) (r .0) (r .1 .0) (r .1 .1 .0), r .1 .1 .1)
+returns c = let o = openOf (c .before .before .before .before .before .before .before .before .before .before .before .before .before .before .before .before .before .args .st .len) (c .before .before .before .before .before .before .before .before .before .before .before .before .before .before .before .before .before .args .line .now) in let r = c .before .before .before .before .before .before .line .ensures in rw (c .before .before .before .before .before .before .before .before .before .before .before .job .given .1) (line-went lineProgram asking line-within (curveOf (c .before .before .before .before .before .before .before .before .before .before .before .job .given .0 .0) (c .before .before .before .before .before .before .before .before .before .before .before .before .before .before .before .before .before .args .table .now)) o (c .before .before .before .before .before .before .before .before .before .before .before .before .before .before .before .before .before .pre .0 .wide) (omega arith) (r .1 .0) (ap asking (r .0)) (r .1 .1 .0), r .1 .1 .1)
 
 same-length-4 : tie.Need-same-length-4
 same-length-4 c = search needs
 
 returns-2 : tie.Need-returns-2
-returns-2 c =
-    let l = c .before .before in
-    let j = l .before .before .before in
-    let s = j .before .before .before .before .before .before in
-    rw (j .job2 .given .1)
-    (read-went (j .job2 .given .0 .0) _ (s .args .st .len) (s .args .line .now) (s .args .table .now) _ _ _ (s .pre .0 .wide) (omega arith) (l .line2 .ensures .0) (l .line2 .ensures .1), omega arith)
+returns-2 c = let o = openOf (c .before .before .before .before .before .before .before .before .before .before .before .args .st .len) (c .before .before .before .before .before .before .before .before .before .before .before .args .line .now) in let r = c .before .before .line2 .ensures in rw (c .before .before .before .before .before .job2 .given .1) (line-went sheetProgram reading sheet-within (sheetOf (c .before .before .before .before .before .job2 .given .0 .0) (c .before .before .before .before .before .before .before .before .before .before .before .args .table .now)) o (c .before .before .before .before .before .before .before .before .before .before .before .pre .0 .wide) (omega arith) (r .1) (ap reading (r .0)) (nothing _ _), omega arith)
+
+same-length-5 : tie.Need-same-length-5
+same-length-5 c = search needs
+
+same-length-6 : tie.Need-same-length-6
+same-length-6 c = search needs
+
+same-length-7 : tie.Need-same-length-7
+same-length-7 c = search needs
+
+returns-3 : tie.Need-returns-3
+returns-3 c = let o = openOf (c .before .before .before .before .before .before .before .before .before .before .before .before .before .before .before .before .before .args .st .len) (c .before .before .before .before .before .before .before .before .before .before .before .before .before .before .before .before .before .args .line .now) in let r = c .before .before .before .before .before .before .line3 .ensures in rw (c .before .before .before .before .before .before .before .before .before .before .before .job3 .given .1) (line-went claimsProgram claiming claims-within (curveOf (c .before .before .before .before .before .before .before .before .before .before .before .job3 .given .0 .0) (c .before .before .before .before .before .before .before .before .before .before .before .before .before .before .before .before .before .args .table .now)) o (c .before .before .before .before .before .before .before .before .before .before .before .before .before .before .before .before .before .pre .0 .wide) (omega arith) (r .1 .0) (ap claiming (r .0)) (r .1 .1 .0), r .1 .1 .1)
 
 pub ended-spec : {M : Type 1} → statement M
 ended-spec =
@@ -64,9 +75,15 @@ ended-spec =
     line-requires
     enum-known-job-2
     line-requires-2
+    enum-known-job-3
+    line-requires-3
     same-length
     same-length-2
     same-length-3
     returns
     same-length-4
-    returns-2)
+    returns-2
+    same-length-5
+    same-length-6
+    same-length-7
+    returns-3)

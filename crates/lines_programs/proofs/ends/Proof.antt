@@ -22,6 +22,9 @@ enum-known-job c = search needs
 end-requires : tie.Need-end-requires
 end-requires c κs = let k : countOf (Reading (c .before .before .job .given .0 .0)) ≤ places = rw (c .before .before .job .given .1) at (c .before .before .before .before .before .before .pre .0) in (k, c .before .before .before .before .before .before .pre .1, c .before .before .before .before .before .before .pre .2)
 
+enum-told-2 : tie.Need-enum-told-2
+enum-told-2 c = search needs
+
 returns : tie.Need-returns
 unfolding endsOf
 returns c = rw (c .enum-told .given .1) (nothing _ _, omega arith)
@@ -33,6 +36,19 @@ returns-2 : tie.Need-returns-2
 unfolding endsOf
 returns-2 c = rw (c .before .before .before .before .before .job .given .1) (c .before .before .end .ensures)
 
+returns-3 : tie.Need-returns-3
+unfolding endsOf
+returns-3 c = rw (c .enum-told2 .given .1) (nothing _ _, omega arith)
+
 pub ends-spec : {M : Type 1} → statement M
 ends-spec =
-    tie.close (tie.spec enum-told enum-known-job end-requires returns same-length returns-2)
+    tie.close
+    (tie.spec
+    enum-told
+    enum-known-job
+    end-requires
+    enum-told-2
+    returns
+    same-length
+    returns-2
+    returns-3)

@@ -1,0 +1,4 @@
+// The checker of claims.
+fn main() {
+    lines_io::run(lines_programs::claims_program());
+}
