@@ -1,7 +1,7 @@
 -- The rows in the table's order, by the tests as the code makes them; what a passed verdict says; and the answer by each way out. Assumes nothing.
 use mathlib.Core.Path.{_≡_, refl, sym, ap, _∙_}
 use mathlib.Core.Bool.{Bool, true, false, not, _||_}
-use mathlib.Core.List.{List}
+use mathlib.Core.List.{List, [], _∷_}
 use Prim.Native.Nat.{ℕ, _+_, _*_, _-_, _/_, _≤_, _<_}
 use native.Mathlib.Omega.{arith}
 use borrow.Author.Tests.{lt-ltb, le-ltb, ltb-true, ltb-false, not-false}
@@ -9,7 +9,7 @@ use lib.Dec.{ltb}
 use lib.ListN.{length, take, drop}
 use lib.Ieee.{Float, le, ne, isNan}
 use Rattle.error.specs.declared.Refusal.{Refusal}
-use Rattle.error.specs.declared.Refusal.the-variants.{NotANumber, BadPrecision, NoSegment, BadKnot}
+use Rattle.error.specs.declared.Refusal.the-variants.{NotANumber, BadPrecision, NoSegment}
 use Rattle.error.specs.declared.Verdict.{Verdict}
 use Rattle.error.specs.declared.Verdict.the-variants.{Passed, Failed}
 use Rattle.error.specs.Refusals.{Uses, first}
@@ -18,11 +18,10 @@ use Rattle.basis.specs.declared.Basis.{Basis}
 use Rattle.basis.specs.Basis.{stepOf, segmentsOf, matrixOf}
 use Rattle.doubles.specs.Numbers.{nought, one}
 use Rattle.doubles.proofs.Order.{ne-itself}
+use Rattle.checks.specs.Checks.{curveLength, precise, badKnot}
 use Rattle.spline.specs.Segment.{segmentValue, segmentOf}
-use Rattle.spline.specs.Rows.{allInRange, firstBad, curveLength}
 use Rattle.spline.proofs.Parts.{rest, inside}
 use Rattle.inverse_segment.specs.Segment.{near}
-use Rattle.inverse_segment.specs.Answer.{precise}
 use Rattle.claim.specs.declared.Claimed.{Claimed}
 use Rattle.claim.specs.declared.Claimed.the-variants.{Refused, Holds, Differs}
 use Rattle.claim.specs.Claim.{claimUses, accepts, claimOf}
@@ -52,15 +51,11 @@ module _ (b : Basis) (y : Float) (s : ℕ) (x ε : Float) (ks : List Float) {l :
             let q : ltb s (segmentsOf b (length ks)) ≡ false = le-ltb s (segmentsOf b (length ks)) (omega (arith, count)) in
             goes-on uses e k (simp (sym (ne-itself y) ∙ n, sym (ne-itself x) ∙ m, p, q))
 
-        pub claim-knot : s < c → allInRange ks ≡ false → {r : Refusal} → r ≡ BadKnot (firstBad ks) → Failed r ≡ first uses
-        claim-knot h a d =
+        -- the knots decide the rest
+        pub claim-knots : s < c → {w : Verdict} → w ≡ first (badKnot ks ∷ []) → w ≡ first uses
+        claim-knots h f =
             let q : ltb s (segmentsOf b (length ks)) ≡ true = lt-ltb s (segmentsOf b (length ks)) (omega (arith, count)) in
-            goes-on uses e k (simp (sym (ne-itself y) ∙ n, sym (ne-itself x) ∙ m, p, q, a) (ap Failed d))
-
-        pub claim-passes : s < c → allInRange ks ≡ true → Passed ≡ first uses
-        claim-passes h a =
-            let q : ltb s (segmentsOf b (length ks)) ≡ true = lt-ltb s (segmentsOf b (length ks)) (omega (arith, count)) in
-            goes-on uses e k (simp (sym (ne-itself y) ∙ n, sym (ne-itself x) ∙ m, p, q, a))
+            goes-on uses e k (simp (sym (ne-itself y) ∙ n, sym (ne-itself x) ∙ m, p, q) f)
 
 -- ---- a segment below the count has its four knots
 pub four-left : (b : Basis) (n s : ℕ) → 4 ≤ n → s < segmentsOf b n → s * stepOf b + 4 ≤ n

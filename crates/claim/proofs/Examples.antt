@@ -10,13 +10,13 @@ use Rattle.basis.specs.declared.Basis.the-variants.{Bspline, Bezier}
 use Rattle.basis.specs.Basis.{frac, row, matrixOf}
 use Rattle.doubles.specs.Numbers.{nought, half, magnitudeOf}
 use Rattle.doubles.specs.Lerp.{lerpOf}
-use Rattle.spline.specs.Rows.{inRange, allInRange}
+use Rattle.checks.specs.Checks.{inRange, allInRange, precise}
 use Rattle.inverse_segment.specs.declared.Ground.the-variants.{End, Width}
 use Rattle.inverse_segment.specs.declared.Inverted.the-variants.{At}
 use Rattle.inverse_segment.specs.Round.{narrow, halving, weighed, chord, kept, fraction, moved, settled, probed, turn}
 use Rattle.inverse_segment.specs.Rounds.{rounds}
 use Rattle.inverse_segment.specs.Segment.{entered, enter}
-use Rattle.inverse_segment.specs.Answer.{precise, defaultLimit, defaultPrecision}
+use Rattle.inverse_segment.specs.Answer.{defaultLimit, defaultPrecision}
 use Rattle.inverse_search.specs.Search.{tries, last, halve, find}
 use Rattle.inverse.specs.Order.{ordered}
 use Rattle.inverse.specs.Curve.{parameterOf, located}

@@ -25,14 +25,14 @@ use Rattle.doubles.proofs.Tests.{holds, fails}
 use Rattle.doubles.proofs.Units.{nought-le}
 use Rattle.doubles.proofs.Order.{le-trans-float}
 use Rattle.spline.specs.Segment.{segmentOf}
-use Rattle.spline.specs.Rows.{allInRange}
+use Rattle.checks.specs.Checks.{allInRange, precise}
 use Rattle.inverse_segment.specs.declared.Ground.{Ground}
 use Rattle.inverse_segment.specs.declared.Ground.the-variants.{End, Edge, Value, Width, Spent}
 use Rattle.inverse_segment.specs.declared.Place.{Place}
 use Rattle.inverse_segment.specs.declared.Inverted.{Inverted}
 use Rattle.inverse_segment.specs.declared.Inverted.the-variants as I
 use Rattle.inverse_segment.specs.Segment.{near}
-use Rattle.inverse_segment.specs.Answer.{precise, inverted, answered, alone, inverseSegmentUses, inverseSegmentBy}
+use Rattle.inverse_segment.specs.Answer.{inverted, answered, alone, inverseSegmentUses, inverseSegmentBy}
 use Rattle.inverse_segment.proofs.Enclosing.{Says, Sound}
 use Rattle.inverse_segment.proofs.Verdicts.{passes, answered-past}
 use Rattle.inverse_segment.proofs.Call.{Owed, inverse-segment-owed}

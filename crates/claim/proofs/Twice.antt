@@ -17,7 +17,7 @@ use Rattle.doubles.proofs.Rounding.{grid-short-le, grid-short-ge}
 use Rattle.doubles.proofs.Order.{le-trans-float, lt→le, not-lt→le, lt-le-absurd}
 use Rattle.doubles.proofs.Units.{units-of}
 use Rattle.doubles.proofs.Tests.{branch}
-use Rattle.inverse_segment.specs.Answer.{precise}
+use Rattle.checks.specs.Checks.{precise}
 
 -- a value of the format is at most what it rounds to
 le-rounded : (m : ℕ) (e : ℤ) → T (fits binary64 (fin false m e)) → T (le (fin false m e) (round binary64 false (m * up e) (down e)))

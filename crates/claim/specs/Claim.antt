@@ -13,17 +13,17 @@ use Rattle.error.specs.Refusals.{Uses, first}
 use Rattle.basis.specs.declared.Basis.{Basis}
 use Rattle.basis.specs.Basis.{segmentsOf}
 use Rattle.doubles.specs.Numbers.{nought, one}
+use Rattle.checks.specs.Checks.{curveLength, precise, badKnot}
 use Rattle.spline.specs.Segment.{segmentOf}
-use Rattle.spline.specs.Rows.{curveLength, badKnot}
 use Rattle.inverse_segment.specs.Segment.{near}
-use Rattle.inverse_segment.specs.Answer.{precise}
 use Rattle.claim.specs.declared.Claimed.{Claimed}
 use Rattle.claim.specs.declared.Claimed.the-variants.{Refused, Holds, Differs}
 
 -- the table's length; target or local place no number; the precision; the segment not below the number of segments; the knots
 abbrev pub claimUses : Basis → Float → ℕ → Float → Float → List Float → Uses
 claimUses b y s x ε ks =
-    curveLength b (length ks) ++ ((NotANumber, isNan y || isNan x) ∷ (BadPrecision, not (precise ε)) ∷ (NoSegment, not (ltb s (segmentsOf b (length ks)))) ∷ badKnot ks ∷ [])
+    curveLength b (length ks)
+    ++ ((NotANumber, isNan y || isNan x) ∷ (BadPrecision, not (precise ε)) ∷ (NoSegment, not (ltb s (segmentsOf b (length ks)))) ∷ badKnot ks ∷ [])
 
 -- the local place x is in 0 to 1, and the value v there differs from the target, as computed, by less than twice the precision
 abbrev pub accepts : Float → Float → Float → Float → Bool

@@ -2,44 +2,20 @@
 ghost use mathlib.Core.Path.{_≡_};
 ghost use Prim.Native.Nat.{_+_, _*_, _≤_};
 ghost use lib.ListN.{length};
-ghost use Rattle.error.specs.Refusals.{first};
 ghost use Rattle.basis.specs.Basis.{stepOf};
 ghost use Rattle.spline.specs.Segment.{segmentOf};
-ghost use Rattle.claim.specs.Claim.{claimUses, accepts, claimOf};
+ghost use Rattle.claim.specs.Claim.{accepts, claimOf};
 use basis::Basis;
 use error::Refusal;
 use error::Verdict;
+
+pub mod refusals;
 
 // What checking a claim comes to: refused by a row of the table, or it holds, or the value differs from the target.
 pub enum Claimed {
     Refused(Refusal),
     Holds,
     Differs,
-}
-
-fn verdict(b: Basis, y: f64, s: usize, x: f64, precision: f64, knots: &[f64]) -> Verdict
-    ensures { λ r. ⌜ r ≡ first (claimUses b y s x precision (now (knots .entry))) ⌝ }
-{
-    let l = spline::rows::curve_length(b, knots.len());
-    let Verdict::Passed = l else {
-        return l;
-    };
-    if y != y {
-        return Verdict::Failed(Refusal::NotANumber);
-    }
-    if x != x {
-        return Verdict::Failed(Refusal::NotANumber);
-    }
-    if inverse_segment::rows::is_precise(precision) {
-        if s < basis::segments(b, knots.len()) {
-            if spline::rows::all_in_range(knots) {
-                return Verdict::Passed;
-            }
-            return Verdict::Failed(spline::rows::bad_knot(knots));
-        }
-        return Verdict::Failed(Refusal::NoSegment);
-    }
-    Verdict::Failed(Refusal::BadPrecision)
 }
 
 // The segment is evaluated only where the place lies in 0 to 1.
@@ -62,7 +38,7 @@ fn is_accepted(b: Basis, y: f64, s: usize, x: f64, precision: f64, knots: &[f64]
 pub fn check_claim(b: Basis, y: f64, s: usize, x: f64, precision: f64, knots: &[f64]) -> Claimed
     ensures { λ r. ⌜ r ≡ claimOf b y s x precision (now (knots .entry)) ⌝ }
 {
-    let v = verdict(b, y, s, x, precision, knots);
+    let v = refusals::verdict(b, y, s, x, precision, knots);
     match v {
         Verdict::Failed(r) => Claimed::Refused(r),
         Verdict::Passed => {

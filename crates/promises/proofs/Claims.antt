@@ -44,8 +44,14 @@ use Rattle.lines_answer.specs.Answer.{on}
 use Rattle.lines_machine.specs.Program.{Line}
 use Rattle.claims.specs.declared.Said.the-variants.{Claim}
 use Rattle.claims.specs.Claims.{says, claimText, checkText, tellsOf, claimsProgram}
+use Rattle.simmerstoat.specs.declared.Chosen.{Chosen}
+use Rattle.simmerstoat.specs.declared.Chosen.the-variants.{Known, Unknown}
+use Rattle.simmerstoat.specs.Replies.{chosenOf, noBasis, chosen}
+use Rattle.simmerstoat.specs.Claims.{claimedReply, holdsLeft}
+use Rattle.simmerstoat.proofs.claims.simmerstoat_check_claim.Reads as c_check_claim
 use Rattle.promises.specs.Calls.{AsksNothing, Keeps, OneReply, Exactly}
 use Rattle.promises.proofs.Orders.{Ordered}
+use Rattle.promises.proofs.Exports.{NotZero}
 
 pub check-claim-asks-nothing : AsksNothing check_claim.Asked
 check-claim-asks-nothing κs a = tt
@@ -156,3 +162,24 @@ unfolding tellsOf checkText
 claim-line-holds t m ks o y s x ε e =
     let told : claimsProgram .tells (on t m ks) o ≡ claimText (claimOf (t .basis) y s x ε ks) = ap (tellsOf (on t m ks)) e in
     (λ h. holds-only (t .basis) y s x ε ks (holds-text (claimOf (t .basis) y s x ε ks) (sym told ∙ h)), λ a. told ∙ ap claimText (holds-where (t .basis) y s x ε ks a))
+
+-- ---- what others link
+pub c-check-claim-asks-nothing : AsksNothing c_check_claim.Asked
+c-check-claim-asks-nothing κs a = tt
+
+pub c-check-claim-one-reply : OneReply c_check_claim.Learnt (λ κs z e z′ e′. (z ≡ z′) × (now (e .1 .1 .1 .1 .1 .1 .0) ≡ now (e′ .1 .1 .1 .1 .1 .1 .0)))
+c-check-claim-one-reply κs a z z′ e e′ p q = (p .0 ∙ sym (q .0), p .1 ∙ sym (q .1))
+
+holds-kept : (c : Chosen) (f : Basis → Claimed) (old : Bool) → NotZero (chosen c noBasis (λ b. claimedReply (f b))) → chosen c old (λ b. holdsLeft (f b) old) ≡ old
+holds-kept Unknown f old h = refl
+holds-kept (Known b) f old h = go (f b) h
+  where
+    go : (v : Claimed) → NotZero (claimedReply v) → holdsLeft v old ≡ old
+    go Holds h = absurd (h refl)
+    go Differs h = absurd (h refl)
+    go (Refused r) h = refl
+
+pub c-check-claim-writes-nothing : Keeps c_check_claim.Learnt (λ κs a z e. NotZero z → now (e .1 .1 .1 .1 .1 .1 .0) ≡ now (a .1 .1 .1 .1 .1 .1 .0))
+c-check-claim-writes-nothing κs a z e p h =
+    p .1
+    ∙ holds-kept (chosenOf (a .0)) (λ b. claimOf b (a .1 .0) (a .1 .1 .0) (a .1 .1 .1 .0) (a .1 .1 .1 .1 .0) (now (a .1 .1 .1 .1 .1 .0))) (now (a .1 .1 .1 .1 .1 .1 .0)) (λ w. h (p .0 ∙ w))

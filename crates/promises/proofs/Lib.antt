@@ -19,9 +19,9 @@ pub mod Premise
 pub mod Eleven
 pub mod Telling
 pub mod Uneven
+pub mod Claims
 pub mod NumbersBeyond
 pub mod Spans
 pub mod Steady
 pub mod Programs
 pub mod Sheets
-pub mod Claims

@@ -1,5 +1,5 @@
--- The calls beyond the base by the numbers of the refusal table, as the base's are: on a table with a span, strict conversion, depths against uneven hours
--- and the valve. Where there are two tables the number owed is that of the first row of the times, or where they pass of the depths. Assumes nothing.
+-- The calls beyond the base by the numbers of the refusal table, as the base's are: on a table with a span, strict conversion, depths against uneven hours,
+-- the valve and a claim. Where there are two tables the number owed is that of the first row of the times, or where they pass of the depths. Assumes nothing.
 use mathlib.Core.Path.{_≡_, refl, sym, ap, _∙_}
 use mathlib.Core.Bool.{true, false}
 use mathlib.Core.List.{List, _∷_}
@@ -17,6 +17,10 @@ use Rattle.basis.specs.declared.Basis.{Basis}
 use Rattle.spline.specs.Evaluation.{splineUses}
 use Rattle.inverse_segment.specs.Answer.{defaultLimit, defaultPrecision}
 use Rattle.inverse.specs.Inverse.{inverseUses}
+use Rattle.claim.specs.declared.Claimed.{Claimed}
+use Rattle.claim.specs.declared.Claimed.the-variants as C
+use Rattle.claim.specs.Claim.{claimUses}
+use Rattle.claim.proofs.check_claim.Reads as check_claim
 use Rattle.convert.specs.Conversion.{convertUses}
 use Rattle.convert_strict.specs.Strict.{strictUses}
 use Rattle.convert_strict.proofs.convert_spline_strict.Reads as convert_spline_strict
@@ -39,12 +43,13 @@ use Rattle.valve.specs.declared.Mixture.the-variants as M
 use Rattle.valve.specs.Mix.{mixUses}
 use Rattle.valve.proofs.mix.Reads as mix
 use Rattle.promises.specs.Calls.{Keeps}
-use Rattle.promises.specs.Numbers.{numberIn, numberBy, eitherOf, numberByBoth, timedNumber, handedNumber, soundedNumber, mixtureNumber, Counts}
+use Rattle.promises.specs.Numbers.{numberIn, numberBy, eitherOf, numberByBoth, timedNumber, handedNumber, soundedNumber, mixtureNumber, claimedNumber, Counts}
 use Rattle.promises.proofs.Numbers.{RowNumber, PlaceNumber, none-passed, none-first, row-first, unused, Refuses, Owes, owed-place, by-rows, by-places, ValueNumber, WrittenNumber, values, writes}
 use Rattle.promises.proofs.Seconds.{table-spline-refuses, table-spline-inverse-by-refuses, table-spline-inverse-refuses, table-convert-spline-refuses}
 use Rattle.promises.proofs.Strict.{strict-refuses-first}
 use Rattle.promises.proofs.Uneven.{Sounds, depth-at-sounds}
 use Rattle.promises.proofs.Valve.{mix-refuses}
+use Rattle.promises.proofs.Claims.{check-claim-checked}
 
 -- ---- a table with a span
 pub timed-owed : (us : Uses) (z : Timed) → Refuses T.Refused us z → Owes (numberBy us) (timedNumber z) (Counts T.OffCurve z)
@@ -90,6 +95,18 @@ mixture-owed us (M.Refused r) d = row-first us r (d r .0 refl)
 
 pub mix-number : Keeps mix.Learnt (λ κs a z e. RowNumber (numberBy (mixUses (a .0) (now (a .1 .0)))) (mixtureNumber z))
 mix-number κs a z e p = by-rows mixtureNumber M.Refused mixture-owed _ z refl refl (mix-refuses κs a z e p)
+
+-- ---- a claim
+claimed-owed : (us : Uses) (z : Claimed) → Refuses C.Refused us z → claimedNumber z ≡ numberBy us
+claimed-owed us C.Holds d = none-first us (λ r f. let h : C.Holds ≡ C.Refused r = d r .1 f in never (cc))
+claimed-owed us C.Differs d = none-first us (λ r f. let h : C.Differs ≡ C.Refused r = d r .1 f in never (cc))
+claimed-owed us (C.Refused r) d = row-first us r (d r .0 refl)
+
+pub check-claim-number : Keeps check_claim.Learnt
+    (λ κs a z e. RowNumber
+    (numberBy (claimUses (a .0) (a .1 .0) (a .1 .1 .0) (a .1 .1 .1 .0) (a .1 .1 .1 .1 .0) (now (a .1 .1 .1 .1 .1 .0))))
+    (claimedNumber z))
+check-claim-number κs a z e p = by-rows claimedNumber C.Refused claimed-owed _ z refl refl (check-claim-checked κs a z e p .refused)
 
 -- ---- two tables: us are the rows of the times, vs those of the depths
 unused-in-both : (us vs : Uses) (n : ℕ) → 0 < n → applies n us ≡ false → applies n vs ≡ false → numberByBoth us vs ≡ n → ⊥

@@ -5,6 +5,8 @@ use Rattle.error.specs.declared.Refusal.the-variants as R
 use Rattle.error.specs.declared.Verdict.{Verdict}
 use Rattle.error.specs.declared.Verdict.the-variants.{Passed, Failed}
 use Rattle.error.specs.Refusals.{numberOf, Uses, first}
+use Rattle.claim.specs.declared.Claimed.{Claimed}
+use Rattle.claim.specs.declared.Claimed.the-variants as C
 use Rattle.table.specs.declared.Timed.{Timed}
 use Rattle.table.specs.declared.Timed.the-variants as T
 use Rattle.table.specs.declared.Handed.{Handed}
@@ -50,6 +52,11 @@ soundedNumber (S.Refused t r) = numberOf r
 abbrev pub mixtureNumber : Mixture → ℕ
 mixtureNumber (M.Mixed z) = 0
 mixtureNumber (M.Refused r) = numberOf r
+
+abbrev pub claimedNumber : Claimed → ℕ
+claimedNumber C.Holds = 0
+claimedNumber C.Differs = 0
+claimedNumber (C.Refused r) = numberOf r
 
 -- a reply is the case that carries a count
 abbrev pub Counts : {Z : Type 0} → (ℕ → Z) → Z → Type 0

@@ -6,7 +6,7 @@ use Rattle.claim.proofs.check_claim.Tie as tie
 use Rattle.claim.proofs.check_claim.Reads as reads
 use Rattle.claim.proofs.check_claim.Lts as lts
 use Rattle.claim.proofs.is_accepted.Reads as is-accepted-reads
-use Rattle.claim.proofs.verdict.Reads as verdict-reads
+use Rattle.claim.proofs.refusals.verdict.Reads as verdict-reads
 
 verdict-requires : tie.Need-verdict-requires
 verdict-requires c κs = search needs
