@@ -196,6 +196,14 @@ enum { SIMMERSTOAT_BOTH = 3 };
 uint32_t simmerstoat_depth_at(uint8_t times_basis, const double *times, size_t n, uint8_t depths_basis,
                               const double *depths, size_t m, double y, uint16_t limit, double precision, double *depth,
                               double place[4], size_t whole[4]);
+
+/* Whether a claim holds, to holds: that the segment, from 0, at the local place x is within twice the precision of y, in
+ * doubles. A place outside 0 to 1 makes it false, and so does an infinite one. What an inversion answers by
+ * SIMMERSTOAT_VALUE or SIMMERSTOAT_EDGE holds for its own segment, local place and precision; by another ground it may
+ * not. Refusals: 255, 1, 2, 3, 5 (y or x is NaN), 6, 19, 4. */
+uint32_t simmerstoat_check_claim(uint8_t basis, double y, size_t segment, double x, double precision,
+                                 const double *knots, size_t n, bool *holds);
+
 /* ---- tables with a span: whole seconds from dusk, 1 to 86,400, and 0 for none. Each call refuses a missing or bad span
  * with SIMMERSTOAT_BAD_SPAN, after 3 and before all else; with a good one it is the call without a span. */
 

@@ -1,4 +1,5 @@
 //! The crate uniform-cubic-splines as the judge of the port.
+pub mod claims;
 pub mod compare;
 pub mod crates;
 pub mod inputs;

@@ -13,4 +13,5 @@ pub struct Part {
     pub knots: fn(&mut Tally, &mut Rng, usize, &[f64]),
 }
 
-pub const PARTS: &[Part] = &[crate::modes::PART, crate::strict::PART, crate::uneven::PART, crate::table::PART];
+pub const PARTS: &[Part] =
+    &[crate::modes::PART, crate::strict::PART, crate::uneven::PART, crate::table::PART, crate::claims::PART];

@@ -34,6 +34,7 @@ calls! {
     TableSpline "table_spline",
     TableSplineInverse "table_spline_inverse",
     TableConvertSpline "table_convert_spline",
+    CheckClaim "check_claim",
 }
 
 impl Call {

@@ -51,6 +51,7 @@ extern crate std;
 
 mod answer;
 pub mod basis;
+pub mod claim;
 pub mod convert;
 mod double;
 mod options;

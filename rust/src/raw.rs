@@ -141,6 +141,17 @@ extern "C" {
         whole: *mut [usize; 4],
     ) -> u32;
 
+    pub fn simmerstoat_check_claim(
+        basis: u8,
+        y: f64,
+        segment: usize,
+        x: f64,
+        precision: f64,
+        knots: *const f64,
+        n: usize,
+        holds: *mut bool,
+    ) -> u32;
+
     pub fn simmerstoat_table_spline(
         basis: u8,
         span: u32,

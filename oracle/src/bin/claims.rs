@@ -1,0 +1,58 @@
+//! `claims IN OUT`: a million places that the crate answers by its defaults, written as claims to IN, and to OUT what the
+//! model says of them; and a table of how many hold, by the ground of the answer. The crate tells a parameter alone. So each
+//! place is claimed twice: with the segment and local place that the crate's own evaluation makes of that parameter, as a
+//! box would send them, and with those that its search had, as the model has them.
+
+use std::fs::File;
+use std::io::{BufWriter, Result, Write};
+
+use judge::claims::{self, Claim};
+use judge::crates;
+use judge::inputs::{self, Rng, SEGMENTS};
+use judge::model::{self, Fate, Options, STEP};
+
+const WANTED: usize = 1_000_000;
+const BASES: [&str; 6] = ["Bspline", "Bezier", "CatmullRom", "Hermite", "Linear", "Power"];
+const GROUNDS: [&str; 5] = ["end", "edge", "value", "width", "spent"];
+
+fn main() -> Result<()> {
+    let words: Vec<String> = std::env::args().skip(1).collect();
+    let (mut listing, mut replies) = (BufWriter::new(File::create(&words[0])?), BufWriter::new(File::create(&words[1])?));
+    let mut r = Rng(108);
+    // by ground: places, those that hold by the parameter, those that hold by the search
+    let mut counts = [[0usize; 3]; 5];
+    while counts.iter().map(|c| c[0]).sum::<usize>() < WANTED {
+        let b = r.below(6);
+        let k = r.one_of(&SEGMENTS).min(200).min((4096 - 4) / STEP[b] + 1);
+        let mut knots = Vec::new();
+        inputs::fill(&mut r, 4 + (k - 1) * STEP[b], &mut knots);
+        writeln!(listing, "curve\t{}", BASES[b])?;
+        knots.iter().try_for_each(|x| writeln!(listing, "knot\t{:016X}", x.to_bits()))?;
+        for _ in 0..100 {
+            let y = inputs::target(&mut r, b, &knots);
+            let i = model::spline_inverse(b, y, &knots, &Options::DEFAULT);
+            let (Ok(p), Fate::Answers) = (i.answer, i.fate) else { continue };
+            let parameter = crates::spline_inverse_default(b, y, &knots, false).expect("the crate answers");
+            assert_eq!(parameter.to_bits(), p.parameter.to_bits());
+            let scaled = parameter * k as f64;
+            let segment = (scaled.floor() as usize).min(k - 1);
+            let count = &mut counts[p.ground as usize];
+            count[0] += 1;
+            for (way, segment, local) in [(1, segment, scaled - segment as f64), (2, p.segment, p.local)] {
+                let c = Claim { y, segment, local, precision: 1e-10 };
+                let holds = claims::model(b, &c, &knots).expect("no row applies");
+                assert_eq!(claims::port(b as u8, &c, &knots, !holds), (0, holds));
+                count[way] += usize::from(holds);
+                let (y, x, e) = (y.to_bits(), local.to_bits(), c.precision.to_bits());
+                writeln!(listing, "claim\t{y:016X}\t{segment}\t{x:016X}\t{e:016X}")?;
+                writeln!(replies, "{}", if holds { "holds" } else { "differs" })?;
+            }
+        }
+    }
+    println!("| ground | places | hold by the parameter | hold by the search's segment and local place |");
+    println!("|---|---:|---:|---:|");
+    for (ground, [places, by_parameter, by_search]) in GROUNDS.iter().zip(counts) {
+        println!("| {ground} | {places} | {by_parameter} | {by_search} |");
+    }
+    Ok(())
+}
