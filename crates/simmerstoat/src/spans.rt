@@ -5,7 +5,7 @@ ghost use Rattle.convert.specs.Buffer.{answerOf, bufferOf};
 ghost use Rattle.inverse.specs.declared.EndsBy.the-variants.{Knots};
 ghost use Rattle.inverse_segment.specs.Answer.{defaultLimit, defaultPrecision};
 ghost use Rattle.inverse_methods.specs.declared.Method.the-variants.{AsCrate};
-ghost use Rattle.table.specs.Calls.{tableSplineOf, tableInverseBy, tableConvertedOf, handedOf};
+ghost use Rattle.table.specs.Calls.{tableSplineOf, tableInverseBy, tableConvertedOf, tableStrictOf, handedOf};
 ghost use Rattle.simmerstoat.specs.Replies.{chosenOf, noBasis, chosen, evaluatedReply, valueLeft};
 ghost use Rattle.simmerstoat.specs.Options.{chosenBy};
 ghost use Rattle.simmerstoat.specs.Tables.{
@@ -186,6 +186,42 @@ pub extern "C" fn simmerstoat_table_convert_spline(
     };
     handed_told(
         table::table_convert_spline(old, t, knots, out),
+        handed,
+        written,
+    )
+}
+
+// The same, unless a seam loses more than the allowance.
+#[no_mangle]
+pub extern "C" fn simmerstoat_table_convert_spline_strict(
+    from: u8,
+    span: u32,
+    to: u8,
+    knots: &[f64],
+    allowance: f64,
+    out: &mut [f64],
+    handed: &mut u32,
+    written: &mut usize,
+) -> u32
+    ensures answer { λ r. ⌜ r ≡ chosen (chosenOf from) noBasis (λ f. chosen (chosenOf to) noBasis (λ t. handedReply (handedOf span t (answerOf (tableStrictOf (tableOf span f) t (now (knots .entry)) allowance (length (now (out .entry)))))))) ⌝ }
+    ensures span { λ _. ⌜ now (handed .exit) ≡ chosen (chosenOf from) (now (handed .entry)) (λ f. chosen (chosenOf to) (now (handed .entry)) (λ t. handedSpan (handedOf span t (answerOf (tableStrictOf (tableOf span f) t (now (knots .entry)) allowance (length (now (out .entry)))))) (now (handed .entry)))) ⌝ }
+    ensures length { λ _. ⌜ now (written .exit) ≡ chosen (chosenOf from) (now (written .entry)) (λ f. chosen (chosenOf to) (now (written .entry)) (λ t. handedLength (handedOf span t (answerOf (tableStrictOf (tableOf span f) t (now (knots .entry)) allowance (length (now (out .entry)))))) (now (written .entry)))) ⌝ }
+    ensures buffer { λ _. ⌜ now (out .exit) ≡ chosen (chosenOf from) (now (out .entry)) (λ f. chosen (chosenOf to) (now (out .entry)) (λ t. bufferOf (tableStrictOf (tableOf span f) t (now (knots .entry)) allowance (length (now (out .entry)))) (now (out .entry)))) ⌝ }
+{
+    let c = crate::basis_of(from);
+    let Chosen::Known(f) = c else {
+        return 255;
+    };
+    let d = crate::basis_of(to);
+    let Chosen::Known(t) = d else {
+        return 255;
+    };
+    let old = Table {
+        basis: f,
+        span: span,
+    };
+    handed_told(
+        table::table_convert_spline_strict(old, t, knots, allowance, out),
         handed,
         written,
     )

@@ -12,6 +12,8 @@ use Rattle.basis.specs.declared.Basis.{Basis}
 use Rattle.basis.specs.Basis.{regular}
 use Rattle.convert.specs.Conversion.{Conversion, gives, refuses, unless, convertUses, convertedOf}
 use Rattle.convert.specs.Buffer.{answerOf, bufferOf}
+use Rattle.convert.specs.declared.Converted.{Converted}
+use Rattle.convert_strict.specs.Strict.{strictUses, strictOf}
 use Rattle.error.specs.declared.Refusal.{Refusal}
 use Rattle.error.specs.declared.Refusal.the-variants.{TooFew, BadPattern, TooMany, BadSpan}
 use Rattle.error.specs.declared.Verdict.{Verdict}
@@ -29,8 +31,10 @@ use Rattle.checks.specs.Checks.{curveLength}
 use Rattle.spline.specs.declared.Evaluated.the-variants as E
 use Rattle.table.specs.declared.Table.{Table}
 use Rattle.table.specs.declared.Timed.the-variants as T
+use Rattle.table.specs.declared.Handed.{Handed}
+use Rattle.table.specs.declared.Handed.the-variants as H
 use Rattle.table.specs.Second.{day, goodSpan, badSpan}
-use Rattle.table.specs.Calls.{verdictOf, valueUnless, tableSplineOf, timedOf, timedUnless, tableInverseBy, conversionUnless, tableConvertedOf}
+use Rattle.table.specs.Calls.{verdictOf, valueUnless, tableSplineOf, timedOf, timedUnless, tableInverseBy, conversionUnless, tableConvertedOf, tableStrictOf, handedOf}
 
 -- ---- a good span
 pub good-least : (s : ℕ) → goodSpan s ≡ true → (1 ≤ s) × (s ≤ day)
@@ -121,20 +125,46 @@ module _ (m : EndsBy) (how : Method) (t : Table) (y : Float) (ks : List Float) (
   unfolding tableInverseBy
   inverse-spanless r g e = rw (bad-verdict t (length ks) _ r g e) refl
 
--- ---- conversion
+-- ---- conversion: of any rows that have no use for 14, and any doubles
 conversion-again : (v : Verdict) (l : List Float) → conversionUnless v (unless v l) ≡ unless v l
 conversion-again Passed l = refl
 conversion-again (Failed r) l = refl
 
+module _ (t : Table) where
+  same-conversion : (us : Uses) (l : List Float) → applies 14 us ≡ false → goodSpan (t .span) ≡ true
+      → conversionUnless (verdictOf t us) (unless (first us) l) ≡ unless (first us) l
+  same-conversion us l h g = ap (λ (v : Verdict). conversionUnless v (unless (first us) l)) (good-verdict t us h g) ∙ conversion-again (first us) l
+
 module _ (t : Table) (to : Basis) (ks : List Float) (room : ℕ) where
   pub converted-base : goodSpan (t .span) ≡ true → tableConvertedOf t to ks room ≡ convertedOf (t .basis) to ks room
   unfolding tableConvertedOf convertedOf
-  converted-base g = rw (good-verdict t (convertUses (t .basis) to ks room) refl g) (conversion-again (first (convertUses (t .basis) to ks room)) _)
+  converted-base g = same-conversion t (convertUses (t .basis) to ks room) _ refl g
 
   pub converted-spanless : (r : Refusal) → goodSpan (t .span) ≡ false → Failed r ≡ first ((BadSpan, true) ∷ curveLength (t .basis) (length ks))
       → tableConvertedOf t to ks room ≡ refuses r
   unfolding tableConvertedOf
   converted-spanless r g e = rw (bad-verdict t (length ks) _ r g e) refl
+
+module _ (t : Table) (to : Basis) (ks : List Float) (allowance : Float) (room : ℕ) where
+  pub strict-base : goodSpan (t .span) ≡ true → tableStrictOf t to ks allowance room ≡ strictOf (t .basis) to ks allowance room
+  unfolding tableStrictOf strictOf
+  strict-base g = same-conversion t (strictUses (t .basis) to ks allowance room) _ refl g
+
+  pub strict-spanless : (r : Refusal) → goodSpan (t .span) ≡ false → Failed r ≡ first ((BadSpan, true) ∷ curveLength (t .basis) (length ks))
+      → tableStrictOf t to ks allowance room ≡ refuses r
+  unfolding tableStrictOf
+  strict-spanless r g e = rw (bad-verdict t (length ks) _ r g e) refl
+
+-- what both conversions tell: the base's answer handed on, and its buffer; or the refusal, and the buffer as it was
+module _ (span : ℕ) (to : Basis) (out : List Float) (x : Conversion) where
+  abbrev Tells : Handed → List Float → Type 0
+  Tells a o = (a ≡ handedOf span to (answerOf x)) × (o ≡ bufferOf x out)
+
+  pub tells-base : (y : Conversion) {c : Converted} {a : Handed} {o : List Float} → x ≡ y → a ≡ handedOf span to c → c ≡ answerOf y → o ≡ bufferOf y out → Tells a o
+  tells-base y e p q b = (p ∙ ap (handedOf span to) (q ∙ ap answerOf (sym e)), b ∙ ap (λ (c : Conversion). bufferOf c out) (sym e))
+
+  pub tells-refusal : (r : Refusal) → x ≡ refuses r → Tells (H.Refused r) out
+  tells-refusal r e = (ap (λ (c : Conversion). handedOf span to (answerOf c)) (sym e), ap (λ (c : Conversion). bufferOf c out) (sym e))
 
 -- ---- the rows of each call, in the order in which they are told
 pub spline-order : (t : Table) (x : Float) (ks : List Float) → orderOf (badSpan (t .span) ∷ splineUses (t .basis) x ks) ≡ 1 ∷ 2 ∷ 3 ∷ 14 ∷ 5 ∷ 4 ∷ []
@@ -146,3 +176,7 @@ inverse-order t y ks check limit ε = refl
 
 pub convert-order : (t : Table) (to : Basis) (ks : List Float) (room : ℕ) → orderOf (badSpan (t .span) ∷ convertUses (t .basis) to ks room) ≡ 1 ∷ 2 ∷ 3 ∷ 14 ∷ 8 ∷ 9 ∷ 4 ∷ []
 convert-order t to ks room = refl
+
+pub strict-order : (t : Table) (to : Basis) (ks : List Float) (allowance : Float) (room : ℕ)
+    → orderOf (badSpan (t .span) ∷ strictUses (t .basis) to ks allowance room) ≡ 1 ∷ 2 ∷ 3 ∷ 14 ∷ 8 ∷ 17 ∷ 9 ∷ 4 ∷ 15 ∷ []
+strict-order t to ks allowance room = refl

@@ -1,4 +1,4 @@
--- The three calls on a table with its span: the rows of the base's call and 14; where none applies, what the base's call answers, with the
+-- The calls on a table with its span: the rows of the base's call and 14; where none applies, what the base's call answers, with the
 -- second beside a place and the span handed on. Definitions only.
 use mathlib.Core.Bool.{Bool}
 use mathlib.Core.List.{List, _∷_}
@@ -8,6 +8,7 @@ use Rattle.basis.specs.declared.Basis.{Basis}
 use Rattle.convert.specs.declared.Converted.{Converted}
 use Rattle.convert.specs.declared.Converted.the-variants as C
 use Rattle.convert.specs.Conversion.{Conversion, refuses, convertUses, convertedOf}
+use Rattle.convert_strict.specs.Strict.{strictUses, strictOf}
 use Rattle.error.specs.declared.Verdict.{Verdict}
 use Rattle.error.specs.declared.Verdict.the-variants.{Passed, Failed}
 use Rattle.error.specs.Refusals.{Uses, first}
@@ -68,6 +69,11 @@ conversionUnless (Failed r) c = refuses r
 
 unfoldable pub tableConvertedOf : Table → Basis → List Float → ℕ → Conversion
 tableConvertedOf t to ks room = conversionUnless (verdictOf t (convertUses (t .basis) to ks room)) (convertedOf (t .basis) to ks room)
+
+-- the strict one, with an allowance
+unfoldable pub tableStrictOf : Table → Basis → List Float → Float → ℕ → Conversion
+tableStrictOf t to ks allowance room =
+    conversionUnless (verdictOf t (strictUses (t .basis) to ks allowance room)) (strictOf (t .basis) to ks allowance room)
 
 -- the new table has the old one's span
 abbrev pub handedOf : ℕ → Basis → Converted → Handed

@@ -1,4 +1,4 @@
-// A table of depths with its span in seconds from dusk, and the three calls on it.
+// A table of depths with its span in seconds from dusk, and the calls on it.
 ghost use mathlib.Core.Path.{_≡_};
 ghost use mathlib.Core.Bool.{true};
 ghost use mathlib.Core.List.{_∷_};
@@ -12,7 +12,7 @@ ghost use Rattle.inverse_segment.specs.Answer.{defaultLimit, defaultPrecision};
 ghost use Rattle.inverse_methods.specs.declared.Method.the-variants.{AsCrate};
 ghost use Rattle.checks.specs.Checks.{curveLength};
 ghost use Rattle.table.specs.Second.{goodSpan, secondsOf, secondsIn};
-ghost use Rattle.table.specs.Calls.{timedOf, tableSplineOf, tableInverseBy, tableSteadyOf, tableConvertedOf, handedOf};
+ghost use Rattle.table.specs.Calls.{timedOf, tableSplineOf, tableInverseBy, tableSteadyOf, tableConvertedOf, tableStrictOf, handedOf};
 use basis::Basis;
 use convert::Converted;
 use error::Refusal;
@@ -166,6 +166,29 @@ pub fn table_convert_spline(t: Table, to: Basis, knots: &[f64], out: &mut [f64])
     let span = t.span;
     if is_span(span) {
         return handed_on(span, to, convert::convert_spline(b, to, knots, out));
+    }
+    Handed::Refused(without_span(b, knots.len()))
+}
+
+// The same, unless a seam loses more than the allowance.
+pub fn table_convert_spline_strict(
+    t: Table,
+    to: Basis,
+    knots: &[f64],
+    allowance: f64,
+    out: &mut [f64],
+) -> Handed
+    ensures answer { λ r. ⌜ r ≡ handedOf (t .span) to (answerOf (tableStrictOf t to (now (knots .entry)) allowance (length (now (out .entry))))) ⌝ }
+    ensures buffer { λ r. ⌜ now (out .exit) ≡ bufferOf (tableStrictOf t to (now (knots .entry)) allowance (length (now (out .entry)))) (now (out .entry)) ⌝ }
+{
+    let b = t.basis;
+    let span = t.span;
+    if is_span(span) {
+        return handed_on(
+            span,
+            to,
+            convert_strict::convert_spline_strict(b, to, knots, allowance, out),
+        );
     }
     Handed::Refused(without_span(b, knots.len()))
 }
