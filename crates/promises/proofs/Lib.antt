@@ -23,5 +23,6 @@ pub mod Claims
 pub mod NumbersBeyond
 pub mod Spans
 pub mod Steady
+pub mod StrictTables
 pub mod Programs
 pub mod Sheets

@@ -1,7 +1,7 @@
 -- What the calls on a table with a span promise: with a good span they are the base's, with the second beside a place and the span handed on; they refuse
 -- exactly by the first row that applies, 14 among them; and the second is the largest whole number not above parameter × span. Assumes nothing.
 use mathlib.Core.Path.{_≡_, refl, sym, ap, subst, _∙_}
-use mathlib.Core.Bool.{Bool, true, not}
+use mathlib.Core.Bool.{Bool, true, false, not}
 use mathlib.Core.List.{List, _∷_}
 use Prim.Native.Nat.{ℕ, _≤_}
 use borrow.Author.Tests.{not-false}
@@ -11,7 +11,7 @@ use lib.Ieee.{Float}
 use Rattle.error.specs.declared.Refusal.{Refusal}
 use Rattle.error.specs.declared.Verdict.{Verdict}
 use Rattle.error.specs.declared.Verdict.the-variants.{Passed, Failed}
-use Rattle.error.specs.Refusals.{Uses, rows, first}
+use Rattle.error.specs.Refusals.{Uses, rows, applies, first}
 use Rattle.error.proofs.First.{never, First, clear, first-sound, first-complete}
 use Rattle.basis.specs.declared.Basis.{Basis}
 use Rattle.spline.specs.declared.Evaluated.{Evaluated}
@@ -31,15 +31,16 @@ use Rattle.inverse.proofs.Promises.{inverse-proper}
 use Rattle.inverse.proofs.Refusing.{inverse-refused-only, inverse-refused-where}
 use Rattle.convert.specs.declared.Converted.{Converted}
 use Rattle.convert.specs.declared.Converted.the-variants as C
-use Rattle.convert.specs.Conversion.{Conversion, gives, refuses, convertUses, convertedOf}
+use Rattle.convert.specs.Conversion.{Conversion, gives, refuses, unless, convertUses, convertedOf}
 use Rattle.convert.specs.Buffer.{answerOf, bufferOf}
+use Rattle.convert_strict.specs.Strict.{strictUses, strictOf}
 use Rattle.table.specs.declared.Table.{Table}
 use Rattle.table.specs.declared.Timed.{Timed}
 use Rattle.table.specs.declared.Timed.the-variants as T
 use Rattle.table.specs.declared.Handed.{Handed}
 use Rattle.table.specs.declared.Handed.the-variants as H
 use Rattle.table.specs.Second.{goodSpan, badSpan, elapsed, secondOf}
-use Rattle.table.specs.Calls.{verdictOf, valueUnless, tableSplineOf, timedOf, timedUnless, tableInverseBy, conversionUnless, tableConvertedOf, handedOf}
+use Rattle.table.specs.Calls.{verdictOf, valueUnless, tableSplineOf, timedOf, timedUnless, tableInverseBy, conversionUnless, tableConvertedOf, tableStrictOf, handedOf}
 use Rattle.table.proofs.Spans.{good-least, good-verdict, spline-base, inverse-base, converted-base}
 use Rattle.table.proofs.Largest.{Largest, second-largest}
 use Rattle.table.proofs.table_spline.Reads as table_spline
@@ -47,7 +48,7 @@ use Rattle.table.proofs.table_spline_inverse_by.Reads as table_spline_inverse_b
 use Rattle.table.proofs.table_spline_inverse.Reads as table_spline_inverse
 use Rattle.table.proofs.table_convert_spline.Reads as table_convert_spline
 use Rattle.promises.specs.Calls.{AsksNothing, Keeps, OneReply, Exactly}
-use Rattle.promises.proofs.Refusing.{value-refused, conversion-refused}
+use Rattle.promises.proofs.Refusing.{value-refused}
 
 -- ---- no call asks anything of its caller
 pub table-spline-asks-nothing : AsksNothing table_spline.Asked
@@ -106,7 +107,7 @@ by-first us r = (first-sound rows us r, first-complete rows us r)
 two-ways : {P Q R : Type 0} → Exactly P Q → Exactly Q R → Exactly P R
 two-ways x y = (λ p. y .0 (x .0 p), λ r. x .1 (y .1 r))
 
-carried : {Z : Type 0} {z d t : Z} {Q : Type 0} → z ≡ d → Exactly (d ≡ t) Q → Exactly (z ≡ t) Q
+pub carried : {Z : Type 0} {z d t : Z} {Q : Type 0} → z ≡ d → Exactly (d ≡ t) Q → Exactly (z ≡ t) Q
 carried e x = (λ p. x .0 (sym e ∙ p), λ q. e ∙ x .1 q)
 
 -- a base's call that passes with the span refuses nothing
@@ -160,17 +161,23 @@ module _ (t : Table) (r : Refusal) where
         two-ways (by-timed (verdictOf t (inverseUses (t .basis) y ks check limit ε)) (timedOf (t .span) (inverseBy m how (t .basis) y ks check limit ε)) r place-past)
         (by-first (badSpan (t .span) ∷ inverseUses (t .basis) y ks check limit ε) r)
 
-  module _ (to : Basis) (ks : List Float) (room : ℕ) where
-    conversion-past : verdictOf t (convertUses (t .basis) to ks room) ≡ Passed → answerOf (convertedOf (t .basis) to ks room) ≡ C.Refused r → ⊥
-    conversion-past e h =
-        let us = convertUses (t .basis) to ks room in
-        failed-passed (first-complete rows us r (conversion-refused (t .basis) to ks room r .0 h)) (sym (good-verdict t us refl (passes t us e)) ∙ e)
+  -- of any rows that have no use for 14, and any doubles
+  module _ (to : Basis) (us : Uses) (h : applies 14 us ≡ false) (l : List Float) where
+    conversion-past : verdictOf t us ≡ Passed → answerOf (unless (first us) l) ≡ C.Refused r → ⊥
+    conversion-past e = subst (λ (v : Verdict). answerOf (unless v l) ≡ C.Refused r → ⊥) (sym e ∙ good-verdict t us h (passes t us e)) (λ p. never (cc))
 
-    pub table-conversion-refused : Exactly (handedOf (t .span) to (answerOf (tableConvertedOf t to ks room)) ≡ H.Refused r) (First (badSpan (t .span) ∷ convertUses (t .basis) to ks room) rows r)
-    unfolding tableConvertedOf
-    table-conversion-refused =
-        two-ways (by-handed (t .span) to (verdictOf t (convertUses (t .basis) to ks room)) (convertedOf (t .basis) to ks room) r conversion-past)
-        (by-first (badSpan (t .span) ∷ convertUses (t .basis) to ks room) r)
+    pub handed-refused : Exactly (handedOf (t .span) to (answerOf (conversionUnless (verdictOf t us) (unless (first us) l))) ≡ H.Refused r) (First (badSpan (t .span) ∷ us) rows r)
+    handed-refused = two-ways (by-handed (t .span) to (verdictOf t us) (unless (first us) l) r conversion-past) (by-first (badSpan (t .span) ∷ us) r)
+
+  pub table-conversion-refused : (to : Basis) (ks : List Float) (room : ℕ)
+      → Exactly (handedOf (t .span) to (answerOf (tableConvertedOf t to ks room)) ≡ H.Refused r) (First (badSpan (t .span) ∷ convertUses (t .basis) to ks room) rows r)
+  unfolding tableConvertedOf convertedOf
+  table-conversion-refused to ks room = handed-refused to (convertUses (t .basis) to ks room) refl _
+
+  pub table-strict-refused : (to : Basis) (ks : List Float) (allowance : Float) (room : ℕ)
+      → Exactly (handedOf (t .span) to (answerOf (tableStrictOf t to ks allowance room)) ≡ H.Refused r) (First (badSpan (t .span) ∷ strictUses (t .basis) to ks allowance room) rows r)
+  unfolding tableStrictOf strictOf
+  table-strict-refused to ks allowance room = handed-refused to (strictUses (t .basis) to ks allowance room) refl _
 
 pub table-spline-refuses : Keeps table_spline.Learnt (λ κs a z e. (r : Refusal) → Exactly (z ≡ E.Refused r) (First (badSpan (a .0 .span) ∷ splineUses (a .0 .basis) (a .1 .0) (now (a .1 .1 .0))) rows r))
 table-spline-refuses κs a z e p r = carried p (table-value-refused (a .0) r (a .1 .0) (now (a .1 .1 .0)))
@@ -188,7 +195,7 @@ pub table-convert-spline-refuses : Keeps table_convert_spline.Learnt
 table-convert-spline-refuses κs a z e p r = carried (p .0) (table-conversion-refused (a .0) r (a .1 .0) (now (a .1 .1 .0)) (length (now (a .1 .1 .1 .0))))
 
 -- ---- a refusal writes nothing
-kept : (s : ℕ) (to : Basis) (c : Conversion) (out : List Float) (r : Refusal) → handedOf s to (answerOf c) ≡ H.Refused r → bufferOf c out ≡ out
+pub kept : (s : ℕ) (to : Basis) (c : Conversion) (out : List Float) (r : Refusal) → handedOf s to (answerOf c) ≡ H.Refused r → bufferOf c out ≡ out
 kept s to (gives l) out r p = never (cc)
 kept s to (refuses q) out r p = refl
 

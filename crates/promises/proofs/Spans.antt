@@ -20,7 +20,7 @@ use Rattle.table.specs.declared.Timed.{Timed}
 use Rattle.table.specs.declared.Timed.the-variants as T
 use Rattle.table.specs.declared.Handed.{Handed}
 use Rattle.table.specs.declared.Handed.the-variants as H
-use Rattle.table.specs.Calls.{tableSplineOf, tableInverseBy, tableConvertedOf, handedOf}
+use Rattle.table.specs.Calls.{tableSplineOf, tableInverseBy, tableConvertedOf, tableStrictOf, handedOf}
 use Rattle.simmerstoat.specs.declared.Chosen.{Chosen}
 use Rattle.simmerstoat.specs.declared.Chosen.the-variants.{Known, Unknown}
 use Rattle.simmerstoat.specs.declared.options.Way.{Way}
@@ -32,6 +32,7 @@ use Rattle.simmerstoat.proofs.spans.simmerstoat_table_spline.Reads as table_spl
 use Rattle.simmerstoat.proofs.spans.simmerstoat_table_spline_inverse.Reads as table_spline_inverse
 use Rattle.simmerstoat.proofs.spans.simmerstoat_table_spline_inverse_by.Reads as table_spline_inverse_by
 use Rattle.simmerstoat.proofs.spans.simmerstoat_table_convert_spline.Reads as table_convert_spline
+use Rattle.simmerstoat.proofs.spans.simmerstoat_table_convert_spline_strict.Reads as table_convert_spline_strict
 use Rattle.promises.specs.Calls.{AsksNothing, Keeps, OneReply}
 use Rattle.promises.proofs.Exports.{NotZero}
 
@@ -48,6 +49,9 @@ c-table-spline-inverse-by-asks-nothing κs a = tt
 pub c-table-convert-spline-asks-nothing : AsksNothing table_convert_spline.Asked
 c-table-convert-spline-asks-nothing κs a = tt
 
+pub c-table-strict-asks-nothing : AsksNothing table_convert_spline_strict.Asked
+c-table-strict-asks-nothing κs a = tt
+
 -- ---- no second reply fits
 one : {A : Type 0} {d x x′ : A} → x ≡ d → x′ ≡ d → x ≡ x′
 one p q = p ∙ sym q
@@ -63,6 +67,9 @@ c-table-spline-inverse-by-one-reply κs a z z′ e e′ p q = (one (p .0) (q .0)
 
 pub c-table-convert-spline-one-reply : OneReply table_convert_spline.Learnt (λ κs z e z′ e′. (z ≡ z′) × (now (e .1 .1 .1 .1 .1 .0) ≡ now (e′ .1 .1 .1 .1 .1 .0)) × (now (e .1 .1 .1 .1 .1 .1 .0) ≡ now (e′ .1 .1 .1 .1 .1 .1 .0)) × (now (e .1 .1 .1 .1 .0) ≡ now (e′ .1 .1 .1 .1 .0)))
 c-table-convert-spline-one-reply κs a z z′ e e′ p q = (one (p .0) (q .0), one (p .1 .0) (q .1 .0), one (p .1 .1 .0) (q .1 .1 .0), one (p .1 .1 .1) (q .1 .1 .1))
+
+pub c-table-strict-one-reply : OneReply table_convert_spline_strict.Learnt (λ κs z e z′ e′. (z ≡ z′) × (now (e .1 .1 .1 .1 .1 .1 .0) ≡ now (e′ .1 .1 .1 .1 .1 .1 .0)) × (now (e .1 .1 .1 .1 .1 .1 .1 .0) ≡ now (e′ .1 .1 .1 .1 .1 .1 .1 .0)) × (now (e .1 .1 .1 .1 .1 .0) ≡ now (e′ .1 .1 .1 .1 .1 .0)))
+c-table-strict-one-reply κs a z z′ e e′ p q = (one (p .0) (q .0), one (p .1 .0) (q .1 .0), one (p .1 .1 .0) (q .1 .1 .0), one (p .1 .1 .1) (q .1 .1 .1))
 
 -- ---- what is left where the reply is not 0
 value-kept : (c : Chosen) (f : Basis → Evaluated) (old : Float) → NotZero (chosen c noBasis (λ b. evaluatedReply (f b))) → chosen c old (λ b. valueLeft (f b) old) ≡ old
@@ -155,3 +162,11 @@ c-table-convert-spline-writes-nothing κs a z e p h =
     let d = chosenOf (a .1 .1 .0) in
     let n : NotZero (reply (a .1 .0) g c d) = λ w. h (p .0 ∙ w) in
     (p .1 .0 ∙ span-kept (a .1 .0) g c d (now (a .1 .1 .1 .1 .1 .0)) n, p .1 .1 .0 ∙ length-kept (a .1 .0) g c d (now (a .1 .1 .1 .1 .1 .1 .0)) n, p .1 .1 .1 ∙ buffer-kept (a .1 .0) g c d (now (a .1 .1 .1 .1 .0)) n)
+
+pub c-table-strict-writes-nothing : Keeps table_convert_spline_strict.Learnt (λ κs a z e. NotZero z → (now (e .1 .1 .1 .1 .1 .1 .0) ≡ now (a .1 .1 .1 .1 .1 .1 .0)) × (now (e .1 .1 .1 .1 .1 .1 .1 .0) ≡ now (a .1 .1 .1 .1 .1 .1 .1 .0)) × (now (e .1 .1 .1 .1 .1 .0) ≡ now (a .1 .1 .1 .1 .1 .0)))
+c-table-strict-writes-nothing κs a z e p h =
+    let g : Basis → Basis → Conversion = λ f t. tableStrictOf (tableOf (a .1 .0) f) t (now (a .1 .1 .1 .0)) (a .1 .1 .1 .1 .0) (length (now (a .1 .1 .1 .1 .1 .0))) in
+    let c = chosenOf (a .0) in
+    let d = chosenOf (a .1 .1 .0) in
+    let n : NotZero (reply (a .1 .0) g c d) = λ w. h (p .0 ∙ w) in
+    (p .1 .0 ∙ span-kept (a .1 .0) g c d (now (a .1 .1 .1 .1 .1 .1 .0)) n, p .1 .1 .0 ∙ length-kept (a .1 .0) g c d (now (a .1 .1 .1 .1 .1 .1 .1 .0)) n, p .1 .1 .1 ∙ buffer-kept (a .1 .0) g c d (now (a .1 .1 .1 .1 .1 .0)) n)
