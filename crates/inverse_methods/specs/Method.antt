@@ -5,9 +5,12 @@ use lib.Ieee.{Float}
 use Rattle.basis.specs.declared.Basis.{Basis}
 use Rattle.inverse_segment.specs.declared.Inverted.{Inverted}
 use Rattle.inverse_segment.specs.Answer.{inverseSegmentBy, defaultPrecision}
+use Rattle.inverse_segment.specs.declared.Weighing.the-variants.{Value, Distance}
 use Rattle.inverse_segment.specs.Round.{Rule, toward, chord, asCrate}
 use Rattle.inverse_methods.specs.declared.Method.{Method}
 use Rattle.inverse_methods.specs.declared.Method.the-variants.{AsCrate, Taught, Steady}
+use Rattle.inverse_methods.specs.declared.RoundsBy.{RoundsBy}
+use Rattle.inverse_methods.specs.declared.RoundsBy.the-variants.{Weight, Pace}
 use Rattle.inverse_methods.specs.Steady.{steady}
 
 abbrev pub ruleOf : Method → Rule
@@ -22,3 +25,9 @@ steadyLimit = 64
 -- one segment by the steady method, with its defaults
 abbrev pub steadySegmentOf : Basis → Float → List Float → Inverted
 steadySegmentOf b y cv = inverseSegmentBy steady b y cv steadyLimit defaultPrecision
+
+-- as the code has it: the crate's rounds with what they weigh, or those at the pace
+abbrev pub roundsOf : Method → RoundsBy
+roundsOf AsCrate = Weight Value
+roundsOf Taught = Weight Distance
+roundsOf Steady = Pace

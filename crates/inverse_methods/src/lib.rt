@@ -5,7 +5,7 @@ ghost use mathlib.Core.Bool.{true};
 ghost use Rattle.inverse_segment.specs.Round.{toward, weighed};
 ghost use Rattle.inverse_segment.specs.Shown.{repeatsAfter, countAfter};
 ghost use Rattle.inverse_segment.specs.Answer.{inverseSegmentBy, inverseSegmentOf, defaultLimit, defaultPrecision};
-ghost use Rattle.inverse_methods.specs.Method.{ruleOf, steadySegmentOf};
+ghost use Rattle.inverse_methods.specs.Method.{ruleOf, roundsOf, steadySegmentOf};
 ghost use Rattle.inverse_methods.specs.Steady.{inner};
 ghost use Rattle.inverse_methods.specs.Shown.{ChosenIs, TurnIs, RoundsIs, EnteredIs, EnteredBy};
 use basis::Basis;
@@ -24,6 +24,12 @@ pub enum Method {
     AsCrate,
     Taught,
     Steady,
+}
+
+// The rounds of a method: the crate's, with what they weigh, or those at the pace.
+pub enum RoundsBy {
+    Weight(Weighing),
+    Pace,
 }
 
 // The bracket as weighed, and the place that is evaluated.
@@ -176,7 +182,17 @@ pub fn entered(
     rounds(w, s, y, precision, v0 < v1, whole, limit, n)
 }
 
-// By the method that is asked for.
+fn method_rounds(how: Method) -> RoundsBy
+    ensures { λ r. ⌜ r ≡ roundsOf how ⌝ }
+{
+    match how {
+        Method::AsCrate => RoundsBy::Weight(Weighing::Value),
+        Method::Taught => RoundsBy::Weight(Weighing::Distance),
+        Method::Steady => RoundsBy::Pace,
+    }
+}
+
+// By the method that is asked for. One call of `inverse_segment::entered` serves both its weightings, so that it is inlined here.
 pub fn entered_by(
     how: Method,
     w: Weights,
@@ -191,31 +207,11 @@ pub fn entered_by(
     requires { ⌜ n ≤ 1000000 ⌝ }
     ensures { λ r. ⌜ EnteredBy how w s y precision limit v0 v1 n r ⌝ }
 {
-    match how {
-        Method::AsCrate => inverse_segment::entered(
-            Weighing::Value,
-            w,
-            s,
-            y,
-            precision,
-            limit,
-            v0,
-            v1,
-            n,
-        ),
-        Method::Taught => inverse_segment::entered(
-            Weighing::Distance,
-            w,
-            s,
-            y,
-            precision,
-            limit,
-            v0,
-            v1,
-            n,
-        ),
-        Method::Steady => entered(w, s, y, precision, limit, v0, v1, n),
-    }
+    let r = method_rounds(how);
+    let RoundsBy::Weight(m) = r else {
+        return entered(w, s, y, precision, limit, v0, v1, n);
+    };
+    inverse_segment::entered(m, w, s, y, precision, limit, v0, v1, n)
 }
 
 // The place of y on the segment whose four knots are cv, by the method that is asked for.
