@@ -34,19 +34,19 @@ pub fn put_last(out: &mut [f64], at: usize, w: Weights, gap: usize)
     out[at + 3] = w.w3;
 }
 
-// Segment 0 fills four places, each later one gap more.
+// Segment 0 fills four places, each later one gap more. The matrix is lent: by value it would stand on the stack twice.
 pub fn put_windows(
-    m: [[f64; 4]; 4],
+    m: &[[f64; 4]; 4],
     step: usize,
     knots: &[f64],
     gap: usize,
     out: &mut [f64],
 ) -> usize
     requires { ⌜ (0 < step) × (0 < gap) × (gap ≤ 4) × (4 ≤ length (now knots)) × (length (now knots) ≤ 4096) × (4 + (length (now knots) - 4) / step * gap ≤ length (now out)) ⌝ }
-    ensures { λ r. ⌜ (r ≡ 4 + (length (now (knots .entry)) - 4) / step * gap) × (now (out .exit) ≡ bufferOf (gives (windows m step gap (now (knots .entry)) ((length (now (knots .entry)) - 4) / step))) (now (out .entry))) ⌝ }
+    ensures { λ r. ⌜ (r ≡ 4 + (length (now (knots .entry)) - 4) / step * gap) × (now (out .exit) ≡ bufferOf (gives (windows (now (m .entry)) step gap (now (knots .entry)) ((length (now (knots .entry)) - 4) / step))) (now (out .entry))) ⌝ }
 {
     let last = (knots.len() - 4) / step;
-    put_last(&mut *out, 0, spline::segment::sums(m, knots), 4);
+    put_last(&mut *out, 0, spline::segment::sums(*m, knots), 4);
     let mut s = 0;
     while s < last {
         let at = 4 + s * gap;
@@ -55,7 +55,7 @@ pub fn put_windows(
         put_last(
             &mut *out,
             at,
-            spline::segment::sums(m, &knots[start..]),
+            spline::segment::sums(*m, &knots[start..]),
             gap,
         );
     }

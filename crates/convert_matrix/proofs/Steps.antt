@@ -6,12 +6,13 @@ use Prim.Native.Nat.{ℕ, zero, suc, _+_, _<_, _≤_}
 use native.Mathlib.Omega.{arith}
 use borrow.Author.Tests.{eq-eqb, ne-eqb}
 use lib.ListN.{drop, drop-of-length-le}
+use lib.Ieee.{Float}
 use Rattle.basis.specs.declared.Basis.{Basis}
 use Rattle.basis.specs.Basis.{matrixOf}
 use Rattle.convert_matrix.specs.declared.Inverse.{Inverse}
 use Rattle.convert_matrix.specs.declared.Pivot.{Pivot}
 use Rattle.convert_matrix.specs.declared.Pivot.the-variants.{Row, Missing}
-use Rattle.convert_matrix.specs.Matrix.{Matrix, row, entry, product}
+use Rattle.convert_matrix.specs.Matrix.{Matrix, row, entry, rowTimes, product}
 use Rattle.convert_matrix.specs.Elimination.{Elimination, goes, no-inverse, isZero, widened, firstNonzero, pivotOf, swapped, divided, reduced, clearedRow, cleared, then, withPivot, columns, rightHalf, inverse, rowsOf, inverseOf, conversionOf}
 use Rattle.convert_matrix.specs.Shown.{shown, Found}
 
@@ -90,6 +91,12 @@ pub found-below : (p : Pivot) (k : ℕ) → p ≡ Row k → Found p → k < 4
 found-below p k e h = subst Found e h
 
 -- ---- the conversion's matrix
-pub conversion : (from to : Basis) (i m r : Matrix) → i ≡ inverseOf to → m ≡ matrixOf from → r ≡ product i m → r ≡ conversionOf from to
-unfolding conversionOf
-conversion from to i m r p q e = e ∙ ap (λ (x : Matrix). product x m) p ∙ ap (product (inverseOf to)) q
+module _ (from to : Basis) {b : Matrix} (e : b ≡ matrixOf from) where
+  -- a row of the inverse times the basis's matrix
+  pub conversion-row : (i : ℕ) {r v : List Float} → r ≡ row (inverseOf to) i → v ≡ rowTimes r b → v ≡ rowTimes (row (inverseOf to) i) (matrixOf from)
+  conversion-row i {r} p q = q ∙ ap (λ (x : List Float). rowTimes x b) p ∙ ap (rowTimes (row (inverseOf to) i)) e
+
+pub conversion : (from to : Basis) {r0 r1 r2 r3 : List Float} → r0 ≡ rowTimes (row (inverseOf to) 0) (matrixOf from) → r1 ≡ rowTimes (row (inverseOf to) 1) (matrixOf from)
+    → r2 ≡ rowTimes (row (inverseOf to) 2) (matrixOf from) → r3 ≡ rowTimes (row (inverseOf to) 3) (matrixOf from) → r0 ∷ r1 ∷ r2 ∷ r3 ∷ [] ≡ conversionOf from to
+unfolding conversionOf product
+conversion from to p q r s = listed p q r s

@@ -1,7 +1,7 @@
 // Matrices of four rows by value: Gauss-Jordan, the product, a matrix applied to four values. Rust: src/convert.rs.
 ghost use mathlib.Core.Path.{_≡_};
 ghost use Prim.Native.Nat.{_<_};
-ghost use Rattle.convert_matrix.specs.Matrix.{rowTimes, product};
+ghost use Rattle.convert_matrix.specs.Matrix.{row, rowTimes};
 ghost use Rattle.convert_matrix.specs.Elimination.{widened, pivotOf, swapped, divided, cleared, inverse, inverseOf, conversionOf, rightHalf, reduced, clearedRow, goes, no-inverse};
 ghost use Rattle.convert_matrix.specs.Shown.{shown, Found};
 use basis::Basis;
@@ -178,16 +178,6 @@ fn mul_row(r: [f64; 4], b: [[f64; 4]; 4]) -> [f64; 4]
     ]
 }
 
-pub fn mul_4x4(a: [[f64; 4]; 4], b: [[f64; 4]; 4]) -> [[f64; 4]; 4]
-    ensures { λ r. ⌜ r ≡ product a b ⌝ }
-{
-    let r0 = mul_row(a[0], b);
-    let r1 = mul_row(a[1], b);
-    let r2 = mul_row(a[2], b);
-    let r3 = mul_row(a[3], b);
-    [r0, r1, r2, r3]
-}
-
 // The one place where a basis's inverse is had.
 pub fn inverse_of(b: Basis) -> [[f64; 4]; 4]
     ensures { λ r. ⌜ r ≡ inverseOf b ⌝ }
@@ -202,8 +192,22 @@ pub fn inverse_of(b: Basis) -> [[f64; 4]; 4]
     }
 }
 
+fn inverse_row(b: Basis, i: usize) -> [f64; 4]
+    requires { ⌜ i < 4 ⌝ }
+    ensures { λ r. ⌜ r ≡ row (inverseOf b) i ⌝ }
+{
+    let m = inverse_of(b);
+    m[i]
+}
+
+// Row by row: all sixteen doubles of the inverse at once would go through the stack.
 pub fn conversion_matrix(from: Basis, to: Basis) -> [[f64; 4]; 4]
     ensures { λ r. ⌜ r ≡ conversionOf from to ⌝ }
 {
-    mul_4x4(inverse_of(to), basis::basis_macros::matrix(from))
+    let b = basis::basis_macros::matrix(from);
+    let r0 = mul_row(inverse_row(to, 0), b);
+    let r1 = mul_row(inverse_row(to, 1), b);
+    let r2 = mul_row(inverse_row(to, 2), b);
+    let r3 = mul_row(inverse_row(to, 3), b);
+    [r0, r1, r2, r3]
 }
