@@ -1,5 +1,5 @@
--- The refusals of a strict conversion. The rows past the lengths, in the order of the tests; then what the verdict says beside the plain
--- conversion's: with a good allowance and no lost seam they are one. Each is shown over the truth of the rows alone. Assumes nothing.
+-- The refusals of a strict conversion. The rows past the lengths, in the order of the tests; the seams behind them; then what the verdict says beside the
+-- plain conversion's: with a good allowance and no lost seam they are one. Each is shown over the truth of the rows alone. Assumes nothing.
 use mathlib.Core.Path.{_≡_, refl, sym, ap, _∙_}
 use mathlib.Core.Bool.{Bool, true, false, not, cond}
 use mathlib.Core.List.{List, [], _∷_, _++_}
@@ -23,39 +23,23 @@ use Rattle.convert.specs.Output.{outputLength}
 use Rattle.convert.specs.Conversion.{outputUses, convertUses}
 use Rattle.convert.proofs.Verdicts.{less-one}
 use Rattle.convert_strict.specs.Seams.{lostSeam}
-use Rattle.convert_strict.specs.Strict.{allowable, lostSeamOf, badAllowance, lostRow, strictUses}
+use Rattle.convert_strict.specs.Strict.{allowable, lostSeamOf, badAllowance, allowedUses, strictUses}
 
--- ---- the rows of the room and the knots, and the seams behind them
+-- ---- the rows of the room and the knots, and what stands behind them
 abbrev output : Bool → Bool → ℕ → Verdict → Verdict
 output short bad i w = cond short (Failed ShortBuffer) (cond bad (Failed (BadKnot i)) w)
-
-output-stops : (short bad : Bool) (i : ℕ) {v : Verdict} {r : Refusal} (w : Verdict) → v ≡ output short bad i Passed → v ≡ Failed r → v ≡ output short bad i w
-output-stops true bad i w p k = p
-output-stops false true i w p k = p
-output-stops false false i w p k = never (cc)
-
-output-passes : (short bad : Bool) (i : ℕ) {v : Verdict} (w : Verdict) → v ≡ output short bad i Passed → v ≡ Passed → w ≡ output short bad i w
-output-passes true bad i w p k = never (cc)
-output-passes false true i w p k = never (cc)
-output-passes false false i w p k = refl
 
 -- ---- the tests past the lengths
 module _ (from to : Basis) (ks : List Float) (allowance : Float) (room : ℕ) where
   abbrev need : ℕ
   need = outputLength from to (length ks)
 
-  abbrev lost : ℕ
-  lost = lostSeamOf from to ks allowance
-
   abbrev pub later : Uses
-  later = outputUses to ks need room ++ (badAllowance allowance ∷ lostRow lost ∷ [])
-
-  abbrev seams : Verdict
-  seams = cond (ltb 0 lost) (Failed (LostSeam lost)) Passed
+  later = outputUses to ks need room ++ (badAllowance allowance ∷ [])
 
   abbrev ordered : Bool → Bool → Verdict
   ordered linear good = cond linear (Failed LinearOutput) (cond (not good) (Failed BadAllowance)
-      (output (ltb room need) (not (allInRange ks)) (firstBad ks) seams))
+      (output (ltb room need) (not (allInRange ks)) (firstBad ks) Passed))
 
   pub by-linear : isLinear to ≡ true → Failed LinearOutput ≡ first later
   by-linear e = sym (ap (λ (b : Bool). ordered b (allowable allowance)) e)
@@ -63,28 +47,19 @@ module _ (from to : Basis) (ks : List Float) (allowance : Float) (room : ℕ) wh
   pub by-allowance : isLinear to ≡ false → allowable allowance ≡ false → Failed BadAllowance ≡ first later
   by-allowance e a = sym (ap (λ (b : Bool). ordered b (allowable allowance)) e ∙ ap (ordered false) a)
 
-  module _ (e : isLinear to ≡ false) (a : allowable allowance ≡ true) {v : Verdict} {n : ℕ} (k : n ≡ need) (p : v ≡ first (outputUses to ks n room)) where
-    opened : output (ltb room need) (not (allInRange ks)) (firstBad ks) seams ≡ first later
-    opened = sym (ap (λ (b : Bool). ordered b (allowable allowance)) e ∙ ap (ordered false) a)
-
-    told : v ≡ output (ltb room need) (not (allInRange ks)) (firstBad ks) Passed
-    told =
-        p
-        ∙ ap (λ (x : ℕ). first (outputUses to ks x room)) k
-        ∙ ap (λ (b : Bool). cond b (Failed LinearOutput) (output (ltb room need) (not (allInRange ks)) (firstBad ks) Passed)) e
-
-    pub by-output : {r : Refusal} → v ≡ Failed r → v ≡ first later
-    by-output f = output-stops (ltb room need) (not (allInRange ks)) (firstBad ks) seams told f ∙ opened
-
-    pub by-seam : {w : Verdict} → v ≡ Passed → w ≡ first (lostRow lost ∷ []) → w ≡ first later
-    by-seam f q = q ∙ output-passes (ltb room need) (not (allInRange ks)) (firstBad ks) seams told f ∙ opened
+  pub by-output : isLinear to ≡ false → allowable allowance ≡ true → {v : Verdict} {n : ℕ} → n ≡ need → v ≡ first (outputUses to ks n room) → v ≡ first later
+  by-output e a k p =
+      p
+      ∙ ap (λ (x : ℕ). first (outputUses to ks x room)) k
+      ∙ ap (λ (b : Bool). cond b (Failed LinearOutput) (output (ltb room need) (not (allInRange ks)) (firstBad ks) Passed)) e
+      ∙ sym (ap (λ (b : Bool). ordered b (allowable allowance)) e ∙ ap (ordered false) a)
 
   module _ {l : Verdict} (e : l ≡ first (curveLength from (length ks))) where
-    pub strict-stops : {r : Refusal} → l ≡ Failed r → l ≡ first (strictUses from to ks allowance room)
-    strict-stops k = stops (strictUses from to ks allowance room) e k
+    pub allowed-stops : {r : Refusal} → l ≡ Failed r → l ≡ first (allowedUses from to ks allowance room)
+    allowed-stops k = stops (allowedUses from to ks allowance room) e k
 
-    pub strict-goes-on : {w : Verdict} → l ≡ Passed → w ≡ first later → w ≡ first (strictUses from to ks allowance room)
-    strict-goes-on k h = goes-on (strictUses from to ks allowance room) e k h
+    pub allowed-goes-on : {w : Verdict} → l ≡ Passed → w ≡ first later → w ≡ first (allowedUses from to ks allowance room)
+    allowed-goes-on k h = goes-on (allowedUses from to ks allowance room) e k h
 
 -- what the scan finds, by the curve's matrix and steps
 pub found : (from to : Basis) (ks : List Float) (allowance : Float) {m : Matrix} {step gap s : ℕ} → m ≡ conversionOf from to → step ≡ stepOf from →
@@ -97,13 +72,6 @@ found from to ks allowance {m} {step} {gap} p a b e =
     ∙ ap (λ (x : ℕ). lostSeam (conversionOf from to) (stepOf from) x allowance ks ((length ks - 4) / stepOf from)) b
     ∙ ap (lostSeam (conversionOf from to) (stepOf from) (stepOf to) allowance ks) (less-one ((length ks - 4) / stepOf from))
 
-pub seam-row : (lost s : ℕ) → s ≡ lost → 0 < s → Failed (LostSeam s) ≡ first (lostRow lost ∷ [])
-seam-row lost s e h = ap (λ (x : ℕ). Failed (LostSeam x)) e ∙ sym (ap (λ (b : Bool). cond b (Failed (LostSeam lost)) Passed)
-    (ap (ltb 0) (sym e) ∙ lt-ltb 0 s h))
-
-pub no-seam-row : (lost s : ℕ) → s ≡ lost → s ≡ 0 → Passed ≡ first (lostRow lost ∷ [])
-no-seam-row lost s e h = ap (λ (x : ℕ). first (lostRow x ∷ [])) (sym h ∙ e)
-
 -- ---- beside the plain conversion
 -- its rows, and these with two more: the allowance e, and the seam s, by h
 abbrev plain : Bool → Bool → Bool → Bool → Bool → Bool → ℕ → Verdict
@@ -113,6 +81,33 @@ abbrev strict : Bool → Bool → Bool → Bool → Bool → Bool → Bool → B
 strict a b c d e f g h i s =
     cond a (Failed TooFew) (cond b (Failed BadPattern) (cond c (Failed TooMany)
     (cond d (Failed LinearOutput) (cond e (Failed BadAllowance) (output f g i (cond h (Failed (LostSeam s)) Passed))))))
+
+-- those that are decided before the seams
+abbrev allowed : Bool → Bool → Bool → Bool → Bool → Bool → Bool → ℕ → Verdict
+allowed a b c d e f g i =
+    cond a (Failed TooFew) (cond b (Failed BadPattern) (cond c (Failed TooMany) (cond d (Failed LinearOutput) (cond e (Failed BadAllowance) (output f g i Passed)))))
+
+stays : (a b c d e f g h : Bool) (i s : ℕ) {r : Refusal} → allowed a b c d e f g i ≡ Failed r → strict a b c d e f g h i s ≡ Failed r
+stays true b c d e f g h i s p = p
+stays false true c d e f g h i s p = p
+stays false false true d e f g h i s p = p
+stays false false false true e f g h i s p = p
+stays false false false false true f g h i s p = p
+stays false false false false false true g h i s p = p
+stays false false false false false false true h i s p = p
+stays false false false false false false false h i s p = never (cc)
+
+-- where they pass, the seam's row alone is left, and the plain conversion passes
+left : (a b c d e f g h : Bool) (i s : ℕ) → allowed a b c d e f g i ≡ Passed
+    → (strict a b c d e f g h i s ≡ cond h (Failed (LostSeam s)) Passed) × (plain a b c d f g i ≡ Passed)
+left true b c d e f g h i s p = never (cc)
+left false true c d e f g h i s p = never (cc)
+left false false true d e f g h i s p = never (cc)
+left false false false true e f g h i s p = never (cc)
+left false false false false true f g h i s p = never (cc)
+left false false false false false true g h i s p = never (cc)
+left false false false false false false true h i s p = never (cc)
+left false false false false false false false h i s p = (refl, refl)
 
 -- but for the two rows they are one
 one-verdict : (a b c d e f g h : Bool) (i s : ℕ) → (strict a b c d e f g h i s ≡ Failed BadAllowance → ⊥) →
@@ -165,6 +160,27 @@ module _ (from to : Basis) (ks : List Float) (allowance : Float) (room : ℕ) wh
 
   abbrev short : Bool
   short = ltb room (outputLength from to number)
+
+  pub refused-before : {r : Refusal} → first (allowedUses from to ks allowance room) ≡ Failed r → first (strictUses from to ks allowance room) ≡ Failed r
+  refused-before p = stays (ltb number 4) (not (regular from number)) (ltb 4096 number) (isLinear to) (not (allowable allowance)) short
+      (not (allInRange ks)) (ltb 0 seam) (firstBad ks) seam p
+
+  module _ (p : first (allowedUses from to ks allowance room) ≡ Passed) where
+    seam-left : (first (strictUses from to ks allowance room) ≡ cond (ltb 0 seam) (Failed (LostSeam seam)) Passed) × (first (convertUses from to ks room) ≡ Passed)
+    seam-left = left (ltb number 4) (not (regular from number)) (ltb 4096 number) (isLinear to) (not (allowable allowance)) short
+        (not (allInRange ks)) (ltb 0 seam) (firstBad ks) seam p
+
+    pub plain-passes : first (convertUses from to ks room) ≡ Passed
+    plain-passes = seam-left .1
+
+    pub seam-refused : (s : ℕ) → s ≡ seam → 0 < s → first (strictUses from to ks allowance room) ≡ Failed (LostSeam s)
+    seam-refused s e h =
+        seam-left .0
+        ∙ ap (λ (b : Bool). cond b (Failed (LostSeam seam)) Passed) (ap (ltb 0) (sym e) ∙ lt-ltb 0 s h)
+        ∙ ap (λ (x : ℕ). Failed (LostSeam x)) (sym e)
+
+    pub seam-kept : (s : ℕ) → s ≡ seam → s ≡ 0 → first (strictUses from to ks allowance room) ≡ Passed
+    seam-kept s e h = seam-left .0 ∙ ap (λ (x : ℕ). cond (ltb 0 x) (Failed (LostSeam x)) Passed) (sym e ∙ h)
 
   pub same-verdict : (first (strictUses from to ks allowance room) ≡ Failed BadAllowance → ⊥) →
       (first (strictUses from to ks allowance room) ≡ Failed (LostSeam seam) → ⊥) → first (strictUses from to ks allowance room) ≡ first

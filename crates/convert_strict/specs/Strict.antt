@@ -32,6 +32,10 @@ badAllowance allowance = (BadAllowance, not (allowable allowance))
 abbrev pub lostRow : ℕ → Refusal × Bool
 lostRow s = (LostSeam s, ltb 0 s)
 
+-- those of the conversion and the allowance's: all that is decided before the seams are looked at
+abbrev pub allowedUses : Basis → Basis → List Float → Float → ℕ → Uses
+allowedUses from to ks allowance room = convertUses from to ks room ++ (badAllowance allowance ∷ [])
+
 -- those of the conversion, and these two
 abbrev pub strictUses : Basis → Basis → List Float → Float → ℕ → Uses
 strictUses from to ks allowance room =

@@ -5,12 +5,13 @@ ghost use Rattle.convert.specs.Buffer.{answerOf, bufferOf};
 ghost use Rattle.convert_strict.specs.Strict.{strictOf};
 use basis::Basis;
 use convert::Converted;
+use error::Refusal;
 use error::Verdict;
 
 pub mod refusals;
 pub mod seams;
 
-// Where nothing is refused, `convert::convert_spline` writes.
+// The seams are looked at last, with the matrix that then writes; nothing is written before.
 pub fn convert_spline_strict(
     from: Basis,
     to: Basis,
@@ -21,9 +22,18 @@ pub fn convert_spline_strict(
     ensures answer { λ r. ⌜ r ≡ answerOf (strictOf from to (now (knots .entry)) allowance (length (now (out .entry)))) ⌝ }
     ensures buffer { λ _. ⌜ now (out .exit) ≡ bufferOf (strictOf from to (now (knots .entry)) allowance (length (now (out .entry)))) (now (out .entry)) ⌝ }
 {
-    let v = refusals::strict_verdict(from, to, knots, allowance, out.len());
+    let v = refusals::allowed_verdict(from, to, knots, allowance, out.len());
     match v {
         Verdict::Failed(r) => Converted::Refused(r),
-        Verdict::Passed => convert::convert_spline(from, to, knots, out),
+        Verdict::Passed => {
+            let m = convert_matrix::conversion_matrix(from, to);
+            let step = basis::step(from);
+            let gap = basis::step(to);
+            let s = seams::lost_seam(m, step, knots, gap, allowance);
+            if 0 < s {
+                return Converted::Refused(Refusal::LostSeam(s as u16));
+            }
+            Converted::Written(convert::output::put_windows(&m, step, knots, gap, out))
+        }
     }
 }

@@ -1,4 +1,4 @@
-// The refusals of a strict conversion, in the table's order, all decided before the first write.
+// The refusals of a strict conversion but for that of the seams, in the table's order.
 ghost use mathlib.Core.Path.{_≡_};
 ghost use mathlib.Core.List.{[], _∷_, _++_};
 ghost use Prim.Native.Nat.{_≤_};
@@ -6,7 +6,7 @@ ghost use lib.ListN.{length};
 ghost use Rattle.error.specs.Refusals.{first};
 ghost use Rattle.convert.specs.Output.{outputLength};
 ghost use Rattle.convert.specs.Conversion.{outputUses};
-ghost use Rattle.convert_strict.specs.Strict.{allowable, lostSeamOf, badAllowance, lostRow, strictUses};
+ghost use Rattle.convert_strict.specs.Strict.{allowable, badAllowance, allowedUses};
 use basis::Basis;
 use error::Refusal;
 use error::Verdict;
@@ -17,22 +17,10 @@ pub fn is_allowance(x: f64) -> bool
     0.0 <= x && x < 1.0 / 0.0
 }
 
-fn seam_verdict(from: Basis, to: Basis, knots: &[f64], allowance: f64) -> Verdict
-    requires { ⌜ (4 ≤ length (now knots)) × (length (now knots) ≤ 4096) ⌝ }
-    ensures { λ r. ⌜ r ≡ first (lostRow (lostSeamOf from to (now (knots .entry)) allowance) ∷ []) ⌝ }
-{
-    let m = convert_matrix::conversion_matrix(from, to);
-    let s = crate::seams::lost_seam(m, basis::step(from), knots, basis::step(to), allowance);
-    if 0 < s {
-        return Verdict::Failed(Refusal::LostSeam(s as u16));
-    }
-    Verdict::Passed
-}
-
-// The rows past the lengths. The allowance comes between the output's basis and its room, the seams last.
+// The rows past the lengths: the allowance comes between the output's basis and its room.
 fn later_verdict(from: Basis, to: Basis, knots: &[f64], allowance: f64, room: usize) -> Verdict
     requires { ⌜ (4 ≤ length (now knots)) × (length (now knots) ≤ 4096) ⌝ }
-    ensures { λ r. ⌜ r ≡ first (outputUses to (now (knots .entry)) (outputLength from to (length (now (knots .entry)))) room ++ (badAllowance allowance ∷ lostRow (lostSeamOf from to (now (knots .entry)) allowance) ∷ [])) ⌝ }
+    ensures { λ r. ⌜ r ≡ first (outputUses to (now (knots .entry)) (outputLength from to (length (now (knots .entry)))) room ++ (badAllowance allowance ∷ [])) ⌝ }
 {
     if basis::is_linear(to) {
         return Verdict::Failed(Refusal::LinearOutput);
@@ -41,15 +29,18 @@ fn later_verdict(from: Basis, to: Basis, knots: &[f64], allowance: f64, room: us
         return Verdict::Failed(Refusal::BadAllowance);
     }
     let need = convert::refusals::output_length(from, to, knots.len());
-    let v = convert::refusals::output_verdict(to, knots, need, room);
-    let Verdict::Passed = v else {
-        return v;
-    };
-    seam_verdict(from, to, knots, allowance)
+    convert::refusals::output_verdict(to, knots, need, room)
 }
 
-pub fn strict_verdict(from: Basis, to: Basis, knots: &[f64], allowance: f64, room: usize) -> Verdict
-    ensures { λ r. ⌜ r ≡ first (strictUses from to (now (knots .entry)) allowance room) ⌝ }
+// All but the seams.
+pub fn allowed_verdict(
+    from: Basis,
+    to: Basis,
+    knots: &[f64],
+    allowance: f64,
+    room: usize,
+) -> Verdict
+    ensures { λ r. ⌜ r ≡ first (allowedUses from to (now (knots .entry)) allowance room) ⌝ }
 {
     let l = checks::curve_length(from, knots.len());
     let Verdict::Passed = l else {

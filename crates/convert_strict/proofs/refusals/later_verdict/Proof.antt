@@ -1,7 +1,7 @@
--- The rows in the table's order: the output's basis, the allowance, the room and the knots, the seams. Assumes nothing.
+-- The rows in the table's order: the output's basis, the allowance, the room and the knots. Assumes nothing.
 use mathlib.Core.Path.{sym, _∙_}
 use borrow.Author.Tests.{not-true, not-false}
-use Rattle.convert_strict.proofs.Verdicts.{by-linear, by-allowance, by-output, by-seam}
+use Rattle.convert_strict.proofs.Verdicts.{by-linear, by-allowance, by-output}
 use borrow.Author.Needs.{needs}
 use Rattle.convert_strict.proofs.refusals.later_verdict.Statement.{statement}
 use Rattle.convert_strict.proofs.refusals.later_verdict.Tie as tie
@@ -30,34 +30,12 @@ output-length-requires c κs = c .before .before .before .before .before .pre
 output-verdict-requires : tie.Need-output-verdict-requires
 output-verdict-requires c κs = c .before .before .before .before .before .before .pre .1
 
-enum-told : tie.Need-enum-told
-enum-told c = search needs
-
-enum-told-2 : tie.Need-enum-told-2
-enum-told-2 c = search needs
-
 returns-3 : tie.Need-returns-3
 returns-3 c =
-    let need = c .before .before .before in
-    let allowed = need .before .before in
-    let linear = allowed .before .before in
+    let linear = c .before .before .before .before .before in
     let a = linear .before .before .args in
-    by-output (a .from) (a .to) (a .knots .now) (a .allowance) (a .room) (sym (linear .is-linear .ensures) ∙ allowed .before .if1 .left)
-    (sym (allowed .is-allowance .ensures) ∙ not-false _ (need .before .if2 .left)) (need .output-length .ensures)
-    (c .before .before .output-verdict .ensures) (c .enum-told2 .given .1)
-
-seam-verdict-requires : tie.Need-seam-verdict-requires
-seam-verdict-requires c κs = c .before .before .before .before .before .before .before .before .before .pre
-
-returns-4 : tie.Need-returns-4
-returns-4 c =
-    let need = c .before .before .before .before in
-    let allowed = need .before .before in
-    let linear = allowed .before .before in
-    let a = linear .before .before .args in
-    by-seam (a .from) (a .to) (a .knots .now) (a .allowance) (a .room) (sym (linear .is-linear .ensures) ∙ allowed .before .if1 .left)
-    (sym (allowed .is-allowance .ensures) ∙ not-false _ (need .before .if2 .left)) (need .output-length .ensures)
-    (c .before .before .before .output-verdict .ensures) (c .before .enum-told .given .1) (c .seam-verdict .ensures)
+    by-output (a .from) (a .to) (a .knots .now) (a .allowance) (a .room) (sym (linear .is-linear .ensures) ∙ c .before .before .before .before .if1 .left)
+    (sym (c .before .before .before .is-allowance .ensures) ∙ not-false _ (c .before .before .if2 .left)) (c .before .output-length .ensures) (c .output-verdict .ensures)
 
 pub later-verdict-spec : {M : Type 1} → statement M
 later-verdict-spec =
@@ -69,8 +47,4 @@ later-verdict-spec =
     returns-2
     output-length-requires
     output-verdict-requires
-    enum-told
-    enum-told-2
-    returns-3
-    seam-verdict-requires
-    returns-4)
+    returns-3)

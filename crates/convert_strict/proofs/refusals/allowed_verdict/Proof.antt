@@ -1,10 +1,10 @@
 -- The lengths' rows, then the later ones. Assumes nothing.
 use mathlib.Core.Path.{sym, _∙_}
 use Rattle.checks.proofs.Verdicts.{length-passed}
-use Rattle.convert_strict.proofs.Verdicts.{strict-stops, strict-goes-on}
+use Rattle.convert_strict.proofs.Verdicts.{allowed-stops, allowed-goes-on}
 use borrow.Author.Needs.{needs}
-use Rattle.convert_strict.proofs.refusals.strict_verdict.Statement.{statement}
-use Rattle.convert_strict.proofs.refusals.strict_verdict.Tie as tie
+use Rattle.convert_strict.proofs.refusals.allowed_verdict.Statement.{statement}
+use Rattle.convert_strict.proofs.refusals.allowed_verdict.Tie as tie
 
 curve-length-requires : tie.Need-curve-length-requires
 curve-length-requires c κs = search needs
@@ -18,7 +18,7 @@ enum-told-2 c = search needs
 returns : tie.Need-returns
 returns c =
     let a = c .before .before .before .before .args in
-    strict-stops (a .from) (a .to) (a .knots .now) (a .allowance) (a .room) (c .before .before .curve-length .ensures) (c .enum-told2 .given .1)
+    allowed-stops (a .from) (a .to) (a .knots .now) (a .allowance) (a .room) (c .before .before .curve-length .ensures) (c .enum-told2 .given .1)
 
 later-verdict-requires : tie.Need-later-verdict-requires
 later-verdict-requires c κs =
@@ -28,11 +28,11 @@ later-verdict-requires c κs =
 returns-2 : tie.Need-returns-2
 returns-2 c =
     let a = c .before .before .before .before .before .args in
-    strict-goes-on (a .from) (a .to) (a .knots .now) (a .allowance) (a .room) (c .before .before .before .curve-length .ensures)
+    allowed-goes-on (a .from) (a .to) (a .knots .now) (a .allowance) (a .room) (c .before .before .before .curve-length .ensures)
     (c .before .enum-told .given .1) (c .later-verdict .ensures)
 
-pub strict-verdict-spec : {M : Type 1} → statement M
-strict-verdict-spec =
+pub allowed-verdict-spec : {M : Type 1} → statement M
+allowed-verdict-spec =
     tie.close
     (tie.spec
     curve-length-requires
