@@ -231,6 +231,12 @@ uint32_t simmerstoat_table_spline_inverse_steady(uint8_t basis, uint32_t span, d
 uint32_t simmerstoat_table_convert_spline(uint8_t from, uint32_t span, uint8_t to, const double *knots, size_t n,
                                           double *out, size_t room, uint32_t *handed, size_t *written);
 
+/* The same, refused where a seam would be lost, as simmerstoat_convert_spline_strict.
+ * Refusals: 255, 1, 2, 3, 14, 8, 17, 9, 4, 15. */
+uint32_t simmerstoat_table_convert_spline_strict(uint8_t from, uint32_t span, uint8_t to, const double *knots, size_t n,
+                                                 double allowance, double *out, size_t room, uint32_t *handed,
+                                                 size_t *written);
+
 /* ---- what follows is written in C over the calls above, and proved of nothing */
 
 /* Whether n knots suit the basis; no number that is no basis suits any. */

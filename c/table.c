@@ -5,6 +5,7 @@
 #include <math.h>
 #include <stdio.h>
 #include <stdlib.h>
+#include <string.h>
 
 static const double KEPT = -77.25;
 static const size_t KEPT_WHOLE = 987654321;
@@ -54,6 +55,38 @@ static unsigned turn(int from, uint32_t span, int to, const double *k, size_t n,
     return simmerstoat_table_convert_spline(from, span, to, k, n, out, room, &handed, &written);
 }
 
+static unsigned turn_strict(int from, uint32_t span, int to, const double *k, size_t n, double allowance, size_t room) {
+    reset();
+    return simmerstoat_table_convert_spline_strict(from, span, to, k, n, allowance, out, room, &handed, &written);
+}
+
+/* A bend at the seam of two Bezier segments, whose slope Hermite cannot keep: 14 and 17 in their order, 15 with its
+ * segment, and with an allowance of 3 the plain conversion's span, length and buffer. */
+static void strict(void) {
+    const int BEZIER = SIMMERSTOAT_BEZIER, HERMITE = SIMMERSTOAT_HERMITE, LINEAR = SIMMERSTOAT_LINEAR;
+    static const double bend[] = {0, 0, 0, 0, 1, 1, 1}, flawed[] = {0, 0, 0, 0, 1, NAN, 1};
+    expect("strict, no basis", SIMMERSTOAT_NO_BASIS, turn_strict(6, 0, HERMITE, bend, 3, NAN, 0));
+    expect("strict, no basis to turn to", SIMMERSTOAT_NO_BASIS, turn_strict(BEZIER, 0, 6, bend, 3, NAN, 0));
+    expect("strict, few", SIMMERSTOAT_TOO_FEW, turn_strict(BEZIER, 0, LINEAR, bend, 3, NAN, 0));
+    expect("strict, pattern", SIMMERSTOAT_BAD_PATTERN, turn_strict(BEZIER, 0, LINEAR, bend, 5, NAN, 0));
+    expect("strict, span", SIMMERSTOAT_BAD_SPAN, turn_strict(BEZIER, 0, LINEAR, flawed, 7, NAN, 0));
+    expect("strict, long span", SIMMERSTOAT_BAD_SPAN, turn_strict(BEZIER, 86401, LINEAR, flawed, 7, NAN, 0));
+    expect("strict, linear", SIMMERSTOAT_LINEAR_OUTPUT, turn_strict(BEZIER, 1, LINEAR, flawed, 7, NAN, 0));
+    expect("strict, allowance", SIMMERSTOAT_BAD_ALLOWANCE, turn_strict(BEZIER, 1, HERMITE, flawed, 7, -1, 0));
+    expect("strict, short", SIMMERSTOAT_SHORT_BUFFER, turn_strict(BEZIER, 1, HERMITE, flawed, 7, 0, 5));
+    expect("strict, knot", SIMMERSTOAT_BAD_KNOT + 256 * 5, turn_strict(BEZIER, 1, HERMITE, flawed, 7, 0, 8));
+    expect("strict, seam", SIMMERSTOAT_LOST_SEAM + 256, turn_strict(BEZIER, 86400, HERMITE, bend, 7, 0, 8));
+    expect("strict, just below", SIMMERSTOAT_LOST_SEAM + 256, turn_strict(BEZIER, 86400, HERMITE, bend, 7, nextafter(3, 0), 8));
+    expect("strict, as much as the slope", 0, turn_strict(BEZIER, 7200, HERMITE, bend, 7, 3, 8));
+    double kept[8];
+    memcpy(kept, out, sizeof out);
+    uint32_t span = handed;
+    size_t length = written;
+    expect("its span and length", 0, span != 7200 || length != 6);
+    expect("plain", 0, turn(BEZIER, 7200, HERMITE, bend, 7, 8));
+    expect("the same", 0, span != handed || length != written || memcmp(kept, out, sizeof out) != 0);
+}
+
 int main(void) {
     const double k[] = {0.0, 0.0, 1.0, 1.0};
     const int LINEAR = SIMMERSTOAT_LINEAR, BEZIER = SIMMERSTOAT_BEZIER;
@@ -82,6 +115,7 @@ int main(void) {
     expect("its second", 0, whole[SIMMERSTOAT_SECOND] != 43200);
     expect("turn", 0, turn(LINEAR, 7200, BEZIER, k, 4, 8));
     expect("its span and length", 0, handed != 7200 || written != 4 || out[4] != KEPT);
+    strict();
     printf("%d replies as they should be\n", checked);
     return 0;
 }

@@ -16,7 +16,7 @@ pub const PART: Part = Part { once, knots };
 const LINEAR: usize = 4;
 
 /// Refusals in the table's order: 1 2 3 8 17 9 4 15.
-fn model(from: usize, to: usize, knots: &[f64], allowance: f64, room: usize) -> Result<Vec<f64>, Refused> {
+pub fn model(from: usize, to: usize, knots: &[f64], allowance: f64, room: usize) -> Result<Vec<f64>, Refused> {
     let k = model::curve_length(from, knots.len())?;
     if to == LINEAR {
         return Err(8.into());
@@ -81,7 +81,7 @@ fn line(b: usize, k: usize, bend: bool) -> Vec<f64> {
     }
 }
 
-const ALLOWANCES: [f64; 14] = [
+pub const ALLOWANCES: [f64; 14] = [
     0.0,
     -0.0,
     1e-300,

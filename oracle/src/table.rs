@@ -7,6 +7,7 @@ use crate::inputs::{self, Rng};
 use crate::model::{self, Ends, Fate, Inversion, Method, Options, Refused};
 use crate::parts::Part;
 use crate::port::{Converted, Valued, UNTOUCHED, UNTOUCHED_WHOLE};
+use crate::strict;
 use crate::tally::{of_ground, of_reply, Call, Tally};
 
 pub const PART: Part = Part { once, knots };
@@ -90,6 +91,18 @@ fn convert_spline(from: u8, span: u32, to: u8, knots: &[f64], room: usize) -> (C
     (Converted { reply, written, buffer: buffer.into_iter().map(f64::to_bits).collect() }, handed)
 }
 
+fn convert_spline_strict(from: u8, span: u32, to: u8, knots: &[f64], allowance: f64, room: usize) -> (Converted, u32) {
+    let mut buffer: Vec<f64> = (0..room as u64 + 4).map(|i| f64::from_bits(UNTOUCHED + i)).collect();
+    let (mut handed, mut written) = (77, UNTOUCHED_WHOLE);
+    let reply = unsafe {
+        let (at, n, out) = (knots.as_ptr(), knots.len(), buffer.as_mut_ptr());
+        raw::simmerstoat_table_convert_spline_strict(
+            from, span, to, at, n, allowance, out, room, &mut handed, &mut written,
+        )
+    };
+    (Converted { reply, written, buffer: buffer.into_iter().map(f64::to_bits).collect() }, handed)
+}
+
 // ---- the comparison
 
 fn expected(i: &Inversion, span: u32) -> Timed {
@@ -136,6 +149,22 @@ fn knots(t: &mut Tally, r: &mut Rng, b: usize, knots: &[f64]) {
     hold("the model", &input, converted(answer.as_deref().map_err(|why| *why), room, true), ours.clone());
     hold("the span handed on", &input, if ours.reply == 0 { span } else { 77 }, handed);
     t.add(input.call, of_reply(ours.reply), false);
+
+    let allowance = if r.below(2) == 0 { r.unit() * 1e-12 } else { r.one_of(&strict::ALLOWANCES) };
+    compare_strict(t, b, span, to, knots, allowance, room);
+}
+
+fn compare_strict(t: &mut Tally, b: usize, span: u32, to: usize, knots: &[f64], allowance: f64, room: usize) {
+    let more = &(span, room);
+    let input = Input { call: Call::TableConvertSplineStrict, bases: &[b, to], at: allowance, knots, more };
+    let (ours, handed) = convert_spline_strict(b as u8, span, to as u8, knots, allowance, room);
+    let answer = spanned(b, knots.len(), span).and_then(|()| strict::model(b, to, knots, allowance, room));
+    hold("the model", &input, converted(answer.as_deref().map_err(|why| *why), room, true), ours.clone());
+    hold("the span handed on", &input, if ours.reply == 0 { span } else { 77 }, handed);
+    if ours.reply == 0 {
+        hold("the plain conversion", &input, convert_spline(b as u8, span, to as u8, knots, room), (ours.clone(), handed));
+    }
+    t.add(input.call, of_reply(ours.reply), false);
 }
 
 /// Numbers that stand for nothing, and places at 0, at 1, at a whole second exactly and just below one.
@@ -151,6 +180,14 @@ fn once(t: &mut Tally) {
     hold("no basis", &input, nothing, spline_inverse_steady(255, 0, 0.5, &KNOTS, true));
     hold("no basis", &input, Valued { reply: 255, value: UNTOUCHED }, spline(6, 0, 0.5, &KNOTS));
     hold("no basis", &input, converted(Err(Refused { no: 255, place: 0 }), 4, true), convert_spline(4, 1, 6, &KNOTS, 4).0);
+    let none = convert_spline_strict(4, 1, 6, &KNOTS, f64::NAN, 4).0;
+    hold("no basis", &input, converted(Err(Refused { no: 255, place: 0 }), 4, true), none);
+    // a slope of 3 is lost at the seam, and may be with an allowance of 3
+    for allowance in [0.0, 3.0, f64::NAN] {
+        for span in SPANS {
+            compare_strict(t, 1, span, 3, &[0.0, 0.0, 0.0, 0.0, 1.0, 1.0, 1.0], allowance, 6);
+        }
+    }
     for (span, y, second) in [(86_400, 0.0, 0), (86_400, 1.0, 86_400), (86_400, 0.5, 43_200), (65_536, 0.25, 16_384), (1, 0.999, 0)] {
         let ours = spline_inverse(4, span, y, &KNOTS, true);
         hold("the reading", &input, (0, second), (ours.reply, ours.whole[3]));

@@ -35,6 +35,7 @@ calls! {
     TableSplineInverse "table_spline_inverse",
     TableConvertSpline "table_convert_spline",
     CheckClaim "check_claim",
+    TableConvertSplineStrict "table_convert_spline_strict",
 }
 
 impl Call {

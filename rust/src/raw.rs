@@ -209,4 +209,16 @@ extern "C" {
         handed: *mut u32,
         written: *mut usize,
     ) -> u32;
+    pub fn simmerstoat_table_convert_spline_strict(
+        from: u8,
+        span: u32,
+        to: u8,
+        knots: *const f64,
+        n: usize,
+        allowance: f64,
+        out: *mut f64,
+        room: usize,
+        handed: *mut u32,
+        written: *mut usize,
+    ) -> u32;
 }

@@ -158,6 +158,47 @@ impl<B: Basis> Table<B> {
         };
         done(reply, (Table::new(span), written))
     }
+
+    /// The same, unless a seam would lose more than `allowance`; then this refuses with the lowest such segment. On a
+    /// refusal the buffer keeps all.
+    ///
+    /// Refusals: those of [`crate::strict::convert_spline_strict_into`], and `BadSpan` after the lengths.
+    ///
+    /// ```
+    /// use simmerstoat::{basis::{Bezier, Hermite}, table::Table, Refusal};
+    ///
+    /// let bend = [0.0, 0.0, 0.0, 0.0, 1.0, 1.0, 1.0];
+    /// let (night, mut out) = (Table::<Bezier>::new(7_200), [7.0; 7]);
+    /// let told = night.convert_spline_strict_into::<Hermite>(&bend, 0.0, &mut out);
+    /// assert_eq!((told, out), (Err(Refusal::LostSeam(1)), [7.0; 7]));
+    /// let (new, written) = night.convert_spline_strict_into::<Hermite>(&bend, 3.0, &mut out)?;
+    /// assert_eq!((new.span, written, out[6]), (7_200, 6, 7.0));
+    /// # Ok::<(), Refusal>(())
+    /// ```
+    pub fn convert_spline_strict_into<Out: Basis>(
+        self,
+        cv: &[f64],
+        allowance: f64,
+        out: &mut [f64],
+    ) -> Result<(Table<Out>, usize), Refusal> {
+        let (mut span, mut written) = (0, 0);
+        // SAFETY: as in `convert_spline_into`.
+        let reply = unsafe {
+            raw::simmerstoat_table_convert_spline_strict(
+                B::NUMBER,
+                self.span,
+                Out::NUMBER,
+                cv.as_ptr(),
+                cv.len(),
+                allowance,
+                out.as_mut_ptr(),
+                out.len(),
+                &mut span,
+                &mut written,
+            )
+        };
+        done(reply, (Table::new(span), written))
+    }
 }
 
 fn timed(reply: u32, place: [f64; 4], whole: [usize; 4]) -> Result<Timed, Refusal> {

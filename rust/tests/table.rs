@@ -46,3 +46,25 @@ fn the_place_is_the_base_calls() {
     let base = spline_inverse_with::<CatmullRom, _>(0.2, &knots, &o).unwrap();
     assert_eq!(Table::<CatmullRom>::new(3_600).spline_inverse_with(0.2, &knots, &o).unwrap().place, base);
 }
+
+/// A bend at a seam: 14 after the lengths, 17 and 15 in their order; where it answers, the table's plain conversion.
+#[test]
+fn strict() {
+    let bend = [0.0, 0.0, 0.0, 0.0, 1.0, 1.0, 1.0];
+    let told = |span: u32, n: usize, allowance: f64| {
+        let mut out = [-77.25; 8];
+        let told = Table::<Bezier>::new(span).convert_spline_strict_into::<Hermite>(&bend[..n], allowance, &mut out);
+        if told.is_err() {
+            assert_eq!(out, [-77.25; 8]);
+        }
+        told.map(|(table, n)| (table.span, n, out))
+    };
+    assert_eq!(told(0, 3, f64::NAN), Err(Refusal::TooFew));
+    assert_eq!(told(0, 7, f64::NAN), Err(Refusal::BadSpan));
+    assert_eq!(told(86_401, 7, f64::NAN), Err(Refusal::BadSpan));
+    assert_eq!(told(1, 7, f64::NAN), Err(Refusal::BadAllowance));
+    assert_eq!(told(1, 7, 0.0), Err(Refusal::LostSeam(1)));
+    let mut plain = [-77.25; 8];
+    let (table, n) = Table::<Bezier>::new(7_200).convert_spline_into::<Hermite>(&bend, &mut plain).unwrap();
+    assert_eq!(told(7_200, 7, 3.0), Ok((table.span, n, plain)));
+}

@@ -33,6 +33,7 @@ use Rattle.table.proofs.table_spline.Reads as table_spline
 use Rattle.table.proofs.table_spline_inverse_by.Reads as table_spline_inverse_by
 use Rattle.table.proofs.table_spline_inverse.Reads as table_spline_inverse
 use Rattle.table.proofs.table_convert_spline.Reads as table_convert_spline
+use Rattle.table.proofs.table_convert_spline_strict.Reads as table_convert_spline_strict
 use Rattle.uneven.specs.declared.Sounded.{Sounded}
 use Rattle.uneven.specs.declared.Sounded.the-variants as S
 use Rattle.uneven.specs.declared.Named.the-variants.{Times, Depths}
@@ -47,6 +48,7 @@ use Rattle.promises.specs.Numbers.{numberIn, numberBy, eitherOf, numberB
 use Rattle.promises.proofs.Numbers.{RowNumber, PlaceNumber, none-passed, none-first, row-first, unused, Refuses, Owes, owed-place, by-rows, by-places, ValueNumber, WrittenNumber, values, writes}
 use Rattle.promises.proofs.Seconds.{table-spline-refuses, table-spline-inverse-by-refuses, table-spline-inverse-refuses, table-convert-spline-refuses}
 use Rattle.promises.proofs.Strict.{strict-refuses-first}
+use Rattle.promises.proofs.StrictTables.{table-strict-refuses}
 use Rattle.promises.proofs.Uneven.{Sounds, depth-at-sounds}
 use Rattle.promises.proofs.Valve.{mix-refuses}
 use Rattle.promises.proofs.Claims.{check-claim-checked}
@@ -82,6 +84,12 @@ pub table-convert-spline-number : Keeps table_convert_spline.Learnt
     (numberBy (badSpan (a .0 .span) ∷ convertUses (a .0 .basis) (a .1 .0) (now (a .1 .1 .0)) (length (now (a .1 .1 .1 .0)))))
     (handedNumber z))
 table-convert-spline-number κs a z e p = by-rows handedNumber H.Refused handed-owed _ z refl refl (table-convert-spline-refuses κs a z e p)
+
+pub table-strict-number : Keeps table_convert_spline_strict.Learnt
+    (λ κs a z e. RowNumber
+    (numberBy (badSpan (a .0 .span) ∷ strictUses (a .0 .basis) (a .1 .0) (now (a .1 .1 .0)) (a .1 .1 .1 .0) (length (now (a .1 .1 .1 .1 .0)))))
+    (handedNumber z))
+table-strict-number κs a z e p = by-rows handedNumber H.Refused handed-owed _ z refl refl (table-strict-refuses κs a z e p)
 
 -- ---- strict conversion
 pub strict-number : Keeps convert_spline_strict.Learnt

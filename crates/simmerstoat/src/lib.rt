@@ -25,6 +25,7 @@ ghost use Rattle.simmerstoat.specs.Replies.{
 use basis::Basis;
 use convert::Converted;
 use error::Refusal;
+use inverse_methods::Method;
 use inverse_segment::Ground;
 use inverse_segment::Inverted;
 use spline::Evaluated;
@@ -186,7 +187,7 @@ pub extern "C" fn simmerstoat_spline_inverse_with(
     )
 }
 
-// One segment's inversion with the defaults.
+// One segment's inversion with the defaults: the crate's method among the others, so that the archive has its rounds once.
 #[no_mangle]
 pub extern "C" fn simmerstoat_spline_inverse_segment(
     basis: u8,
