@@ -10,13 +10,15 @@
 
 enum { SIZE = 1 << 15, PAINT = 0xA5, KNOTS = 4096 };
 
-/* The limits that are aimed at, in bytes; the header tells what each call takes today, which is more for some. */
-enum { EVALUATION = 96, INVERSION = 512, CONVERSION = 400, STRICT = 512 };
+/* The most that a call may take, in bytes. A table's conversion has three arguments on the stack besides; the depth at a
+ * time is an inversion that holds a second table, with four. */
+enum { EVALUATION = 96, INVERSION = 512, CONVERSION = 400, STRICT = 512, TABLE = 416, DEPTH = 544 };
 
 static unsigned char *stack;
 static ucontext_t back, there;
 static double knots[KNOTS], out[4 * KNOTS], value, place[4];
-static size_t whole[3], written;
+static size_t whole[4], written;
+static uint32_t handed;
 static int basis, other;
 static size_t length;
 static double at;
@@ -59,6 +61,25 @@ static void convert_spline_strict(void) {
     reply = simmerstoat_convert_spline_strict(basis, other, knots, length, 1e9, out, 4 * KNOTS, &written);
 }
 
+static void table_spline(void) { reply = simmerstoat_table_spline(basis, 86400, at, knots, length, &value); }
+static void table_spline_inverse(void) {
+    reply = simmerstoat_table_spline_inverse(basis, 86400, at * 40, knots, length, true, place, whole);
+}
+static void table_spline_inverse_by(void) {
+    reply = simmerstoat_table_spline_inverse_by(basis, 86400, at * 40, knots, length, false, 300, 1e-300, other % 2, other / 2,
+                                                place, whole);
+}
+static void table_convert_spline(void) {
+    reply = simmerstoat_table_convert_spline(basis, 86400, other, knots, length, out, 4 * KNOTS, &handed, &written);
+}
+static void table_convert_spline_strict(void) {
+    reply = simmerstoat_table_convert_spline_strict(basis, 86400, other, knots, length, 1e9, out, 4 * KNOTS, &handed,
+                                                    &written);
+}
+static void depth_at(void) {
+    reply = simmerstoat_depth_at(basis, knots, length, basis, knots, length, at * 40, 300, 1e-300, &value, place, whole);
+}
+
 static size_t depth(void (*call)(void)) {
     memset(stack, PAINT, SIZE);
     getcontext(&there);
@@ -90,7 +111,13 @@ int main(void) {
                  {"spline_inverse_segment_steady", spline_inverse_segment_steady, INVERSION},
                  {"convert_segment", convert_segment, CONVERSION},
                  {"convert_spline", convert_spline, CONVERSION},
-                 {"convert_spline_strict", convert_spline_strict, STRICT}};
+                 {"convert_spline_strict", convert_spline_strict, STRICT},
+                 {"table_spline", table_spline, EVALUATION},
+                 {"table_spline_inverse", table_spline_inverse, INVERSION},
+                 {"table_spline_inverse_by", table_spline_inverse_by, INVERSION},
+                 {"table_convert_spline", table_convert_spline, TABLE},
+                 {"table_convert_spline_strict", table_convert_spline_strict, STRICT},
+                 {"depth_at", depth_at, DEPTH}};
     static const size_t lengths[] = {4, 16, 28, 100, 1024, 4096};
     stack = malloc(SIZE);
     for (int i = 0; i < KNOTS; i++) knots[i] = 0.01 * i;

@@ -15,7 +15,7 @@ use Rattle.error.specs.Refusals.{rows, first}
 use Rattle.error.proofs.First.{never, First}
 use Rattle.basis.specs.declared.Basis.{Basis}
 use Rattle.basis.specs.Basis.{regular}
-use Rattle.spline.specs.Rows.{curveLength}
+use Rattle.checks.specs.Checks.{curveLength}
 use Rattle.convert.specs.Conversion.{Conversion, gives, refuses}
 use Rattle.convert.specs.Buffer.{answerOf, bufferOf}
 use Rattle.convert_strict.specs.Strict.{strictUses, strictOf}
