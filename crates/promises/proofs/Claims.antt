@@ -19,8 +19,8 @@ use Rattle.inverse_segment.specs.declared.Place.{Place}
 use Rattle.inverse_segment.specs.declared.Inverted.{Inverted}
 use Rattle.inverse_segment.specs.declared.Inverted.the-variants as I
 use Rattle.inverse_segment.specs.Answer.{inverseSegmentBy, defaultLimit, defaultPrecision}
-use Rattle.inverse_segment.proofs.spline_inverse_segment_with.Reads as spline_inverse_segment_with
-use Rattle.inverse_segment.proofs.spline_inverse_segment.Reads as spline_inverse_segment
+use Rattle.inverse_methods.proofs.spline_inverse_segment_with.Reads as spline_inverse_segment_with
+use Rattle.inverse_methods.proofs.spline_inverse_segment.Reads as spline_inverse_segment
 use Rattle.inverse_methods.specs.declared.Method.{Method}
 use Rattle.inverse_methods.specs.declared.Method.the-variants.{AsCrate}
 use Rattle.inverse_methods.specs.Method.{ruleOf}
