@@ -19,6 +19,7 @@ static ucontext_t back, there;
 static double knots[KNOTS], out[4 * KNOTS], value, place[4];
 static size_t whole[4], written;
 static uint32_t handed;
+static bool holds;
 static int basis, other;
 static size_t length;
 static double at;
@@ -69,12 +70,18 @@ static void table_spline_inverse_by(void) {
     reply = simmerstoat_table_spline_inverse_by(basis, 86400, at * 40, knots, length, false, 300, 1e-300, other % 2, other / 2,
                                                 place, whole);
 }
+static void table_spline_inverse_steady(void) {
+    reply = simmerstoat_table_spline_inverse_steady(basis, 86400, at * 40, knots, length, true, place, whole);
+}
 static void table_convert_spline(void) {
     reply = simmerstoat_table_convert_spline(basis, 86400, other, knots, length, out, 4 * KNOTS, &handed, &written);
 }
 static void table_convert_spline_strict(void) {
     reply = simmerstoat_table_convert_spline_strict(basis, 86400, other, knots, length, 1e9, out, 4 * KNOTS, &handed,
                                                     &written);
+}
+static void check_claim(void) {
+    reply = simmerstoat_check_claim(basis, at * 40, 0, at, 1e-10, knots, length, &holds);
 }
 static void depth_at(void) {
     reply = simmerstoat_depth_at(basis, knots, length, basis, knots, length, at * 40, 300, 1e-300, &value, place, whole);
@@ -115,8 +122,10 @@ int main(void) {
                  {"table_spline", table_spline, EVALUATION},
                  {"table_spline_inverse", table_spline_inverse, INVERSION},
                  {"table_spline_inverse_by", table_spline_inverse_by, INVERSION},
+                 {"table_spline_inverse_steady", table_spline_inverse_steady, INVERSION},
                  {"table_convert_spline", table_convert_spline, TABLE},
                  {"table_convert_spline_strict", table_convert_spline_strict, STRICT},
+                 {"check_claim", check_claim, EVALUATION},
                  {"depth_at", depth_at, DEPTH}};
     static const size_t lengths[] = {4, 16, 28, 100, 1024, 4096};
     stack = malloc(SIZE);
