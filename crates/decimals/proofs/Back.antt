@@ -104,7 +104,7 @@ same-value (inf b) s t g S k l u v = absurd u
 same-value (fin b m e) s t g S k l u v = (
   sym (u .0) ∙ v .0,
   eq-of-mul-eq-mul-right (down e) (down-pos e) (S * 2 ^ k) (g * 2 ^ l)
-  (mul-right-comm S (2 ^ k) (down e) ∙ ap (λ (y : ℕ). y * 2 ^ k) (sym (v .1)) ∙ mul-right-comm (m * up e) (2 ^ l) (2 ^ k) ∙ ap (λ (y : ℕ). y * 2 ^ l) (u .1) ∙ mul-right-comm g (down e) (2 ^ l)),
+      (mul-right-comm S (2 ^ k) (down e) ∙ ap (λ (y : ℕ). y * 2 ^ k) (sym (v .1)) ∙ mul-right-comm (m * up e) (2 ^ l) (2 ^ k) ∙ ap (λ (y : ℕ). y * 2 ^ l) (u .1) ∙ mul-right-comm g (down e) (2 ^ l)),
 )
 
 -- ---- a depth
