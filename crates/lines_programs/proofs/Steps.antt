@@ -14,6 +14,7 @@ use Rattle.lines_answer.specs.Answer.{places}
 use Rattle.lines.specs.Lines.{lineProgram}
 use Rattle.sheet.specs.Sheet.{sheetProgram}
 use Rattle.claims.specs.Claims.{claimsProgram}
+use Rattle.decimals.specs.Decimals.{decimalsProgram}
 use Rattle.text.specs.Text.{LF}
 use Rattle.text.specs.Wrote.{Wrote}
 use Rattle.text.proofs.Writing.{nothing, then}
@@ -23,7 +24,7 @@ use Rattle.lines_machine.specs.Held.{openOf}
 use Rattle.lines_machine.proofs.Whole.{Within, ran-append, told-append}
 use Rattle.lines_programs.specs.declared.Reader.{Reader}
 use Rattle.lines_programs.specs.declared.Job.{Job}
-use Rattle.lines_programs.specs.Programs.{Running, asking, reading, claiming, tellsOf, afterOf, endsOf, running}
+use Rattle.lines_programs.specs.Programs.{Running, asking, reading, claiming, showing, tellsOf, afterOf, endsOf, running}
 use Rattle.lines_programs.specs.Held.{runningOf, countOf, stateOf, Good, Went}
 
 -- ---- each program does within the whole what it does alone
@@ -38,6 +39,10 @@ sheet-within = record { tells = λ s o. refl; after = λ s o. refl; ends = λ s.
 pub claims-within : Within claimsProgram running claiming
 unfolding tellsOf afterOf endsOf
 claims-within = record { tells = λ s o. refl; after = λ s o. refl; ends = λ s. refl }
+
+pub decimals-within : Within decimalsProgram running (λ u. showing)
+unfolding tellsOf afterOf endsOf
+decimals-within = record { tells = λ s o. refl; after = λ s o. refl; ends = λ s. refl }
 
 -- ---- the end of a line: a program within the whole has taken its own step, from its state s
 pub line-went : {S : Type 0} (P : Program S) (f : S → Running) → Within P running f → (s : S) (o : Line) {after : Job} {line : List ℕ} {table : List Float} {out out′ : List ℕ} {at next : ℕ}

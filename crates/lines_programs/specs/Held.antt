@@ -15,18 +15,20 @@ use Rattle.lines_machine.specs.Bytes.{State, stateAt, start}
 use Rattle.lines_machine.specs.Held.{openOf}
 use Rattle.lines_programs.specs.declared.Reader.{Reader}
 use Rattle.lines_programs.specs.declared.Job.{Job}
-use Rattle.lines_programs.specs.declared.Job.the-variants.{Asking, Reading, Claiming}
-use Rattle.lines_programs.specs.Programs.{Running, asking, reading, claiming}
+use Rattle.lines_programs.specs.declared.Job.the-variants.{Asking, Reading, Claiming, Showing}
+use Rattle.lines_programs.specs.Programs.{Running, asking, reading, claiming, showing}
 
 abbrev pub runningOf : Job → List Float → Running
 runningOf (Asking h) table = asking (curveOf h table)
 runningOf (Reading h) table = reading (sheetOf h table)
 runningOf (Claiming h) table = claiming (curveOf h table)
+runningOf Showing table = showing
 
 abbrev pub countOf : Job → ℕ
 countOf (Asking h) = knotsOf h
 countOf (Reading h) = depthsOf h
 countOf (Claiming h) = knotsOf h
+countOf Showing = 0
 
 abbrev pub stateOf : Reader → List ℕ → List Float → State Running
 stateOf st line table = stateAt (openOf (st .len) line) (runningOf (st .job) table)

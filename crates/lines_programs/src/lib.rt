@@ -7,7 +7,7 @@ ghost use Rattle.lines_reply.specs.Told.{longest};
 ghost use Rattle.sheet.specs.Sheet.{unbegun};
 ghost use Rattle.text.specs.Wrote.{Wrote};
 ghost use Rattle.lines_machine.specs.Bytes.{closed, closeText, nextOf, tellOf, endOf, ranOf, toldOf};
-ghost use Rattle.lines_programs.specs.Programs.{asking, reading, claiming, running, endsOf};
+ghost use Rattle.lines_programs.specs.Programs.{asking, reading, claiming, showing, running, endsOf};
 ghost use Rattle.lines_programs.specs.Held.{runningOf, countOf, stateOf, Fresh, Good, Went};
 
 // Which program, and what it holds.
@@ -15,6 +15,7 @@ pub enum Job {
     Asking(lines_answer::Held),
     Reading(sheet::Held),
     Claiming(lines_answer::Held),
+    Showing,
 }
 
 // `len`: bytes of the current line in the lent 64; 65 means that the line is too long.
@@ -56,6 +57,14 @@ pub fn claims_program() -> Reader
         len: 0,
         job: Job::Claiming(lines_answer::Held::Nothing),
     }
+}
+
+// The printer of decimals, before the first byte.
+pub fn decimals_program() -> Reader
+    ensures { λ st. ⌜ Fresh showing st ⌝ }
+{
+    let job = Job::Showing;
+    Reader { len: 0, job: job }
 }
 
 // The end of a line.
@@ -105,6 +114,16 @@ fn ended(
                 at: l.at,
             }
         }
+        Job::Showing => {
+            let next = decimals::line(len, line, out, at);
+            Stepped {
+                st: Reader {
+                    len: 0,
+                    job: Job::Showing,
+                },
+                at: next,
+            }
+        }
     }
 }
 
@@ -117,6 +136,7 @@ fn ends(job: Job, table: &[f64], out: &mut [u8], at: usize) -> usize
         Job::Asking(_) => at,
         Job::Reading(held) => sheet::end(held, table, out, at),
         Job::Claiming(_) => at,
+        Job::Showing => at,
     }
 }
 

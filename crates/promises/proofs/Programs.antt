@@ -12,10 +12,11 @@ use Rattle.lines_machine.specs.Bytes.{State, start, toldOf, ranOf, endOf}
 use Rattle.lines_machine.proofs.Whole.{ran-append, told-append, whole, Within, within-output}
 use Rattle.sheet.specs.Sheet.{unbegun}
 use Rattle.lines_programs.specs.declared.Reader.{Reader}
-use Rattle.lines_programs.specs.Programs.{Running, asking, reading, claiming, running}
+use Rattle.lines_programs.specs.Programs.{Running, asking, reading, claiming, showing, running}
 use Rattle.lines_programs.specs.Held.{stateOf}
 use Rattle.lines_programs.proofs.line_program.Reads as line_program
 use Rattle.lines_programs.proofs.sheet_program.Reads as sheet_program
+use Rattle.lines_programs.proofs.decimals_program.Reads as decimals_program
 use Rattle.lines_programs.proofs.claims_program.Reads as claims_program
 use Rattle.lines_programs.proofs.step.Reads as step
 use Rattle.lines_programs.proofs.finish.Reads as finish
@@ -41,6 +42,9 @@ sheet-program-one-reply κs a z z′ e e′ p q line table = one (p .begun line 
 
 pub claims-program-one-reply : OneReply claims_program.Learnt (λ κs z e z′ e′. (line : List ℕ) (table : List Float) → stateOf z line table ≡ stateOf z′ line table)
 claims-program-one-reply κs a z z′ e e′ p q line table = one (p .begun line table) (q .begun line table)
+
+pub decimals-program-one-reply : OneReply decimals_program.Learnt (λ κs z e z′ e′. (line : List ℕ) (table : List Float) → stateOf z line table ≡ stateOf z′ line table)
+decimals-program-one-reply κs a z z′ e e′ p q line table = one (p .begun line table) (q .begun line table)
 
 pub step-one-reply : OneReply step.Learnt
     (λ κs z e z′ e′.
@@ -80,6 +84,9 @@ line-program-begins κs a z e p line table = begins (asking none) z line table (
 
 pub sheet-program-begins : Keeps sheet_program.Learnt (λ κs a z e. (line : List ℕ) (table : List Float) → So (reading unbegun) z line table [] [])
 sheet-program-begins κs a z e p line table = begins (reading unbegun) z line table (p .begun line table)
+
+pub decimals-program-begins : Keeps decimals_program.Learnt (λ κs a z e. (line : List ℕ) (table : List Float) → So showing z line table [] [])
+decimals-program-begins κs a z e p line table = begins showing z line table (p .begun line table)
 
 pub claims-program-begins : Keeps claims_program.Learnt (λ κs a z e. (line : List ℕ) (table : List Float) → So (claiming none) z line table [] [])
 claims-program-begins κs a z e p line table = begins (claiming none) z line table (p .begun line table)

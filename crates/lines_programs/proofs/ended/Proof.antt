@@ -1,6 +1,6 @@
 -- Each program's own step, taken within the whole.
 use native.Mathlib.Omega.{arith}
-use mathlib.Core.Path.{ap}
+use mathlib.Core.Path.{refl, ap}
 use Rattle.text.proofs.Writing.{nothing}
 use Rattle.lines_machine.specs.Held.{openOf}
 use Rattle.lines_answer.specs.Held.{curveOf}
@@ -8,16 +8,12 @@ use Rattle.lines.specs.Lines.{lineProgram}
 use Rattle.sheet.specs.Sheet.{sheetProgram}
 use Rattle.sheet.specs.Held.{sheetOf}
 use Rattle.claims.specs.Claims.{claimsProgram}
-use Rattle.lines_programs.specs.Programs.{asking, reading, claiming}
-use Rattle.lines_programs.proofs.Steps.{line-within, sheet-within, claims-within, line-went}
+use Rattle.lines_programs.specs.Programs.{asking, reading, claiming, showing}
+use Rattle.lines_programs.proofs.Steps.{line-within, sheet-within, claims-within, decimals-within, line-went}
 use borrow.Author.Needs.{needs}
+use Rattle.decimals.specs.Decimals.{decimalsProgram}
 use Rattle.lines_programs.proofs.ended.Statement.{statement}
 use Rattle.lines_programs.proofs.ended.Tie as tie
-use Rattle.lines_programs.proofs.ended.Reads as reads
-use Rattle.lines_programs.proofs.ended.Lts as lts
-use Rattle.claims.proofs.line.Reads as line-reads
-use Rattle.lines.proofs.line.Reads as line-reads′
-use Rattle.sheet.proofs.line.Reads as line-reads′′
 
 enum-known-job : tie.Need-enum-known-job
 enum-known-job c = search needs
@@ -36,6 +32,12 @@ enum-known-job-3 c = search needs
 
 line-requires-3 : tie.Need-line-requires-3
 line-requires-3 c κs = (c .before .before .before .before .before .before .before .before .before .before .pre .0 .wide, ((rw (c .before .before .before .before .job3 .given .1) at (c .before .before .before .before .before .before .before .before .before .before .pre .0 .few), c .before .before .before .before .before .before .before .before .before .before .pre .0 .full, c .before .before .before .before .before .before .before .before .before .before .pre .1), c .before .before .before .before .before .before .before .before .before .before .pre .2))
+
+enum-told : tie.Need-enum-told
+enum-told c = search needs
+
+line-requires-4 : tie.Need-line-requires-4
+line-requires-4 c κs = (c .before .before .before .before .before .before .before .pre .0 .wide, omega arith)
 
 same-length : tie.Need-same-length
 same-length c = search needs
@@ -67,6 +69,12 @@ same-length-7 c = search needs
 returns-3 : tie.Need-returns-3
 returns-3 c = let o = openOf (c .before .before .before .before .before .before .before .before .before .before .before .before .before .before .before .before .before .args .st .len) (c .before .before .before .before .before .before .before .before .before .before .before .before .before .before .before .before .before .args .line .now) in let r = c .before .before .before .before .before .before .line3 .ensures in rw (c .before .before .before .before .before .before .before .before .before .before .before .job3 .given .1) (line-went claimsProgram claiming claims-within (curveOf (c .before .before .before .before .before .before .before .before .before .before .before .job3 .given .0 .0) (c .before .before .before .before .before .before .before .before .before .before .before .before .before .before .before .before .before .args .table .now)) o (c .before .before .before .before .before .before .before .before .before .before .before .before .before .before .before .before .before .pre .0 .wide) (omega arith) (r .1 .0) (ap claiming (r .0)) (r .1 .1 .0), r .1 .1 .1)
 
+same-length-8 : tie.Need-same-length-8
+same-length-8 c = search needs
+
+returns-4 : tie.Need-returns-4
+returns-4 c = let o = openOf (c .before .before .before .before .before .before .before .before .before .before .args .st .len) (c .before .before .before .before .before .before .before .before .before .before .args .line .now) in rw (c .before .before .before .before .enum-told .given .1) (line-went decimalsProgram (λ u. showing) decimals-within tt o (c .before .before .before .before .before .before .before .before .before .before .pre .0 .wide) (c .before .before .before .before .before .before .before .before .before .before .pre .0 .full) (omega arith) refl (c .before .before .line4 .ensures .0), omega (arith, c .before .before .line4 .ensures .1))
+
 pub ended-spec : {M : Type 1} → statement M
 ended-spec =
     tie.close
@@ -77,6 +85,8 @@ ended-spec =
     line-requires-2
     enum-known-job-3
     line-requires-3
+    enum-told
+    line-requires-4
     same-length
     same-length-2
     same-length-3
@@ -86,4 +96,6 @@ ended-spec =
     same-length-5
     same-length-6
     same-length-7
-    returns-3)
+    returns-3
+    same-length-8
+    returns-4)

@@ -9,9 +9,6 @@ use Rattle.lines_programs.specs.Held.{countOf}
 use borrow.Author.Needs.{needs}
 use Rattle.lines_programs.proofs.ends.Statement.{statement}
 use Rattle.lines_programs.proofs.ends.Tie as tie
-use Rattle.lines_programs.proofs.ends.Reads as reads
-use Rattle.lines_programs.proofs.ends.Lts as lts
-use Rattle.sheet.proofs.end.Reads as end-reads
 
 enum-told : tie.Need-enum-told
 enum-told c = search needs
@@ -24,6 +21,9 @@ end-requires c κs = let k : countOf (Reading (c .before .before .job .given .0 
 
 enum-told-2 : tie.Need-enum-told-2
 enum-told-2 c = search needs
+
+enum-told-3 : tie.Need-enum-told-3
+enum-told-3 c = search needs
 
 returns : tie.Need-returns
 unfolding endsOf
@@ -40,6 +40,10 @@ returns-3 : tie.Need-returns-3
 unfolding endsOf
 returns-3 c = rw (c .enum-told2 .given .1) (nothing _ _, omega arith)
 
+returns-4 : tie.Need-returns-4
+unfolding endsOf
+returns-4 c = rw (c .enum-told3 .given .1) (nothing _ _, omega arith)
+
 pub ends-spec : {M : Type 1} → statement M
 ends-spec =
     tie.close
@@ -48,7 +52,9 @@ ends-spec =
     enum-known-job
     end-requires
     enum-told-2
+    enum-told-3
     returns
     same-length
     returns-2
-    returns-3)
+    returns-3
+    returns-4)
