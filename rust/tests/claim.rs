@@ -4,6 +4,8 @@ use simmerstoat::claim::check_claim;
 use simmerstoat::prelude::*;
 
 const NIGHT: [f64; 10] = [-1.2, 0.0, 1.25, 2.5, 3.75, 4.5, 5.0, 5.5, 7.0, 7.5];
+/// Two segments of coefficients, from 0 to 2.5 and on to 5.
+const POWERS: [f64; 8] = [0.5, 0.0, 2.0, 0.0, 0.5, 0.0, 2.0, 2.5];
 
 /// How many answers by value or edge there were; each of them holds.
 fn own<B: Basis>(knots: &[f64], ends: Ends, method: Method) -> usize {
@@ -35,7 +37,7 @@ fn our_own_answers() {
                 own::<CatmullRom>(&NIGHT, ends, method),
                 own::<Hermite>(&NIGHT, ends, method),
                 own::<Linear>(&NIGHT, ends, method),
-                own::<Power>(&NIGHT[..8], ends, method),
+                own::<Power>(&POWERS, ends, method),
             ];
             assert!(made.iter().all(|&n| n > 20), "{made:?}");
         }
