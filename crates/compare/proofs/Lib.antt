@@ -1,0 +1,4 @@
+pub mod Listed
+pub mod Rebuilt
+pub mod Same
+pub mod Writing
