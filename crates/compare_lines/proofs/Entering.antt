@@ -1,0 +1,72 @@
+-- A knot, a span and a whole line, as the listing takes them. Assumes nothing.
+use mathlib.Core.Path.{_≡_, refl, sym, ap, subst, _∙_}
+use mathlib.Core.Bool.{true, false}
+use mathlib.Core.List.{List}
+use Prim.Native.Nat.{ℕ, _+_, _≤_, _<_}
+use native.Mathlib.Numerals.{add-one}
+use native.Mathlib.Omega.{arith}
+use borrow.Author.Tests.{lt-ltb, le-ltb}
+use lib.ListN.{length, take, set}
+use lib.Seq.{length-take-le, take-suc-set}
+use Rattle.error.specs.declared.Refusal.the-variants.{TooMany, BadSpan}
+use Rattle.error.specs.declared.Verdict.{Verdict}
+use Rattle.error.specs.declared.Verdict.the-variants.{Passed, Failed}
+use Rattle.table.specs.declared.Table.{Table}
+use Rattle.table.specs.Second.{goodSpan}
+use Rattle.text.specs.Wrote.{Wrote}
+use Rattle.lines_machine.specs.Program.{Line}
+use Rattle.compare_lines.specs.declared.Said.{Said}
+use Rattle.compare_lines.specs.declared.Said.the-variants.{Span, Knot}
+use Rattle.compare_lines.specs.declared.Took.{Took}
+use Rattle.compare_lines.specs.Said.{isOther}
+use Rattle.compare_lines.specs.Listings.{Listing, none, on, places, heard, entered, Both, before, parted, verdictOf, afterOf, verdictText, says, compareProgram}
+use Rattle.compare_lines.specs.Held.{bothOf, Takes}
+
+module _ (t : Table) (n x : ℕ) (knots : List ℕ) where
+  -- a place is left
+  pub knot-taken : n < places → length knots ≡ places
+      → (on t (take (n + 1) (set knots n x)) ≡ entered (on t (take n knots)) (Knot x)) × (Passed ≡ heard (on t (take n knots)) (Knot x))
+  unfolding entered heard
+  knot-taken h e =
+      let l : length (take n knots) ≡ n = length-take-le n knots (omega arith) in
+      (rw (l, lt-ltb n places h, add-one, take-suc-set knots n x (omega arith)) refl, rw (l, lt-ltb n places h) refl)
+
+  -- the last place is taken
+  pub knot-dropped : n ≤ places → places ≤ n → length knots ≡ places
+      → (on t (take n knots) ≡ entered (on t (take n knots)) (Knot x)) × (Failed TooMany ≡ heard (on t (take n knots)) (Knot x))
+  unfolding entered heard
+  knot-dropped g h e =
+      let l : length (take n knots) ≡ n = length-take-le n knots (omega arith) in
+      (rw (l, le-ltb n places h) refl, rw (l, le-ltb n places h) refl)
+
+  pub span-taken : goodSpan x ≡ true
+      → (on (record { basis = t .basis; span = x }) (take n knots) ≡ entered (on t (take n knots)) (Span x)) × (Passed ≡ heard (on t (take n knots)) (Span x))
+  unfolding entered heard
+  span-taken e = (rw e refl, rw e refl)
+
+  pub span-refused : goodSpan x ≡ false
+      → (on t (take n knots) ≡ entered (on t (take n knots)) (Span x)) × (Failed BadSpan ≡ heard (on t (take n knots)) (Span x))
+  unfolding entered heard
+  span-refused e = (rw e refl, rw e refl)
+
+-- ---- both listings
+pub parting : (l : Listing) (s : Said) → isOther s ≡ true → (parted l none ≡ afterOf (before l) s) × (Passed ≡ verdictOf (before l) s)
+unfolding afterOf verdictOf
+parting l s e = (rw e refl, rw e refl)
+
+pub entering : (l : Listing) (s : Said) → isOther s ≡ false → (before (entered l s) ≡ afterOf (before l) s) × (heard l s ≡ verdictOf (before l) s)
+unfolding afterOf verdictOf
+entering l s e = (rw e refl, rw e refl)
+
+pub second : (k l : Listing) (s : Said) → (parted k (entered l s) ≡ afterOf (parted k l) s) × (heard l s ≡ verdictOf (parted k l) s)
+unfolding afterOf verdictOf
+second k l s = (refl, refl)
+
+-- ---- a line
+module _ {b : Both} {s : Said} {t : Took} {old new : List ℕ} (o : Line) (e : s ≡ says o) (h : Takes b s t old new) where
+  pub line-state : bothOf (t .held) old new ≡ compareProgram .after b o
+  line-state = h .held ∙ ap (afterOf b) e
+
+  pub line-wrote : {out : List ℕ} {at : ℕ} {out′ : List ℕ} {next : ℕ} → Wrote out at (verdictText (t .verdict)) out′ next
+      → Wrote out at (compareProgram .tells b o) out′ next
+  line-wrote {out} {at} {out′} {next} w = subst (λ (v : Verdict). Wrote out at (verdictText v) out′ next) (h .told ∙ ap (verdictOf b) e) w

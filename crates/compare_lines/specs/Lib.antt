@@ -1,0 +1,3 @@
+pub mod Said
+pub mod Listings
+pub mod Held
