@@ -1,10 +1,10 @@
 // The loop of every program over lines: it reads, feeds `programs` and writes, in large pieces and fixed memory. Where a read or a write
 // fails it stops without ending the input, and says so on standard error.
 ghost use mathlib.Core.Path.{_≡_};
-ghost use Prim.Native.Nat.{_≤_, _*_};
+ghost use Prim.Native.Nat.{_+_, _≤_};
 ghost use lib.ListN.{length};
 ghost use Rattle.lines_answer.specs.Answer.{places};
-ghost use Rattle.lines_programs.specs.Held.{countOf, stateOf, Good};
+ghost use Rattle.lines_programs.specs.Held.{lastRoom, countOf, stateOf, Good};
 ghost use Rattle.lines_machine.specs.Program.{widest};
 ghost use Rattle.lines_programs.specs.Programs.{running};
 ghost use Rattle.lines_machine.specs.Bytes.{ranOf};
@@ -46,10 +46,12 @@ fn feed_all(
     line: &mut [u8],
     table: &mut [f64],
     turned: &mut [f64],
+    old: &mut [u64],
+    new: &mut [u64],
     out: &mut [u8],
 ) -> Ran
-    requires { ⌜ Good st (now line) (now table) × (length (now turned) ≡ places) × (2 * longest ≤ length (now out)) ⌝ }
-    ensures { λ r. ⌜ Good (r .st) (now (line .exit)) (now (table .exit)) × (stateOf (r .st) (now (line .exit)) (now (table .exit)) ≡ ranOf running (stateOf st (now (line .entry)) (now (table .entry))) (now (chunk .entry))) ⌝ }
+    requires { ⌜ Good st (now line) (now table) (now old) (now new) × (length (now turned) ≡ places) × (longest + lastRoom ≤ length (now out)) ⌝ }
+    ensures { λ r. ⌜ Good (r .st) (now (line .exit)) (now (table .exit)) (now (old .exit)) (now (new .exit)) × (stateOf (r .st) (now (line .exit)) (now (table .exit)) (now (old .exit)) (now (new .exit)) ≡ ranOf running (stateOf st (now (line .entry)) (now (table .entry)) (now (old .entry)) (now (new .entry))) (now (chunk .entry))) ⌝ }
 {
     let mut s = st;
     let mut from = 0;
@@ -61,6 +63,8 @@ fn feed_all(
             &mut *line,
             &mut *table,
             &mut *turned,
+            &mut *old,
+            &mut *new,
             &mut *out,
         );
         s = f.st;
@@ -85,10 +89,12 @@ fn read_once(
     line: &mut [u8],
     table: &mut [f64],
     turned: &mut [f64],
+    old: &mut [u64],
+    new: &mut [u64],
     out: &mut [u8],
 ) -> Ran
-    requires { ⌜ Good st (now line) (now table) × (length (now turned) ≡ places) × (2 * longest ≤ length (now out)) ⌝ }
-    ensures { λ r. ⌜ Good (r .st) (now (line .exit)) (now (table .exit)) ⌝ }
+    requires { ⌜ Good st (now line) (now table) (now old) (now new) × (length (now turned) ≡ places) × (longest + lastRoom ≤ length (now out)) ⌝ }
+    ensures { λ r. ⌜ Good (r .st) (now (line .exit)) (now (table .exit)) (now (old .exit)) (now (new .exit)) ⌝ }
 {
     let got = libc::read(STDIN_FILENO, &mut *chunk);
     let n = io::count(got, &chunk[..]);
@@ -99,7 +105,7 @@ fn read_once(
             more: false,
         };
     }
-    feed_all(st, &chunk[0..n], line, table, turned, out)
+    feed_all(st, &chunk[0..n], line, table, turned, old, new, out)
 }
 
 // The whole input; `left` counts more reads than any run makes.
@@ -109,10 +115,12 @@ fn read_all(
     line: &mut [u8],
     table: &mut [f64],
     turned: &mut [f64],
+    old: &mut [u64],
+    new: &mut [u64],
     out: &mut [u8],
 ) -> Ran
-    requires { ⌜ (countOf (first .job) ≡ 0) × (length (now line) ≡ widest) × (length (now table) ≡ places) × (length (now turned) ≡ places) × (2 * longest ≤ length (now out)) ⌝ }
-    ensures { λ r. ⌜ Good (r .st) (now (line .exit)) (now (table .exit)) ⌝ }
+    requires { ⌜ (countOf (first .job) ≡ 0) × (length (now line) ≡ widest) × (length (now table) ≡ places) × (length (now turned) ≡ places) × (length (now old) ≡ places) × (length (now new) ≡ places) × (longest + lastRoom ≤ length (now out)) ⌝ }
+    ensures { λ r. ⌜ Good (r .st) (now (line .exit)) (now (table .exit)) (now (old .exit)) (now (new .exit)) ⌝ }
 {
     let mut st = first;
     let mut fine = true;
@@ -124,6 +132,8 @@ fn read_all(
             &mut *line,
             &mut *table,
             &mut *turned,
+            &mut *old,
+            &mut *new,
             &mut *out,
         );
         st = r.st;
@@ -138,10 +148,18 @@ fn read_all(
 }
 
 // The end of the input; a last line may lack its LF.
-pub fn close(st: Reader, line: &[u8], table: &mut [f64], turned: &mut [f64], out: &mut [u8])
-    requires { ⌜ Good st (now line) (now table) × (length (now turned) ≡ places) × (2 * longest ≤ length (now out)) ⌝ }
+pub fn close(
+    st: Reader,
+    line: &[u8],
+    table: &mut [f64],
+    turned: &mut [f64],
+    old: &mut [u64],
+    new: &mut [u64],
+    out: &mut [u8],
+)
+    requires { ⌜ Good st (now line) (now table) (now old) (now new) × (length (now turned) ≡ places) × (longest + lastRoom ≤ length (now out)) ⌝ }
 {
-    let at = lines_programs::finish(st, line, table, turned, &mut *out, 0);
+    let at = lines_programs::finish(st, line, table, turned, old, new, &mut *out, 0);
     written(&out[0..at]);
 }
 
@@ -152,9 +170,11 @@ fn whole(
     line: &mut [u8],
     table: &mut [f64],
     turned: &mut [f64],
+    old: &mut [u64],
+    new: &mut [u64],
     out: &mut [u8],
 )
-    requires { ⌜ (countOf (first .job) ≡ 0) × (length (now line) ≡ widest) × (length (now table) ≡ places) × (length (now turned) ≡ places) × (2 * longest ≤ length (now out)) ⌝ }
+    requires { ⌜ (countOf (first .job) ≡ 0) × (length (now line) ≡ widest) × (length (now table) ≡ places) × (length (now turned) ≡ places) × (length (now old) ≡ places) × (length (now new) ≡ places) × (longest + lastRoom ≤ length (now out)) ⌝ }
 {
     let r = read_all(
         first,
@@ -162,11 +182,13 @@ fn whole(
         &mut *line,
         &mut *table,
         &mut *turned,
+        &mut *old,
+        &mut *new,
         &mut *out,
     );
     if r.fine {
         let st = r.st;
-        close(st, &line[..], table, turned, out);
+        close(st, &line[..], table, turned, old, new, out);
     }
 }
 
@@ -175,15 +197,19 @@ pub fn run(first: Reader)
 {
     let mut table = [0.0; 4096];
     let mut turned = [0.0; 4096];
+    let mut old = [0u64; 4096];
+    let mut new = [0u64; 4096];
     let mut line = [0u8; 64];
     let mut chunk = [0u8; 65536];
-    let mut out = [0u8; 196608];
+    let mut out = [0u8; 278528];
     whole(
         first,
         &mut chunk,
         &mut line,
         &mut table,
         &mut turned,
+        &mut old,
+        &mut new,
         &mut out,
     );
 }

@@ -14,6 +14,7 @@ use Rattle.lines_answer.specs.Answer.{places}
 use Rattle.lines.specs.Lines.{lineProgram}
 use Rattle.sheet.specs.Sheet.{sheetProgram}
 use Rattle.claims.specs.Claims.{claimsProgram}
+use Rattle.compare_lines.specs.Listings.{compareProgram}
 use Rattle.decimals.specs.Decimals.{decimalsProgram}
 use Rattle.text.specs.Text.{LF}
 use Rattle.text.specs.Wrote.{Wrote}
@@ -24,7 +25,7 @@ use Rattle.lines_machine.specs.Held.{openOf}
 use Rattle.lines_machine.proofs.Whole.{Within, ran-append, told-append}
 use Rattle.lines_programs.specs.declared.Reader.{Reader}
 use Rattle.lines_programs.specs.declared.Job.{Job}
-use Rattle.lines_programs.specs.Programs.{Running, asking, reading, claiming, showing, tellsOf, afterOf, endsOf, running}
+use Rattle.lines_programs.specs.Programs.{Running, asking, reading, claiming, showing, comparing, tellsOf, afterOf, endsOf, running}
 use Rattle.lines_programs.specs.Held.{runningOf, countOf, stateOf, Good, Went}
 
 -- ---- each program does within the whole what it does alone
@@ -44,38 +45,43 @@ pub decimals-within : Within decimalsProgram running (λ u. showing)
 unfolding tellsOf afterOf endsOf
 decimals-within = record { tells = λ s o. refl; after = λ s o. refl; ends = λ s. refl }
 
+pub compare-within : Within compareProgram running comparing
+unfolding tellsOf afterOf endsOf
+compare-within = record { tells = λ s o. refl; after = λ s o. refl; ends = λ s. refl }
+
 -- ---- the end of a line: a program within the whole has taken its own step, from its state s
-pub line-went : {S : Type 0} (P : Program S) (f : S → Running) → Within P running f → (s : S) (o : Line) {after : Job} {line : List ℕ} {table : List Float} {out out′ : List ℕ} {at next : ℕ}
-    → length line ≡ widest → length table ≡ places → countOf after ≤ places → runningOf after table ≡ f (P .after s o) → Wrote out at (P .tells s o) out′ next
-    → Went (closed running (stateAt o (f s))) (closeText running (stateAt o (f s))) (record { len = 0; job = after }) line table out at out′ next
-line-went P f w s o {after} {line} {table} {out} {out′} {at} {next} wide full few e t =
+pub line-went : {S : Type 0} (P : Program S) (f : S → Running) → Within P running f → (s : S) (o : Line) {after : Job} {line : List ℕ} {table : List Float}
+    {old new out out′ : List ℕ} {at next : ℕ} → runningOf after table old new ≡ f (P .after s o) → Wrote out at (P .tells s o) out′ next
+    → Good (record { len = 0; job = after }) line table old new
+    → Went (closed running (stateAt o (f s))) (closeText running (stateAt o (f s))) (record { len = 0; job = after }) line table old new out at out′ next
+line-went P f w s o {out = out} {out′ = out′} {at = at} {next = next} e t g =
     record {
       state = ap (λ (r : Running). stateAt (so []) r) (e ∙ sym (w .after s o));
       wrote = subst (λ (x : List ℕ). Wrote out at x out′ next) (sym (w .tells s o)) t;
-      good = record { few = few; full = full; wide = wide };
+      good = g;
     }
 
 -- ---- a byte
-pub step-end : (s : State Running) (byte : ℕ) {st : Reader} {line : List ℕ} {table : List Float} {out : List ℕ} {at : ℕ} {out′ : List ℕ} {r : ℕ}
-    → byte ≡ LF → Went (closed running s) (closeText running s) st line table out at out′ r → Went (nextOf running s byte) (tellOf running s byte) st line table out at out′ r
+pub step-end : (s : State Running) (byte : ℕ) {st : Reader} {line : List ℕ} {table : List Float} {old new out : List ℕ} {at : ℕ} {out′ : List ℕ} {r : ℕ}
+    → byte ≡ LF → Went (closed running s) (closeText running s) st line table old new out at out′ r → Went (nextOf running s byte) (tellOf running s byte) st line table old new out at out′ r
 unfolding nextOf tellOf
 step-end s byte e w = rw (eq-eqb byte LF e) w
 
-pub step-push : (st : Reader) (byte next : ℕ) (line line′ : List ℕ) (table : List Float) (out : List ℕ) (at : ℕ) → (byte ≡ LF → ⊥) → Good st line table
+pub step-push : (st : Reader) (byte next : ℕ) (line line′ : List ℕ) (table : List Float) (old new out : List ℕ) (at : ℕ) → (byte ≡ LF → ⊥) → Good st line table old new
     → openOf next line′ ≡ push (openOf (st .len) line) byte → length line′ ≡ length line
-    → Went (nextOf running (stateOf st line table) byte) (tellOf running (stateOf st line table) byte) (record { len = next; job = st .job }) line′ table out at out at
+    → Went (nextOf running (stateOf st line table old new) byte) (tellOf running (stateOf st line table old new) byte) (record { len = next; job = st .job }) line′ table old new out at out at
 unfolding nextOf tellOf
-step-push st byte next line line′ table out at other g e l = rw (ne-eqb byte LF other) (record {
-  state = ap (λ (o : Line). stateAt o (runningOf (st .job) table)) e;
+step-push st byte next line line′ table old new out at other g e l = rw (ne-eqb byte LF other) (record {
+  state = ap (λ (o : Line). stateAt o (runningOf (st .job) table old new)) e;
   wrote = nothing out at;
-  good = record { few = g .few; full = g .full; wide = l ∙ g .wide };
+  good = record { few = g .few; full = g .full; older = g .older; newer = g .newer; wide = l ∙ g .wide };
 })
 
 -- ---- the end of the input
-pub finish-none : (st : Reader) (line : List ℕ) (table : List Float) {out out′ : List ℕ} {at r : ℕ} → st .len ≡ 0
-    → Wrote out at (endsOf (runningOf (st .job) table)) out′ r → Wrote out at (endOf running (stateOf st line table)) out′ r
+pub finish-none : (st : Reader) (line : List ℕ) (table : List Float) (old new : List ℕ) {out out′ : List ℕ} {at r : ℕ} → st .len ≡ 0
+    → Wrote out at (endsOf (runningOf (st .job) table old new)) out′ r → Wrote out at (endOf running (stateOf st line table old new)) out′ r
 unfolding lastText
-finish-none st line table e w = rw e w
+finish-none st line table old new e w = rw e w
 
 last-some : (l : List ℕ) (h : Running) → 0 < length l → lastText running (so l) h ≡ tellsOf h (so l) ++ endsOf (afterOf h (so l))
 unfolding lastText
@@ -93,21 +99,21 @@ last-full n line h k f = go (leb n widest) refl
         rw e (last-some (take n line) h z)
     go false e = rw e refl
 
-pub finish-some : (st : Reader) (line : List ℕ) (table table′ : List Float) {st′ : Reader} {out out₁ out₂ : List ℕ} {at a r : ℕ} → (st .len ≡ 0 → ⊥) → Good st line table
-    → Went (closed running (stateOf st line table)) (closeText running (stateOf st line table)) st′ line table′ out at out₁ a
-    → Wrote out₁ a (endsOf (runningOf (st′ .job) table′)) out₂ r
-    → Wrote out at (endOf running (stateOf st line table)) out₂ r
-finish-some st line table table′ {st′} {out} {out₁} {out₂} {at} {a} {r} ne g w v =
-    let h : Running = runningOf (st .job) table in
-    let e : runningOf (st′ .job) table′ ≡ afterOf h (openOf (st .len) line) = ap (λ (s : State Running). s .held) (w .state) in
+pub finish-some : (st : Reader) (line : List ℕ) (table table′ : List Float) (old new old′ new′ : List ℕ) {st′ : Reader} {out out₁ out₂ : List ℕ} {at a r : ℕ} → (st .len ≡ 0 → ⊥) → Good st line table old new
+    → Went (closed running (stateOf st line table old new)) (closeText running (stateOf st line table old new)) st′ line table′ old′ new′ out at out₁ a
+    → Wrote out₁ a (endsOf (runningOf (st′ .job) table′ old′ new′)) out₂ r
+    → Wrote out at (endOf running (stateOf st line table old new)) out₂ r
+finish-some st line table table′ old new old′ new′ {st′} {out} {out₁} {out₂} {at} {a} {r} ne g w v =
+    let h : Running = runningOf (st .job) table old new in
+    let e : runningOf (st′ .job) table′ old′ new′ ≡ afterOf h (openOf (st .len) line) = ap (λ (s : State Running). s .held) (w .state) in
     let u : Wrote out₁ a (endsOf (afterOf h (openOf (st .len) line))) out₂ r = subst (λ (x : Running). Wrote out₁ a (endsOf x) out₂ r) e v in
     rw (last-full (st .len) line h (omega arith) (g .wide)) (then (w .wrote) u)
 
 -- ---- a chunk
-pub feed-none : (st : Reader) (line : List ℕ) (table : List Float) (out : List ℕ) → Good st line table
-    → Went (ranOf running (stateOf st line table) []) (toldOf running (stateOf st line table) []) st line table out 0 out 0
+pub feed-none : (st : Reader) (line : List ℕ) (table : List Float) (old new out : List ℕ) → Good st line table old new
+    → Went (ranOf running (stateOf st line table old new) []) (toldOf running (stateOf st line table old new) []) st line table old new out 0 out 0
 unfolding ranOf toldOf
-feed-none st line table out g = record { state = refl; wrote = nothing out 0; good = g }
+feed-none st line table old new out g = record { state = refl; wrote = nothing out 0; good = g }
 
 ran-snoc : (s : State Running) (x : List ℕ) (b : ℕ) → ranOf running s (x ++ (b ∷ [])) ≡ nextOf running (ranOf running s x) b
 unfolding ranOf
@@ -117,16 +123,16 @@ told-snoc : (s : State Running) (x : List ℕ) (b : ℕ) → toldOf running s (x
 unfolding toldOf
 told-snoc s x b = told-append running s x (b ∷ []) ∙ ap (λ (t : List ℕ). toldOf running s x ++ t) (append-nil (tellOf running (ranOf running s x) b))
 
-pub feed-more : (s : State Running) (chunk : List ℕ) (i : ℕ) {st st′ : Reader} {line line′ : List ℕ} {table table′ : List Float} {out out₁ out₂ : List ℕ} {at₁ at₂ : ℕ}
+pub feed-more : (s : State Running) (chunk : List ℕ) (i : ℕ) {st st′ : Reader} {line line′ : List ℕ} {table table′ : List Float} {old old′ new new′ out out₁ out₂ : List ℕ} {at₁ at₂ : ℕ}
     → i < length chunk
-    → Went (ranOf running s (take i chunk)) (toldOf running s (take i chunk)) st line table out 0 out₁ at₁
-    → Went (nextOf running (stateOf st line table) (getD chunk i 0)) (tellOf running (stateOf st line table) (getD chunk i 0)) st′ line′ table′ out₁ at₁ out₂ at₂
-    → Went (ranOf running s (take (i + 1) chunk)) (toldOf running s (take (i + 1) chunk)) st′ line′ table′ out 0 out₂ at₂
-feed-more s chunk i {st} {st′} {line} {line′} {table} {table′} {out} {out₁} {out₂} {at₁} {at₂} h u v =
+    → Went (ranOf running s (take i chunk)) (toldOf running s (take i chunk)) st line table old new out 0 out₁ at₁
+    → Went (nextOf running (stateOf st line table old new) (getD chunk i 0)) (tellOf running (stateOf st line table old new) (getD chunk i 0)) st′ line′ table′ old′ new′ out₁ at₁ out₂ at₂
+    → Went (ranOf running s (take (i + 1) chunk)) (toldOf running s (take (i + 1) chunk)) st′ line′ table′ old′ new′ out 0 out₂ at₂
+feed-more s chunk i {st} {st′} {line} {line′} {table} {table′} {old} {old′} {new} {new′} {out} {out₁} {out₂} {at₁} {at₂} h u v =
     let b : ℕ = getD chunk i 0 in
     let x : List ℕ = take i chunk in
     let p : take (i + 1) chunk ≡ x ++ (b ∷ []) = rw add-one (take-suc chunk i 0 h) in
     let w : Wrote out₁ at₁ (tellOf running (ranOf running s x) b) out₂ at₂ =
     subst (λ (a : State Running). Wrote out₁ at₁ (tellOf running a b) out₂ at₂) (u .state) (v .wrote) in
-    let q : stateOf st′ line′ table′ ≡ nextOf running (ranOf running s x) b = v .state ∙ ap (λ (a : State Running). nextOf running a b) (u .state) in
+    let q : stateOf st′ line′ table′ old′ new′ ≡ nextOf running (ranOf running s x) b = v .state ∙ ap (λ (a : State Running). nextOf running a b) (u .state) in
     rw (p, ran-snoc s x b, told-snoc s x b) (record { state = q; wrote = then (u .wrote) w; good = v .good })

@@ -7,6 +7,8 @@ use lib.Ieee.{Float}
 use Rattle.lines_answer.specs.Answer.{places}
 use Rattle.lines_answer.specs.Held.{curveOf}
 use Rattle.lines_answer.specs.Held.{countOf as knotsOf}
+use Rattle.compare_lines.specs.Held.{bothOf}
+use Rattle.compare_lines.specs.Held.{countOf as listedOf}
 use Rattle.sheet.specs.Held.{sheetOf}
 use Rattle.sheet.specs.Held.{countOf as depthsOf}
 use Rattle.text.specs.Wrote.{Wrote}
@@ -15,37 +17,46 @@ use Rattle.lines_machine.specs.Bytes.{State, stateAt, start}
 use Rattle.lines_machine.specs.Held.{openOf}
 use Rattle.lines_programs.specs.declared.Reader.{Reader}
 use Rattle.lines_programs.specs.declared.Job.{Job}
-use Rattle.lines_programs.specs.declared.Job.the-variants.{Asking, Reading, Claiming, Showing}
-use Rattle.lines_programs.specs.Programs.{Running, asking, reading, claiming, showing}
+use Rattle.lines_programs.specs.declared.Job.the-variants.{Asking, Reading, Claiming, Showing, Comparing}
+use Rattle.lines_programs.specs.Programs.{Running, asking, reading, claiming, showing, comparing}
 
-abbrev pub runningOf : Job → List Float → Running
-runningOf (Asking h) table = asking (curveOf h table)
-runningOf (Reading h) table = reading (sheetOf h table)
-runningOf (Claiming h) table = claiming (curveOf h table)
-runningOf Showing table = showing
+-- room for the longest text of an end: a comparison where everything differs
+abbrev pub lastRoom : ℕ
+lastRoom = 180284
+
+-- each program has its own of the lent slices: a table of doubles, or two of bits, the old and the new
+abbrev pub runningOf : Job → List Float → List ℕ → List ℕ → Running
+runningOf (Asking h) table old new = asking (curveOf h table)
+runningOf (Reading h) table old new = reading (sheetOf h table)
+runningOf (Claiming h) table old new = claiming (curveOf h table)
+runningOf Showing table old new = showing
+runningOf (Comparing h) table old new = comparing (bothOf h old new)
 
 abbrev pub countOf : Job → ℕ
 countOf (Asking h) = knotsOf h
 countOf (Reading h) = depthsOf h
 countOf (Claiming h) = knotsOf h
 countOf Showing = 0
+countOf (Comparing h) = listedOf h
 
-abbrev pub stateOf : Reader → List ℕ → List Float → State Running
-stateOf st line table = stateAt (openOf (st .len) line) (runningOf (st .job) table)
+abbrev pub stateOf : Reader → List ℕ → List Float → List ℕ → List ℕ → State Running
+stateOf st line table old new = stateAt (openOf (st .len) line) (runningOf (st .job) table old new)
 
 -- nothing has been read
 pub record Fresh (r : Running) (st : Reader) : Type 0 where
-  pub begun : (line : List ℕ) (table : List Float) → stateOf st line table ≡ start r
+  pub begun : (line : List ℕ) (table : List Float) (old new : List ℕ) → stateOf st line table old new ≡ start r
   pub none : countOf (st .job) ≡ 0
 
 -- the lent slices have their lengths, and the knots fit
-pub record Good (st : Reader) (line : List ℕ) (table : List Float) : Type 0 where
+pub record Good (st : Reader) (line : List ℕ) (table : List Float) (old new : List ℕ) : Type 0 where
   pub few : countOf (st .job) ≤ places
   pub full : length table ≡ places
+  pub older : length old ≡ places
+  pub newer : length new ≡ places
   pub wide : length line ≡ widest
 
 -- the code went over to the state s and wrote t
-pub record Went (s : State Running) (t : List ℕ) (st : Reader) (line : List ℕ) (table : List Float) (out : List ℕ) (at : ℕ) (out′ : List ℕ) (r : ℕ) : Type 0 where
-  pub state : stateOf st line table ≡ s
+pub record Went (s : State Running) (t : List ℕ) (st : Reader) (line : List ℕ) (table : List Float) (old new out : List ℕ) (at : ℕ) (out′ : List ℕ) (r : ℕ) : Type 0 where
+  pub state : stateOf st line table old new ≡ s
   pub wrote : Wrote out at t out′ r
-  pub good : Good st line table
+  pub good : Good st line table old new

@@ -1,14 +1,16 @@
 // The programs over lines, a byte at a time: a step decides all that is printed.
 ghost use mathlib.Core.Path.{_≡_};
-ghost use Prim.Native.Nat.{_+_, _*_, _≤_, _<_};
+ghost use Prim.Native.Nat.{_+_, _≤_, _<_};
 ghost use lib.ListN.{length, take};
 ghost use Rattle.lines_answer.specs.Answer.{places, none};
 ghost use Rattle.lines_reply.specs.Told.{longest};
+ghost use Rattle.compare_lines.specs.Listings.{before};
+ghost use Rattle.compare_lines.specs.Listings.{none as noListing};
 ghost use Rattle.sheet.specs.Sheet.{unbegun};
 ghost use Rattle.text.specs.Wrote.{Wrote};
 ghost use Rattle.lines_machine.specs.Bytes.{closed, closeText, nextOf, tellOf, endOf, ranOf, toldOf};
-ghost use Rattle.lines_programs.specs.Programs.{asking, reading, claiming, showing, running, endsOf};
-ghost use Rattle.lines_programs.specs.Held.{runningOf, countOf, stateOf, Fresh, Good, Went};
+ghost use Rattle.lines_programs.specs.Programs.{asking, reading, claiming, showing, comparing, running, endsOf};
+ghost use Rattle.lines_programs.specs.Held.{lastRoom, runningOf, countOf, stateOf, Fresh, Good, Went};
 
 // Which program, and what it holds.
 pub enum Job {
@@ -16,6 +18,7 @@ pub enum Job {
     Reading(sheet::Held),
     Claiming(lines_answer::Held),
     Showing,
+    Comparing(compare_lines::Held),
 }
 
 // `len`: bytes of the current line in the lent 64; 65 means that the line is too long.
@@ -67,17 +70,29 @@ pub fn decimals_program() -> Reader
     Reader { len: 0, job: job }
 }
 
+// The comparison of two tables, before the first byte.
+pub fn compare_program() -> Reader
+    ensures { λ st. ⌜ Fresh (comparing (before noListing)) st ⌝ }
+{
+    Reader {
+        len: 0,
+        job: Job::Comparing(compare_lines::Held::Before(compare_lines::Listing::Nothing)),
+    }
+}
+
 // The end of a line.
 fn ended(
     st: Reader,
     line: &[u8],
     table: &mut [f64],
     turned: &mut [f64],
+    old: &mut [u64],
+    new: &mut [u64],
     out: &mut [u8],
     at: usize,
 ) -> Stepped
-    requires { ⌜ Good st (now line) (now table) × (length (now turned) ≡ places) × (at + longest ≤ length (now out)) ⌝ }
-    ensures { λ s. ⌜ Went (closed running (stateOf st (now (line .entry)) (now (table .entry)))) (closeText running (stateOf st (now (line .entry)) (now (table .entry)))) (s .st) (now (line .entry)) (now (table .exit)) (now (out .entry)) at (now (out .exit)) (s .at) × (s .at ≤ at + longest) ⌝ }
+    requires { ⌜ Good st (now line) (now table) (now old) (now new) × (length (now turned) ≡ places) × (at + longest ≤ length (now out)) ⌝ }
+    ensures { λ s. ⌜ Went (closed running (stateOf st (now (line .entry)) (now (table .entry)) (now (old .entry)) (now (new .entry)))) (closeText running (stateOf st (now (line .entry)) (now (table .entry)) (now (old .entry)) (now (new .entry)))) (s .st) (now (line .entry)) (now (table .exit)) (now (old .exit)) (now (new .exit)) (now (out .entry)) at (now (out .exit)) (s .at) × (s .at ≤ at + longest) ⌝ }
 {
     let len = st.len;
     let job = st.job;
@@ -124,19 +139,31 @@ fn ended(
                 at: next,
             }
         }
+        Job::Comparing(held) => {
+            let l = compare_lines::line(held, len, line, old, new, out, at);
+            let after = l.held;
+            Stepped {
+                st: Reader {
+                    len: 0,
+                    job: Job::Comparing(after),
+                },
+                at: l.at,
+            }
+        }
     }
 }
 
 // What the end prints.
-fn ends(job: Job, table: &[f64], out: &mut [u8], at: usize) -> usize
-    requires { ⌜ (countOf job ≤ places) × (length (now table) ≡ places) × (at + longest ≤ length (now out)) ⌝ }
-    ensures { λ r. ⌜ Wrote (now (out .entry)) at (endsOf (runningOf job (now (table .entry)))) (now (out .exit)) r × (r ≤ at + longest) ⌝ }
+fn ends(job: Job, table: &[f64], old: &[u64], new: &[u64], out: &mut [u8], at: usize) -> usize
+    requires { ⌜ (countOf job ≤ places) × (length (now table) ≡ places) × (length (now old) ≡ places) × (length (now new) ≡ places) × (at + lastRoom ≤ length (now out)) ⌝ }
+    ensures { λ r. ⌜ Wrote (now (out .entry)) at (endsOf (runningOf job (now (table .entry)) (now (old .entry)) (now (new .entry)))) (now (out .exit)) r × (r ≤ at + lastRoom) ⌝ }
 {
     match job {
         Job::Asking(_) => at,
         Job::Reading(held) => sheet::end(held, table, out, at),
         Job::Claiming(_) => at,
         Job::Showing => at,
+        Job::Comparing(held) => compare_lines::end(held, old, new, out, at),
     }
 }
 
@@ -147,14 +174,16 @@ pub fn step(
     line: &mut [u8],
     table: &mut [f64],
     turned: &mut [f64],
+    old: &mut [u64],
+    new: &mut [u64],
     out: &mut [u8],
     at: usize,
 ) -> Stepped
-    requires { ⌜ Good st (now line) (now table) × (length (now turned) ≡ places) × (at + longest ≤ length (now out)) ⌝ }
-    ensures { λ s. ⌜ Went (nextOf running (stateOf st (now (line .entry)) (now (table .entry))) byte) (tellOf running (stateOf st (now (line .entry)) (now (table .entry))) byte) (s .st) (now (line .exit)) (now (table .exit)) (now (out .entry)) at (now (out .exit)) (s .at) × (s .at ≤ at + longest) ⌝ }
+    requires { ⌜ Good st (now line) (now table) (now old) (now new) × (length (now turned) ≡ places) × (at + longest ≤ length (now out)) ⌝ }
+    ensures { λ s. ⌜ Went (nextOf running (stateOf st (now (line .entry)) (now (table .entry)) (now (old .entry)) (now (new .entry))) byte) (tellOf running (stateOf st (now (line .entry)) (now (table .entry)) (now (old .entry)) (now (new .entry))) byte) (s .st) (now (line .exit)) (now (table .exit)) (now (old .exit)) (now (new .exit)) (now (out .entry)) at (now (out .exit)) (s .at) × (s .at ≤ at + longest) ⌝ }
 {
     if byte == b'\n' {
-        return ended(st, &line[..], table, turned, out, at);
+        return ended(st, &line[..], table, turned, old, new, out, at);
     }
     let len = st.len;
     let job = st.job;
@@ -174,22 +203,33 @@ pub fn finish(
     line: &[u8],
     table: &mut [f64],
     turned: &mut [f64],
+    old: &mut [u64],
+    new: &mut [u64],
     out: &mut [u8],
     at: usize,
 ) -> usize
-    requires { ⌜ Good st (now line) (now table) × (length (now turned) ≡ places) × (at + 2 * longest ≤ length (now out)) ⌝ }
-    ensures { λ r. ⌜ Wrote (now (out .entry)) at (endOf running (stateOf st (now (line .entry)) (now (table .entry)))) (now (out .exit)) r × (r ≤ at + 2 * longest) ⌝ }
+    requires { ⌜ Good st (now line) (now table) (now old) (now new) × (length (now turned) ≡ places) × (at + longest + lastRoom ≤ length (now out)) ⌝ }
+    ensures { λ r. ⌜ Wrote (now (out .entry)) at (endOf running (stateOf st (now (line .entry)) (now (table .entry)) (now (old .entry)) (now (new .entry)))) (now (out .exit)) r × (r ≤ at + longest + lastRoom) ⌝ }
 {
     let len = st.len;
     if len == 0 {
         let job = st.job;
-        return ends(job, &table[..], out, at);
+        return ends(job, &table[..], &old[..], &new[..], out, at);
     }
-    let s = ended(st, line, &mut *table, turned, &mut *out, at);
+    let s = ended(
+        st,
+        line,
+        &mut *table,
+        turned,
+        &mut *old,
+        &mut *new,
+        &mut *out,
+        at,
+    );
     let after = s.st;
     let job = after.job;
     let from = s.at;
-    ends(job, &table[..], out, from)
+    ends(job, &table[..], &old[..], &new[..], out, from)
 }
 
 pub struct Fed {
@@ -205,10 +245,12 @@ pub fn feed(
     line: &mut [u8],
     table: &mut [f64],
     turned: &mut [f64],
+    old: &mut [u64],
+    new: &mut [u64],
     out: &mut [u8],
 ) -> Fed
-    requires { ⌜ Good st (now line) (now table) × (length (now turned) ≡ places) ⌝ }
-    ensures { λ r. ⌜ Went (ranOf running (stateOf st (now (line .entry)) (now (table .entry))) (take (r .next) (now (chunk .entry)))) (toldOf running (stateOf st (now (line .entry)) (now (table .entry))) (take (r .next) (now (chunk .entry)))) (r .st) (now (line .exit)) (now (table .exit)) (now (out .entry)) 0 (now (out .exit)) (r .at) × (r .next ≤ length (now (chunk .entry))) × (r .at ≤ length (now (out .exit))) × (0 < length (now (chunk .entry)) → longest ≤ length (now (out .entry)) → 0 < r .next) ⌝ }
+    requires { ⌜ Good st (now line) (now table) (now old) (now new) × (length (now turned) ≡ places) ⌝ }
+    ensures { λ r. ⌜ Went (ranOf running (stateOf st (now (line .entry)) (now (table .entry)) (now (old .entry)) (now (new .entry))) (take (r .next) (now (chunk .entry)))) (toldOf running (stateOf st (now (line .entry)) (now (table .entry)) (now (old .entry)) (now (new .entry))) (take (r .next) (now (chunk .entry)))) (r .st) (now (line .exit)) (now (table .exit)) (now (old .exit)) (now (new .exit)) (now (out .entry)) 0 (now (out .exit)) (r .at) × (r .next ≤ length (now (chunk .entry))) × (r .at ≤ length (now (out .exit))) × (0 < length (now (chunk .entry)) → longest ≤ length (now (out .entry)) → 0 < r .next) ⌝ }
 {
     let mut s = st;
     let mut at = 0;
@@ -227,6 +269,8 @@ pub fn feed(
             &mut *line,
             &mut *table,
             &mut *turned,
+            &mut *old,
+            &mut *new,
             &mut *out,
             at,
         );

@@ -9,18 +9,17 @@ use Rattle.lines_io.proofs.read_all.Statement.{statement}
 use Rattle.lines_io.proofs.read_all.Tie as tie
 
 abbrev Inv-loop : tie.InvT-loop
-Inv-loop chunk₀ line₀ table₀ turned₀ out₀ st₀ fine₀ left₀ chunk line table turned out st fine left =
-    (length chunk ≡ length chunk₀) × (length turned ≡ places) × (length out ≡ length out₀) × Good st line table
+Inv-loop chunk₀ line₀ table₀ turned₀ old₀ new₀ out₀ st₀ fine₀ left₀ chunk line table turned old new out st fine left =
+    (length chunk ≡ length chunk₀) × (length turned ≡ places) × (length out ≡ length out₀) × Good st line table old new
 
 abbrev μ-loop : tie.MeasureT-loop
-μ-loop chunk₀ line₀ table₀ turned₀ out₀ st₀ fine₀ left₀ chunk line table turned out st fine left =
-    left
+μ-loop chunk₀ line₀ table₀ turned₀ old₀ new₀ out₀ st₀ fine₀ left₀ chunk line table turned old new out st fine left = left
 
 loop-holds : tie.Need-loop-holds Inv-loop μ-loop
-loop-holds c = (refl, omega arith, refl, record { few = omega arith; full = omega arith; wide = omega arith })
+loop-holds c = (refl, omega arith, refl, record { few = omega arith; full = omega arith; older = omega arith; newer = omega arith; wide = omega arith })
 
 read-once-requires : tie.Need-read-once-requires Inv-loop μ-loop
-read-once-requires c κs = (c .before .before .before .before .before .before .loop .inv .3, omega arith, omega arith)
+read-once-requires c κs = (c .before .before .before .before .before .before .before .before .loop .inv .3, omega arith, omega arith)
 
 sub-left : tie.Need-sub-left Inv-loop μ-loop
 sub-left c = search needs
@@ -29,13 +28,13 @@ loop-less : tie.Need-loop-less Inv-loop μ-loop
 loop-less c = search needs
 
 loop-again : tie.Need-loop-again Inv-loop μ-loop
-loop-again c = (omega arith, omega arith, omega arith, c .before .before .before .before .before .before .before .before .before .before .before .before .read-once .ensures)
+loop-again c = (omega arith, omega arith, omega arith, c .before .before .before .before .before .before .before .before .before .before .before .before .before .before .before .before .read-once .ensures)
 
 loop-less-2 : tie.Need-loop-less-2 Inv-loop μ-loop
 loop-less-2 c = search needs
 
 loop-again-2 : tie.Need-loop-again-2 Inv-loop μ-loop
-loop-again-2 c = (omega arith, omega arith, omega arith, c .before .before .before .before .before .before .before .before .before .before .before .before .read-once .ensures)
+loop-again-2 c = (omega arith, omega arith, omega arith, c .before .before .before .before .before .before .before .before .before .before .before .before .before .before .before .before .read-once .ensures)
 
 same-length : tie.Need-same-length Inv-loop μ-loop
 same-length c = search needs
@@ -51,6 +50,12 @@ same-length-4 c = search needs
 
 same-length-5 : tie.Need-same-length-5 Inv-loop μ-loop
 same-length-5 c = search needs
+
+same-length-6 : tie.Need-same-length-6 Inv-loop μ-loop
+same-length-6 c = search needs
+
+same-length-7 : tie.Need-same-length-7 Inv-loop μ-loop
+same-length-7 c = search needs
 
 returns : tie.Need-returns Inv-loop μ-loop
 returns c = c .before .loop .inv .3
@@ -73,4 +78,6 @@ read-all-spec =
     same-length-3
     same-length-4
     same-length-5
+    same-length-6
+    same-length-7
     returns)

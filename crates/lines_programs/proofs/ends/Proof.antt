@@ -1,12 +1,12 @@
 -- One case for each program.
+use borrow.Author.Needs.{needs}
 use native.Mathlib.Omega.{arith}
 use Prim.Native.Nat.{_≤_}
 use Rattle.text.proofs.Writing.{nothing}
 use Rattle.lines_answer.specs.Answer.{places}
-use Rattle.lines_programs.specs.declared.Job.the-variants.{Reading}
+use Rattle.lines_programs.specs.declared.Job.the-variants.{Reading, Comparing}
 use Rattle.lines_programs.specs.Programs.{endsOf}
 use Rattle.lines_programs.specs.Held.{countOf}
-use borrow.Author.Needs.{needs}
 use Rattle.lines_programs.proofs.ends.Statement.{statement}
 use Rattle.lines_programs.proofs.ends.Tie as tie
 
@@ -17,13 +17,19 @@ enum-known-job : tie.Need-enum-known-job
 enum-known-job c = search needs
 
 end-requires : tie.Need-end-requires
-end-requires c κs = let k : countOf (Reading (c .before .before .job .given .0 .0)) ≤ places = rw (c .before .before .job .given .1) at (c .before .before .before .before .before .before .pre .0) in (k, c .before .before .before .before .before .before .pre .1, c .before .before .before .before .before .before .pre .2)
+end-requires c κs = let k : countOf (Reading (c .before .before .job .given .0 .0)) ≤ places = rw (c .before .before .job .given .1) at (c .before .before .before .before .before .before .before .before .pre .0) in (k, c .before .before .before .before .before .before .before .before .pre .1, omega arith)
 
 enum-told-2 : tie.Need-enum-told-2
 enum-told-2 c = search needs
 
 enum-told-3 : tie.Need-enum-told-3
 enum-told-3 c = search needs
+
+enum-known-job-2 : tie.Need-enum-known-job-2
+enum-known-job-2 c = search needs
+
+end-requires-2 : tie.Need-end-requires-2
+end-requires-2 c κs = let k : countOf (Comparing (c .before .before .job2 .given .0 .0)) ≤ places = rw (c .before .before .job2 .given .1) at (c .before .before .before .before .before .before .before .before .pre .0) in (k, c .before .before .before .before .before .before .before .before .pre .2, c .before .before .before .before .before .before .before .before .pre .3, c .before .before .before .before .before .before .before .before .pre .4)
 
 returns : tie.Need-returns
 unfolding endsOf
@@ -34,7 +40,7 @@ same-length c = search needs
 
 returns-2 : tie.Need-returns-2
 unfolding endsOf
-returns-2 c = rw (c .before .before .before .before .before .job .given .1) (c .before .before .end .ensures)
+returns-2 c = (rw (c .before .before .before .before .before .job .given .1) (c .before .before .end .ensures .0), omega (arith, c .before .before .end .ensures .1))
 
 returns-3 : tie.Need-returns-3
 unfolding endsOf
@@ -43,6 +49,13 @@ returns-3 c = rw (c .enum-told2 .given .1) (nothing _ _, omega arith)
 returns-4 : tie.Need-returns-4
 unfolding endsOf
 returns-4 c = rw (c .enum-told3 .given .1) (nothing _ _, omega arith)
+
+same-length-2 : tie.Need-same-length-2
+same-length-2 c = search needs
+
+returns-5 : tie.Need-returns-5
+unfolding endsOf
+returns-5 c = rw (c .before .before .before .before .before .job2 .given .1) (c .before .before .end2 .ensures)
 
 pub ends-spec : {M : Type 1} → statement M
 ends-spec =
@@ -53,8 +66,12 @@ ends-spec =
     end-requires
     enum-told-2
     enum-told-3
+    enum-known-job-2
+    end-requires-2
     returns
     same-length
     returns-2
     returns-3
-    returns-4)
+    returns-4
+    same-length-2
+    returns-5)

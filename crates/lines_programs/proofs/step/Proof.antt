@@ -4,10 +4,6 @@ use Rattle.lines_programs.proofs.Steps.{step-end, step-push}
 use borrow.Author.Needs.{needs}
 use Rattle.lines_programs.proofs.step.Statement.{statement}
 use Rattle.lines_programs.proofs.step.Tie as tie
-use Rattle.lines_programs.proofs.step.Reads as reads
-use Rattle.lines_programs.proofs.step.Lts as lts
-use Rattle.lines_machine.proofs.pushed.Reads as pushed-reads
-use Rattle.lines_programs.proofs.ended.Reads as ended-reads
 
 ended-requires : tie.Need-ended-requires
 ended-requires c κs = search needs
@@ -24,17 +20,23 @@ same-length-3 c = search needs
 same-length-4 : tie.Need-same-length-4
 same-length-4 c = search needs
 
+same-length-5 : tie.Need-same-length-5
+same-length-5 c = search needs
+
+same-length-6 : tie.Need-same-length-6
+same-length-6 c = search needs
+
 returns : tie.Need-returns
-returns c = (step-end _ _ (c .before .before .before .before .before .before .before .before .before .before .before .if1 .taken) (c .before .before .before .before .before .before .ended .ensures .0), c .before .before .before .before .before .before .ended .ensures .1)
+returns c = (step-end _ _ (c .before .before .before .before .before .before .before .before .before .before .before .before .before .before .before .before .before .if1 .taken) (c .before .before .before .before .before .before .before .before .before .before .ended .ensures .0), c .before .before .before .before .before .before .before .before .before .before .ended .ensures .1)
 
 pushed-requires : tie.Need-pushed-requires
 pushed-requires c κs = search needs
 
-same-length-5 : tie.Need-same-length-5
-same-length-5 c = search needs
+same-length-7 : tie.Need-same-length-7
+same-length-7 c = search needs
 
 returns-2 : tie.Need-returns-2
-returns-2 c = (step-push _ _ _ _ _ _ _ _ (c .before .before .before .before .if1 .left) (c .before .before .before .before .before .before .before .before .before .pre .0) (c .before .before .pushed .ensures) (omega arith), omega arith)
+returns-2 c = (step-push _ _ _ _ _ _ _ _ _ _ (c .before .before .before .before .if1 .left) (c .before .before .before .before .before .before .before .before .before .before .before .pre .0) (c .before .before .pushed .ensures) (omega arith), omega arith)
 
 pub step-spec : {M : Type 1} → statement M
 step-spec =
@@ -45,7 +47,9 @@ step-spec =
     same-length-2
     same-length-3
     same-length-4
+    same-length-5
+    same-length-6
     returns
     pushed-requires
-    same-length-5
+    same-length-7
     returns-2)

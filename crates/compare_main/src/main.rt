@@ -1,0 +1,4 @@
+// The comparison of two tables.
+fn main() {
+    lines_io::run(lines_programs::compare_program());
+}
