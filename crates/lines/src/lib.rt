@@ -20,7 +20,7 @@ pub struct Lined {
 }
 
 // What the line of len bytes says.
-fn said(len: usize, line: &[u8]) -> Record
+pub fn said(len: usize, line: &[u8]) -> Record
     requires { ⌜ length (now line) ≡ widest ⌝ }
     ensures { λ r. ⌜ r ≡ says (openOf len (now (line .entry))) ⌝ }
 {

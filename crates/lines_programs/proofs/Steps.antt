@@ -12,6 +12,7 @@ use lib.Seq.{length-take-le, take-suc}
 use lib.Ieee.{Float}
 use Rattle.lines_answer.specs.Answer.{places}
 use Rattle.lines.specs.Lines.{lineProgram}
+use Rattle.picture.specs.Program.{pictureProgram}
 use Rattle.sheet.specs.Sheet.{sheetProgram}
 use Rattle.claims.specs.Claims.{claimsProgram}
 use Rattle.compare_lines.specs.Listings.{compareProgram}
@@ -25,7 +26,7 @@ use Rattle.lines_machine.specs.Held.{openOf}
 use Rattle.lines_machine.proofs.Whole.{Within, ran-append, told-append}
 use Rattle.lines_programs.specs.declared.Reader.{Reader}
 use Rattle.lines_programs.specs.declared.Job.{Job}
-use Rattle.lines_programs.specs.Programs.{Running, asking, reading, claiming, showing, comparing, tellsOf, afterOf, endsOf, running}
+use Rattle.lines_programs.specs.Programs.{Running, asking, reading, claiming, showing, comparing, drawing, tellsOf, afterOf, endsOf, running}
 use Rattle.lines_programs.specs.Held.{runningOf, countOf, stateOf, Good, Went}
 
 -- ---- each program does within the whole what it does alone
@@ -48,6 +49,10 @@ decimals-within = record { tells = λ s o. refl; after = λ s o. refl; ends = λ
 pub compare-within : Within compareProgram running comparing
 unfolding tellsOf afterOf endsOf
 compare-within = record { tells = λ s o. refl; after = λ s o. refl; ends = λ s. refl }
+
+pub picture-within : Within pictureProgram running drawing
+unfolding tellsOf afterOf endsOf
+picture-within = record { tells = λ s o. refl; after = λ s o. refl; ends = λ s. refl }
 
 -- ---- the end of a line: a program within the whole has taken its own step, from its state s
 pub line-went : {S : Type 0} (P : Program S) (f : S → Running) → Within P running f → (s : S) (o : Line) {after : Job} {line : List ℕ} {table : List Float}

@@ -9,6 +9,8 @@ use Rattle.lines_answer.specs.Held.{curveOf}
 use Rattle.lines_answer.specs.Held.{countOf as knotsOf}
 use Rattle.compare_lines.specs.Held.{bothOf}
 use Rattle.compare_lines.specs.Held.{countOf as listedOf}
+use Rattle.picture.specs.Held.{drawingOf}
+use Rattle.picture.specs.Held.{countOf as drawnOf}
 use Rattle.sheet.specs.Held.{sheetOf}
 use Rattle.sheet.specs.Held.{countOf as depthsOf}
 use Rattle.text.specs.Wrote.{Wrote}
@@ -17,8 +19,8 @@ use Rattle.lines_machine.specs.Bytes.{State, stateAt, start}
 use Rattle.lines_machine.specs.Held.{openOf}
 use Rattle.lines_programs.specs.declared.Reader.{Reader}
 use Rattle.lines_programs.specs.declared.Job.{Job}
-use Rattle.lines_programs.specs.declared.Job.the-variants.{Asking, Reading, Claiming, Showing, Comparing}
-use Rattle.lines_programs.specs.Programs.{Running, asking, reading, claiming, showing, comparing}
+use Rattle.lines_programs.specs.declared.Job.the-variants.{Asking, Reading, Claiming, Showing, Comparing, Drawing}
+use Rattle.lines_programs.specs.Programs.{Running, asking, reading, claiming, showing, comparing, drawing}
 
 -- room for the longest text of an end: a comparison where everything differs
 abbrev pub lastRoom : ℕ
@@ -30,6 +32,7 @@ runningOf (Asking h) table old new = asking (curveOf h table)
 runningOf (Reading h) table old new = reading (sheetOf h table)
 runningOf (Claiming h) table old new = claiming (curveOf h table)
 runningOf Showing table old new = showing
+runningOf (Drawing h) table old new = drawing (drawingOf h table)
 runningOf (Comparing h) table old new = comparing (bothOf h old new)
 
 abbrev pub countOf : Job → ℕ
@@ -37,6 +40,7 @@ countOf (Asking h) = knotsOf h
 countOf (Reading h) = depthsOf h
 countOf (Claiming h) = knotsOf h
 countOf Showing = 0
+countOf (Drawing h) = drawnOf h
 countOf (Comparing h) = listedOf h
 
 abbrev pub stateOf : Reader → List ℕ → List Float → List ℕ → List ℕ → State Running

@@ -4,6 +4,7 @@ use Prim.Native.Nat.{ℕ}
 use Rattle.lines_answer.specs.Answer.{Curve}
 use Rattle.lines.specs.Lines.{lineProgram}
 use Rattle.lines_machine.specs.Program.{Line, Program}
+use Rattle.picture.specs.Program.{Drawing, pictureProgram}
 use Rattle.sheet.specs.Sheet.{Sheet, sheetProgram}
 use Rattle.compare_lines.specs.Listings.{Both, compareProgram}
 use Rattle.decimals.specs.Decimals.{decimalsProgram}
@@ -16,6 +17,7 @@ pub data Running : Type 0 where
   claiming : Curve → Running
   comparing : Both → Running
   showing : Running
+  drawing : Drawing → Running
 
 unfoldable pub tellsOf : Running → Line → List ℕ
 tellsOf (asking c) o = lineProgram .tells c o
@@ -23,6 +25,7 @@ tellsOf (reading s) o = sheetProgram .tells s o
 tellsOf (claiming c) o = claimsProgram .tells c o
 tellsOf (comparing b) o = compareProgram .tells b o
 tellsOf showing o = decimalsProgram .tells tt o
+tellsOf (drawing d) o = pictureProgram .tells d o
 
 unfoldable pub afterOf : Running → Line → Running
 afterOf (asking c) o = asking (lineProgram .after c o)
@@ -30,6 +33,7 @@ afterOf (reading s) o = reading (sheetProgram .after s o)
 afterOf (claiming c) o = claiming (claimsProgram .after c o)
 afterOf (comparing b) o = comparing (compareProgram .after b o)
 afterOf showing o = showing
+afterOf (drawing d) o = drawing (pictureProgram .after d o)
 
 unfoldable pub endsOf : Running → List ℕ
 endsOf (asking c) = lineProgram .ends c
@@ -37,6 +41,7 @@ endsOf (reading s) = sheetProgram .ends s
 endsOf (claiming c) = claimsProgram .ends c
 endsOf (comparing b) = compareProgram .ends b
 endsOf showing = decimalsProgram .ends tt
+endsOf (drawing d) = pictureProgram .ends d
 
 abbrev pub running : Program Running
 running = record { tells = λ r o. tellsOf r o; after = λ r o. afterOf r o; ends = λ r. endsOf r }

@@ -6,10 +6,11 @@ ghost use Rattle.lines_answer.specs.Answer.{places, none};
 ghost use Rattle.lines_reply.specs.Told.{longest};
 ghost use Rattle.compare_lines.specs.Listings.{before};
 ghost use Rattle.compare_lines.specs.Listings.{none as noListing};
+ghost use Rattle.picture.specs.Program.{nothingDrawn};
 ghost use Rattle.sheet.specs.Sheet.{unbegun};
 ghost use Rattle.text.specs.Wrote.{Wrote};
 ghost use Rattle.lines_machine.specs.Bytes.{closed, closeText, nextOf, tellOf, endOf, ranOf, toldOf};
-ghost use Rattle.lines_programs.specs.Programs.{asking, reading, claiming, showing, comparing, running, endsOf};
+ghost use Rattle.lines_programs.specs.Programs.{asking, reading, claiming, showing, comparing, drawing, running, endsOf};
 ghost use Rattle.lines_programs.specs.Held.{lastRoom, runningOf, countOf, stateOf, Fresh, Good, Went};
 
 // Which program, and what it holds.
@@ -19,6 +20,7 @@ pub enum Job {
     Claiming(lines_answer::Held),
     Showing,
     Comparing(compare_lines::Held),
+    Drawing(picture::Held),
 }
 
 // `len`: bytes of the current line in the lent 64; 65 means that the line is too long.
@@ -77,6 +79,17 @@ pub fn compare_program() -> Reader
     Reader {
         len: 0,
         job: Job::Comparing(compare_lines::Held::Before(compare_lines::Listing::Nothing)),
+    }
+}
+
+// The picture of a listing, before the first byte.
+pub fn picture_program() -> Reader
+    ensures { λ st. ⌜ Fresh (drawing nothingDrawn) st ⌝ }
+{
+    let blank = picture::blank();
+    Reader {
+        len: 0,
+        job: Job::Drawing(blank),
     }
 }
 
@@ -150,6 +163,16 @@ fn ended(
                 at: l.at,
             }
         }
+        Job::Drawing(held) => {
+            let after = picture::line(held, len, line, table, turned);
+            Stepped {
+                st: Reader {
+                    len: 0,
+                    job: Job::Drawing(after),
+                },
+                at: at,
+            }
+        }
     }
 }
 
@@ -164,6 +187,7 @@ fn ends(job: Job, table: &[f64], old: &[u64], new: &[u64], out: &mut [u8], at: u
         Job::Claiming(_) => at,
         Job::Showing => at,
         Job::Comparing(held) => compare_lines::end(held, old, new, out, at),
+        Job::Drawing(held) => picture::end(held, table, out, at),
     }
 }
 

@@ -10,17 +10,19 @@ use Rattle.text.specs.Wrote.{Wrote}
 use Rattle.lines_machine.specs.Program.{Program, outputOf}
 use Rattle.lines_machine.specs.Bytes.{State, start, toldOf, ranOf, endOf}
 use Rattle.lines_machine.proofs.Whole.{ran-append, told-append, whole, Within, within-output}
+use Rattle.picture.specs.Program.{nothingDrawn}
 use Rattle.sheet.specs.Sheet.{unbegun}
 use Rattle.compare_lines.specs.Listings.{before}
 use Rattle.compare_lines.specs.Listings.{none as noListing}
 use Rattle.lines_programs.specs.declared.Reader.{Reader}
-use Rattle.lines_programs.specs.Programs.{Running, asking, reading, claiming, showing, comparing, running}
+use Rattle.lines_programs.specs.Programs.{Running, asking, reading, claiming, showing, comparing, drawing, running}
 use Rattle.lines_programs.specs.Held.{stateOf}
 use Rattle.lines_programs.proofs.line_program.Reads as line_program
 use Rattle.lines_programs.proofs.sheet_program.Reads as sheet_program
 use Rattle.lines_programs.proofs.decimals_program.Reads as decimals_program
 use Rattle.lines_programs.proofs.claims_program.Reads as claims_program
 use Rattle.lines_programs.proofs.compare_program.Reads as compare_program
+use Rattle.lines_programs.proofs.picture_program.Reads as picture_program
 use Rattle.lines_programs.proofs.step.Reads as step
 use Rattle.lines_programs.proofs.finish.Reads as finish
 use Rattle.lines_programs.proofs.feed.Reads as feed
@@ -52,6 +54,10 @@ decimals-program-one-reply κs a z z′ e e′ p q line table old new = one (p .
 pub compare-program-one-reply : OneReply compare_program.Learnt
     (λ κs z e z′ e′. (line : List ℕ) (table : List Float) (old new : List ℕ) → stateOf z line table old new ≡ stateOf z′ line table old new)
 compare-program-one-reply κs a z z′ e e′ p q line table old new = one (p .begun line table old new) (q .begun line table old new)
+
+pub picture-program-one-reply : OneReply picture_program.Learnt
+    (λ κs z e z′ e′. (line : List ℕ) (table : List Float) (old new : List ℕ) → stateOf z line table old new ≡ stateOf z′ line table old new)
+picture-program-one-reply κs a z z′ e e′ p q line table old new = one (p .begun line table old new) (q .begun line table old new)
 
 pub step-one-reply : OneReply step.Learnt
     (λ κs z e z′ e′.
@@ -101,6 +107,10 @@ claims-program-begins κs a z e p line table old new = begins (claiming none) z 
 pub compare-program-begins : Keeps compare_program.Learnt
     (λ κs a z e. (line : List ℕ) (table : List Float) (old new : List ℕ) → So (comparing (before noListing)) z line table old new [] [])
 compare-program-begins κs a z e p line table old new = begins (comparing (before noListing)) z line table old new (p .begun line table old new)
+
+pub picture-program-begins : Keeps picture_program.Learnt
+    (λ κs a z e. (line : List ℕ) (table : List Float) (old new : List ℕ) → So (drawing nothingDrawn) z line table old new [] [])
+picture-program-begins κs a z e p line table old new = begins (drawing nothingDrawn) z line table old new (p .begun line table old new)
 
 pub feed-goes-on : Keeps feed.Learnt
     (λ κs a z e. (r : Running) (x w : List ℕ) → So r (a .0) (now (a .1 .1 .0)) (now (a .1 .1 .1 .0)) (now (a .1 .1 .1 .1 .1 .0)) (now (a .1 .1 .1 .1 .1 .1 .0)) x w

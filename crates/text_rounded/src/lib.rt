@@ -68,7 +68,7 @@ fn shift(a: u64) -> u64
 }
 
 // How many units of 10^-d a magnitude's pattern is. The product of significand and 10^d may need 73 bits: its lowest 11 stand apart.
-fn units(a: u64, d: usize) -> u64
+pub fn units(a: u64, d: usize) -> u64
     requires { ⌜ (a ≤ largest) × (d ≤ 6) ⌝ }
     ensures { λ r. ⌜ (r ≡ unitsOf d a) × (r ≤ 2 ^ 41 * 10 ^ d) ⌝ }
 {
@@ -96,7 +96,7 @@ fn put_whole(out: &mut [u8], at: usize, n: u64, k: usize) -> usize
 }
 
 // n units of 10^-d, with d digits behind the point.
-fn put_fixed(out: &mut [u8], at: usize, n: u64, d: usize) -> usize
+pub fn put_fixed(out: &mut [u8], at: usize, n: u64, d: usize) -> usize
     requires { ⌜ (n < 10 ^ (d + 13)) × (at + (d + 14) ≤ length (now out)) ⌝ }
     ensures { λ r. ⌜ Wrote (now (out .entry)) at (fixedText d n) (now (out .exit)) r × (r ≤ at + (d + 14)) ⌝ }
 {

@@ -12,8 +12,10 @@ use Rattle.claims.specs.Claims.{claimsProgram}
 use Rattle.decimals.specs.Decimals.{decimalsProgram}
 use Rattle.compare_lines.specs.Listings.{compareProgram}
 use Rattle.compare_lines.specs.Held.{bothOf}
-use Rattle.lines_programs.specs.Programs.{asking, reading, claiming, showing, comparing}
-use Rattle.lines_programs.proofs.Steps.{line-within, sheet-within, claims-within, decimals-within, compare-within, line-went}
+use Rattle.picture.specs.Program.{pictureProgram}
+use Rattle.picture.specs.Held.{drawingOf}
+use Rattle.lines_programs.specs.Programs.{asking, reading, claiming, showing, comparing, drawing}
+use Rattle.lines_programs.proofs.Steps.{line-within, sheet-within, claims-within, decimals-within, compare-within, picture-within, line-went}
 use Rattle.lines_programs.proofs.ended.Statement.{statement}
 use Rattle.lines_programs.proofs.ended.Tie as tie
 
@@ -129,6 +131,27 @@ returns-5 c =
       omega (arith, r .1 .1 .1),
     )
 
+enum-known-job-5 : tie.Need-enum-known-job-5
+enum-known-job-5 c = search needs
+
+line-requires-6 : tie.Need-line-requires-6
+line-requires-6 c κs = (c .before .before .before .before .before .before .before .before .before .before .before .pre .0 .wide, (rw (c .before .before .before .job5 .given .1) at (c .before .before .before .before .before .before .before .before .before .before .before .pre .0 .few), c .before .before .before .before .before .before .before .before .before .before .before .pre .0 .full, c .before .before .before .before .before .before .before .before .before .before .before .pre .1))
+
+same-length-12 : tie.Need-same-length-12
+same-length-12 c = search needs
+
+same-length-13 : tie.Need-same-length-13
+same-length-13 c = search needs
+
+returns-6 : tie.Need-returns-6
+returns-6 c = let s = c .before .before .before .before .before .before .before .before .before .before .before .before .before .before .before .before .args in let o = openOf (s .st .len) (s .line .now) in
+    let r = c .before .before .before .before .line6 .ensures in
+    rw (c .before .before .before .before .before .before .before .before .job5 .given .1) (
+      line-went pictureProgram drawing picture-within (drawingOf (c .before .before .before .before .before .before .before .before .job5 .given .0 .0) (s .table .now)) o (ap drawing (r .0)) (nothing _ _)
+          (record { few = r .1; full = omega arith; older = omega arith; newer = omega arith; wide = c .before .before .before .before .before .before .before .before .before .before .before .before .before .before .before .before .pre .0 .wide }),
+      omega arith,
+    )
+
 pub ended-spec : {M : Type 1} → statement M
 ended-spec =
     tie.close
@@ -143,6 +166,8 @@ ended-spec =
     line-requires-4
     enum-known-job-4
     line-requires-5
+    enum-known-job-5
+    line-requires-6
     same-length
     same-length-2
     same-length-3
@@ -158,4 +183,7 @@ ended-spec =
     same-length-9
     same-length-10
     same-length-11
-    returns-5)
+    returns-5
+    same-length-12
+    same-length-13
+    returns-6)

@@ -4,7 +4,7 @@ use native.Mathlib.Omega.{arith}
 use Prim.Native.Nat.{_≤_}
 use Rattle.text.proofs.Writing.{nothing}
 use Rattle.lines_answer.specs.Answer.{places}
-use Rattle.lines_programs.specs.declared.Job.the-variants.{Reading, Comparing}
+use Rattle.lines_programs.specs.declared.Job.the-variants.{Reading, Comparing, Drawing}
 use Rattle.lines_programs.specs.Programs.{endsOf}
 use Rattle.lines_programs.specs.Held.{countOf}
 use Rattle.lines_programs.proofs.ends.Statement.{statement}
@@ -57,6 +57,19 @@ returns-5 : tie.Need-returns-5
 unfolding endsOf
 returns-5 c = rw (c .before .before .before .before .before .job2 .given .1) (c .before .before .end2 .ensures)
 
+enum-known-job-3 : tie.Need-enum-known-job-3
+enum-known-job-3 c = search needs
+
+end-requires-3 : tie.Need-end-requires-3
+end-requires-3 c κs = let k : countOf (Drawing (c .before .before .job3 .given .0 .0)) ≤ places = rw (c .before .before .job3 .given .1) at (c .before .before .before .before .before .before .before .before .pre .0) in (k, c .before .before .before .before .before .before .before .before .pre .1, omega arith)
+
+same-length-3 : tie.Need-same-length-3
+same-length-3 c = search needs
+
+returns-6 : tie.Need-returns-6
+unfolding endsOf
+returns-6 c = (rw (c .before .before .before .before .before .job3 .given .1) (c .before .before .end3 .ensures .0), omega (arith, c .before .before .end3 .ensures .1))
+
 pub ends-spec : {M : Type 1} → statement M
 ends-spec =
     tie.close
@@ -68,10 +81,14 @@ ends-spec =
     enum-told-3
     enum-known-job-2
     end-requires-2
+    enum-known-job-3
+    end-requires-3
     returns
     same-length
     returns-2
     returns-3
     returns-4
     same-length-2
-    returns-5)
+    returns-5
+    same-length-3
+    returns-6)

@@ -1,0 +1,40 @@
+-- A knot that is shown, and one that is not.
+use borrow.Author.Needs.{needs}
+use native.Mathlib.Omega.{arith}
+use mathlib.Core.Path.{_≡_, refl, sym, ap, _∙_}
+use Rattle.text.proofs.Writing.{nothing, then}
+use Rattle.picture.proofs.draw.put_knot.Statement.{statement}
+use Rattle.picture.proofs.draw.put_knot.Tie as tie
+
+is-shown-requires : tie.Need-is-shown-requires
+is-shown-requires c κs = search needs
+
+knot-column-requires : tie.Need-knot-column-requires
+knot-column-requires c κs = search needs
+
+height-requires : tie.Need-height-requires
+height-requires c κs = search needs
+
+put-dot-requires : tie.Need-put-dot-requires
+put-dot-requires c κs = search needs
+
+same-length : tie.Need-same-length
+same-length c = search needs
+
+returns : tie.Need-returns
+returns c = (rw (← c .before .before .before .before .before .before .before .is-shown .ensures, c .before .before .before .before .before .before .if1 .taken) (rw (c .before .before .before .before .before .knot-column .ensures .0, c .before .before .before .height .ensures .0) at (c .before .before .put-dot .ensures .0)), c .before .before .put-dot .ensures .1)
+
+returns-2 : tie.Need-returns-2
+returns-2 c = (rw (← c .before .is-shown .ensures, c .if1 .left) (nothing _ _), omega arith)
+
+pub put-knot-spec : {M : Type 1} → statement M
+put-knot-spec =
+    tie.close
+    (tie.spec
+    is-shown-requires
+    knot-column-requires
+    height-requires
+    put-dot-requires
+    same-length
+    returns
+    returns-2)

@@ -1,0 +1,3 @@
+pub mod Picture
+pub mod Program
+pub mod Held

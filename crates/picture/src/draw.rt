@@ -1,0 +1,162 @@
+// The curve, its knots, and the whole picture.
+ghost use mathlib.Core.Path.{_≡_};
+ghost use Prim.Native.Nat.{_≤_, _<_, _+_, _*_};
+ghost use lib.ListN.{length};
+ghost use Rattle.text.specs.Wrote.{Wrote};
+ghost use Rattle.lines_reply.specs.Told.{longest};
+ghost use Rattle.picture_scale.specs.Bounds.{Open};
+ghost use Rattle.picture.specs.Picture.{pointsText, knotText, knotsText, curveText, bodyIn, headText, pictureText};
+use crate::Fault;
+use crate::Finds;
+use basis::Basis;
+use inverse::EndsBy;
+use picture_scale::Extent;
+use spline::Evaluated;
+use table::Table;
+
+// The curve at 0/p to p/p.
+fn put_points(out: &mut [u8], at: usize, b: Basis, knots: &[f64], e: Extent, p: usize) -> usize
+    requires { ⌜ Open e × (p ≤ 2048) × (at + 20490 ≤ length (now out)) ⌝ }
+    ensures { λ r. ⌜ Wrote (now (out .entry)) at (pointsText b (now (knots .entry)) e p (p + 1)) (now (out .exit)) r × (r ≤ at + 20490) ⌝ }
+{
+    let mut i = 0;
+    let mut a = at;
+    while i < p + 1 {
+        let x = picture_scale::column(i as u64, p as u64);
+        let h = picture_scale::curve_height(b, knots, p, i);
+        a = crate::words::put_point(&mut *out, a, e, x, h);
+        i += 1;
+    }
+    a
+}
+
+// Knot j of n, if it is shown.
+fn put_knot(out: &mut [u8], at: usize, b: Basis, n: usize, e: Extent, j: usize, x: f64) -> usize
+    requires { ⌜ (j < n) × (n ≤ 4096) × Open e × (at + 12 ≤ length (now out)) ⌝ }
+    ensures { λ r. ⌜ Wrote (now (out .entry)) at (knotText b n e j x) (now (out .exit)) r × (r ≤ at + 12) ⌝ }
+{
+    if picture_scale::is_shown(b, n, j) {
+        let c = picture_scale::knot_column(b, n as u64, j as u64);
+        return crate::words::put_dot(out, at, e, c, picture_scale::height(x));
+    }
+    at
+}
+
+fn put_knots(out: &mut [u8], at: usize, b: Basis, knots: &[f64], e: Extent) -> usize
+    requires { ⌜ (length (now knots) ≤ 4096) × Open e × (at + 49152 ≤ length (now out)) ⌝ }
+    ensures { λ r. ⌜ Wrote (now (out .entry)) at (knotsText b (now (knots .entry)) e (length (now (knots .entry)))) (now (out .exit)) r × (r ≤ at + 49152) ⌝ }
+{
+    let mut j = 0;
+    let mut a = at;
+    while j < knots.len() {
+        a = put_knot(&mut *out, a, b, knots.len(), e, j, knots[j]);
+        j += 1;
+    }
+    a
+}
+
+// A table that is not refused.
+fn put_curve(out: &mut [u8], at: usize, m: EndsBy, b: Basis, knots: &[f64], f: Finds) -> usize
+    requires { ⌜ (length (now knots) ≤ 4096) × (at + 75000 ≤ length (now out)) ⌝ }
+    ensures { λ r. ⌜ Wrote (now (out .entry)) at (curveText m b (now (knots .entry)) f) (now (out .exit)) r × (r ≤ at + 75000) ⌝ }
+{
+    let e = picture_scale::extent_of(b, knots);
+    let lo = e.lo;
+    let hi = e.hi;
+    let s = picture_scale::step(16, hi - lo);
+    let a = crate::axes::put_depths(&mut *out, at, e, s, picture_scale::multiple_above(lo, s));
+    let c = text::put_word(&mut *out, a, b"<path class=\"k\" d=\"");
+    let d = put_knots(&mut *out, c, b, knots, e);
+    let g = text::put_word(&mut *out, d, b"\"/>\n<polyline class=\"c\" points=\"");
+    let h = put_points(
+        &mut *out,
+        g,
+        b,
+        knots,
+        e,
+        picture_scale::pieces(b, knots.len()),
+    );
+    let i = text::put_word(&mut *out, h, b"\"/>\n");
+    crate::marks::put_finds(out, i, m, b, knots, e, f)
+}
+
+fn put_body(
+    out: &mut [u8],
+    at: usize,
+    m: EndsBy,
+    b: Basis,
+    knots: &[f64],
+    f: Finds,
+    v: Evaluated,
+) -> usize
+    requires { ⌜ (length (now knots) ≤ 4096) × (at + 75000 ≤ length (now out)) ⌝ }
+    ensures { λ r. ⌜ Wrote (now (out .entry)) at (bodyIn m b (now (knots .entry)) f v) (now (out .exit)) r × (r ≤ at + 75000) ⌝ }
+{
+    match v {
+        Evaluated::Value(_) => put_curve(out, at, m, b, knots, f),
+        Evaluated::Refused(r) => crate::notes::put_note(
+            out,
+            at,
+            b,
+            knots.len() as u64,
+            0,
+            b"table",
+            r,
+        ),
+    }
+}
+
+fn put_head(out: &mut [u8], at: usize) -> usize
+    requires { ⌜ at + 900 ≤ length (now out) ⌝ }
+    ensures { λ r. ⌜ Wrote (now (out .entry)) at headText (now (out .exit)) r × (r ≤ at + 900) ⌝ }
+{
+    let a = text::put_word(
+        &mut *out,
+        at,
+        b"<svg xmlns=\"http://www.w3.org/2000/svg\" viewBox=\"0 0 10000 7000\" font-family=\"sans-serif\" font-size=\"160\">\n",
+    );
+    let b = text::put_word(
+        &mut *out,
+        a,
+        b"<style>text{fill:#7a7a7a}path,polyline{fill:none;stroke:#7a7a7a;stroke-width:15}.g{opacity:.3}.e{text-anchor:end}.t{text-anchor:middle}",
+    );
+    let c = text::put_word(
+        &mut *out,
+        b,
+        b".c{stroke:#3b82d6;stroke-width:25}.k{stroke:#d9730d;stroke-width:100;stroke-linecap:round}.f{stroke:#2e9e5b;stroke-width:20}",
+    );
+    let d = text::put_word(
+        &mut *out,
+        c,
+        b".p{stroke:#2e9e5b;stroke-width:120;stroke-linecap:round}.r{stroke:#e5484d;stroke-dasharray:60 40}text.r{fill:#e5484d;stroke:none}</style>\n",
+    );
+    text::put_word(
+        out,
+        d,
+        b"<path d=\"M1000,400V5400H9600\"/><text x=\"1000\" y=\"300\">depth</text><text class=\"e\" x=\"9600\" y=\"5850\">",
+    )
+}
+
+// The picture of a table, the finds asked of it, and the last fault.
+pub fn put_picture(
+    t: Table,
+    m: EndsBy,
+    knots: &[f64],
+    f: Finds,
+    fault: Fault,
+    out: &mut [u8],
+    at: usize,
+) -> usize
+    requires { ⌜ (length (now knots) ≤ 4096) × (at + longest ≤ length (now out)) ⌝ }
+    ensures { λ r. ⌜ Wrote (now (out .entry)) at (pictureText t m (now (knots .entry)) f fault) (now (out .exit)) r × (r ≤ at + longest) ⌝ }
+{
+    let b = t.basis;
+    let span = t.span;
+    let a = put_head(&mut *out, at);
+    let c = crate::axes::put_time_name(&mut *out, a, span);
+    let s = picture_scale::step(16, crate::axes::stretch(span));
+    let d = crate::axes::put_times(&mut *out, c, span, s);
+    let e = put_body(&mut *out, d, m, b, knots, f, spline::spline(b, 0.0, knots));
+    let g = crate::notes::put_fault(&mut *out, e, b, knots.len() as u64, fault);
+    text::put_word(out, g, b"</svg>\n")
+}

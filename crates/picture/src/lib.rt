@@ -1,0 +1,196 @@
+// A listing in, the picture of its last table out, as SVG.
+ghost use mathlib.Core.Path.{_≡_};
+ghost use mathlib.Core.List.{List};
+ghost use Prim.Native.Nat.{_≤_, _+_, min};
+ghost use lib.Ieee.{Float};
+ghost use lib.ListN.{length};
+ghost use Rattle.text.specs.Wrote.{Wrote};
+ghost use Rattle.lines_answer.specs.Answer.{places};
+ghost use Rattle.lines_machine.specs.Program.{widest};
+ghost use Rattle.lines_machine.specs.Held.{openOf};
+ghost use Rattle.lines_reply.specs.Told.{replyOf, longest};
+ghost use Rattle.picture.specs.Program.{nothingDrawn, cleared, asked, findsAfter, faultIn, faultAfter, pictureProgram};
+ghost use Rattle.picture.specs.Held.{drawingOf, countOf};
+use basis::Basis;
+use error::Refusal;
+use inverse::EndsBy;
+use lines_record::Record;
+use lines_reply::Told;
+use table::Table;
+
+pub mod axes;
+pub mod draw;
+pub mod marks;
+pub mod notes;
+pub mod words;
+
+// The last targets asked, `a` the latest; n of them, at most eight.
+pub struct Finds {
+    pub n: usize,
+    pub a: f64,
+    pub b: f64,
+    pub c: f64,
+    pub d: f64,
+    pub e: f64,
+    pub f: f64,
+    pub g: f64,
+    pub h: f64,
+}
+
+// Why a line was refused last, if one was.
+pub enum Fault {
+    Nothing,
+    Is(Refusal),
+}
+
+// What the line program holds, the targets and the fault.
+pub struct Held {
+    pub curve: lines_answer::Held,
+    pub finds: Finds,
+    pub fault: Fault,
+}
+
+// Before the first line.
+pub fn blank() -> Held
+    ensures { λ h. ⌜ ((t : List Float) → drawingOf h t ≡ nothingDrawn) × (countOf h ≡ 0) ⌝ }
+{
+    let none = Finds {
+        n: 0,
+        a: 0.0,
+        b: 0.0,
+        c: 0.0,
+        d: 0.0,
+        e: 0.0,
+        f: 0.0,
+        g: 0.0,
+        h: 0.0,
+    };
+    Held {
+        curve: lines_answer::Held::Nothing,
+        finds: none,
+        fault: Fault::Nothing,
+    }
+}
+
+fn one_more(n: usize) -> usize
+    ensures { λ r. ⌜ r ≡ min 8 (n + 1) ⌝ }
+{
+    if n < 8 { n + 1 } else { 8 }
+}
+
+fn clear(f: Finds) -> Finds
+    ensures { λ r. ⌜ r ≡ cleared f ⌝ }
+{
+    Finds {
+        n: 0,
+        a: f.a,
+        b: f.b,
+        c: f.c,
+        d: f.d,
+        e: f.e,
+        f: f.f,
+        g: f.g,
+        h: f.h,
+    }
+}
+
+fn ask(y: f64, f: Finds) -> Finds
+    ensures { λ r. ⌜ r ≡ asked y f ⌝ }
+{
+    Finds {
+        n: one_more(f.n),
+        a: y,
+        b: f.a,
+        c: f.b,
+        d: f.c,
+        e: f.d,
+        f: f.e,
+        g: f.f,
+        h: f.g,
+    }
+}
+
+fn finds_after(f: Finds, r: Record) -> Finds
+    ensures { λ s. ⌜ s ≡ findsAfter f r ⌝ }
+{
+    match r {
+        Record::Curve(_) => clear(f),
+        Record::Span(_) => f,
+        Record::Knot(_) => f,
+        Record::Ends(_) => f,
+        Record::At(_) => f,
+        Record::Find(y) => ask(y, f),
+        Record::Turn(_) => f,
+        Record::Bad => f,
+    }
+}
+
+fn fault_in(f: Fault, t: Told) -> Fault
+    ensures { λ s. ⌜ ((l : List Float) → s ≡ faultIn f (replyOf t l)) ⌝ }
+{
+    match t {
+        Told::Nothing => f,
+        Told::Refused(r) => Fault::Is(r),
+        Told::Value(_) => f,
+        Told::Place(_, _, _, _) => f,
+        Told::Curve(_, _) => f,
+    }
+}
+
+fn fault_after(f: Fault, r: Record, t: Told) -> Fault
+    ensures { λ s. ⌜ ((l : List Float) → s ≡ faultAfter f r (replyOf t l)) ⌝ }
+{
+    match r {
+        Record::Curve(_) => Fault::Nothing,
+        Record::Span(_) => fault_in(f, t),
+        Record::Knot(_) => fault_in(f, t),
+        Record::Ends(_) => fault_in(f, t),
+        Record::At(_) => fault_in(f, t),
+        Record::Find(_) => f,
+        Record::Turn(_) => fault_in(f, t),
+        Record::Bad => fault_in(f, t),
+    }
+}
+
+// A line of len bytes, the first ones of the lent 64; 65 for one that is too long.
+pub fn line(h: Held, len: usize, line: &[u8], table: &mut [f64], turned: &mut [f64]) -> Held
+    requires line { ⌜ length (now line) ≡ widest ⌝ }
+    requires table { ⌜ (countOf h ≤ places) × (length (now table) ≡ places) × (length (now turned) ≡ places) ⌝ }
+    ensures state { λ r. ⌜ drawingOf r (now (table .exit)) ≡ pictureProgram .after (drawingOf h (now (table .entry))) (openOf len (now (line .entry))) ⌝ }
+    ensures few { λ r. ⌜ countOf r ≤ places ⌝ }
+{
+    let c = h.curve;
+    let finds = h.finds;
+    let fault = h.fault;
+    let r = lines::said(len, line);
+    let a = lines_answer::answer(c, r, table, turned);
+    let after = a.held;
+    let told = a.told;
+    Held {
+        curve: after,
+        finds: finds_after(finds, r),
+        fault: fault_after(fault, r, told),
+    }
+}
+
+// The end of the listing: the picture.
+pub fn end(h: Held, table: &[f64], out: &mut [u8], at: usize) -> usize
+    requires { ⌜ (countOf h ≤ places) × (length (now table) ≡ places) × (at + longest ≤ length (now out)) ⌝ }
+    ensures { λ r. ⌜ Wrote (now (out .entry)) at (pictureProgram .ends (drawingOf h (now (table .entry)))) (now (out .exit)) r × (r ≤ at + longest) ⌝ }
+{
+    let c = h.curve;
+    let finds = h.finds;
+    let fault = h.fault;
+    match c {
+        lines_answer::Held::Nothing => {
+            let bare = Table {
+                basis: Basis::Linear,
+                span: 0,
+            };
+            draw::put_picture(bare, EndsBy::Knots, &table[0..0], finds, fault, out, at)
+        }
+        lines_answer::Held::Curve(t, m, n) => {
+            draw::put_picture(t, m, &table[0..n], finds, fault, out, at)
+        }
+    }
+}

@@ -1,0 +1,72 @@
+// Refusals: a line of text below the axes, and a line through the knot that is told.
+ghost use mathlib.Core.Path.{_≡_};
+ghost use Prim.Native.Nat.{_≤_, _+_};
+ghost use lib.ListN.{length};
+ghost use Rattle.text.specs.Wrote.{Wrote};
+ghost use Rattle.picture.specs.Picture.{knotTail, tailText, noteText, faultText};
+use crate::Fault;
+use crate::words::put_number;
+use basis::Basis;
+use error::Refusal;
+
+// The knot that is told, and a line through it.
+fn put_knot_tail(out: &mut [u8], at: usize, b: Basis, n: u64, i: u64) -> usize
+    requires { ⌜ (i ≤ 65535) × (at + 80 ≤ length (now out)) ⌝ }
+    ensures { λ r. ⌜ Wrote (now (out .entry)) at (knotTail b n i) (now (out .exit)) r × (r ≤ at + 80) ⌝ }
+{
+    let x = picture_scale::knot_column(b, n, i);
+    let a = put_number(&mut *out, at, b" at knot ", i);
+    let c = put_number(&mut *out, a, b"</text>\n<path class=\"r\" d=\"M", x);
+    text::put_word(out, c, b",400V5400\"/>\n")
+}
+
+// 4 and 10 tell a knot.
+fn put_tail(out: &mut [u8], at: usize, b: Basis, n: u64, r: Refusal) -> usize
+    requires { ⌜ at + 80 ≤ length (now out) ⌝ }
+    ensures { λ s. ⌜ Wrote (now (out .entry)) at (tailText b n r) (now (out .exit)) s × (s ≤ at + 80) ⌝ }
+{
+    let number = error::number(r);
+    if number == 4 {
+        return put_knot_tail(out, at, b, n, error::place(r) as u64);
+    }
+    if number == 10 {
+        return put_knot_tail(out, at, b, n, error::place(r) as u64);
+    }
+    text::put_word(out, at, b"</text>\n")
+}
+
+// In one of ten slots; `who` was refused.
+pub fn put_note(
+    out: &mut [u8],
+    at: usize,
+    b: Basis,
+    n: u64,
+    slot: u64,
+    who: &[u8],
+    r: Refusal,
+) -> usize
+    requires { ⌜ (slot ≤ 9) × (length (now who) ≤ 5) × (at + 160 ≤ length (now out)) ⌝ }
+    ensures { λ s. ⌜ Wrote (now (out .entry)) at (noteText b n slot (now (who .entry)) r) (now (out .exit)) s × (s ≤ at + 160) ⌝ }
+{
+    let a = put_number(
+        &mut *out,
+        at,
+        b"<text class=\"r\" x=\"",
+        1000 + 4400 * (slot % 2),
+    );
+    let c = put_number(&mut *out, a, b"\" y=\"", 6000 + 180 * (slot / 2));
+    let d = text::put_word(&mut *out, c, b"\">");
+    let e = text::put_word(&mut *out, d, who);
+    let f = put_number(&mut *out, e, b" refused: ", error::number(r) as u64);
+    put_tail(out, f, b, n, r)
+}
+
+pub fn put_fault(out: &mut [u8], at: usize, b: Basis, n: u64, f: Fault) -> usize
+    requires { ⌜ at + 160 ≤ length (now out) ⌝ }
+    ensures { λ s. ⌜ Wrote (now (out .entry)) at (faultText b n f) (now (out .exit)) s × (s ≤ at + 160) ⌝ }
+{
+    match f {
+        Fault::Nothing => at,
+        Fault::Is(r) => put_note(out, at, b, n, 1, b"line", r),
+    }
+}

@@ -1,0 +1,20 @@
+-- A knot before the first one shown, and any other.
+use native.Mathlib.Omega.{arith}
+use borrow.Author.Tests.{le-leb, lt-leb, eq-eqb, ne-eqb}
+use borrow.Author.Needs.{needs}
+use Rattle.picture_scale.proofs.is_inner.Statement.{statement}
+use Rattle.picture_scale.proofs.is_inner.Tie as tie
+use Rattle.picture_scale.proofs.is_inner.Reads as reads
+use Rattle.picture_scale.proofs.is_inner.Lts as lts
+
+returns : tie.Need-returns
+returns c = simp (lt-leb 1 (c .before .args .j) (omega arith))
+
+add-result : tie.Need-add-result
+add-result c = search needs
+
+returns-2 : tie.Need-returns-2
+returns-2 c = simp (le-leb 1 (c .before .args .j) (omega arith))
+
+pub is-inner-spec : {M : Type 1} → statement M
+is-inner-spec = tie.close (tie.spec returns add-result returns-2)

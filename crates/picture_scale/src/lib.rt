@@ -1,0 +1,231 @@
+// Where things stand in the picture, in whole units of its view box.
+ghost use mathlib.Core.Path.{_≡_};
+ghost use Prim.Native.Nat.{_≤_, _<_, _+_, _-_, min, max};
+ghost use lib.ListN.{length};
+ghost use lib.Dec.{leb, ltb};
+ghost use mathlib.Core.Bool.{_&&_};
+ghost use Rattle.basis.specs.Basis.{segmentsOf};
+ghost use Rattle.picture_scale.specs.Scale.{thousandths, heightOf, curveHeight, columnOf, rowOf, piecesOf, shown, knotColumn, widened, withKnot, curveExtent, knotsExtent, extentOf, stepOf, aboveOf};
+ghost use Rattle.picture_scale.specs.Bounds.{lowest, highest, Between, Narrow, Open};
+use basis::Basis;
+use spline::Evaluated;
+
+// The least and the greatest height.
+pub struct Extent {
+    pub lo: u64,
+    pub hi: u64,
+}
+
+pub fn lesser(a: u64, b: u64) -> u64
+    ensures { λ r. ⌜ r ≡ min a b ⌝ }
+{
+    if a < b { a } else { b }
+}
+
+fn greater(a: u64, b: u64) -> u64
+    ensures { λ r. ⌜ r ≡ max a b ⌝ }
+{
+    if a < b { b } else { a }
+}
+
+// a - b, or 0.
+fn above(a: u64, b: u64) -> u64
+    ensures { λ r. ⌜ r ≡ a - b ⌝ }
+{
+    if b < a { a - b } else { 0 }
+}
+
+// A depth in whole thousandths above the lowest.
+pub fn height(x: f64) -> u64
+    ensures { λ r. ⌜ (r ≡ heightOf x) × Between r ⌝ }
+{
+    let n = text::to_bits(x);
+    let a = lesser(n % 9223372036854775808, 4787326403894837248);
+    let u = lesser(1099511627776000, text_rounded::units(a, 3));
+    if 9223372036854775808 <= n {
+        return 2000000000000000 - u;
+    }
+    2000000000000000 + u
+}
+
+// The curve at i/p.
+pub fn curve_height(b: Basis, knots: &[f64], p: usize, i: usize) -> u64
+    requires { ⌜ (p ≤ 4097) × (i ≤ 4097) ⌝ }
+    ensures { λ r. ⌜ (r ≡ curveHeight b (now (knots .entry)) p i) × Between r ⌝ }
+{
+    let x = doubles::whole::double_of(i) / doubles::whole::double_of(p);
+    let e = spline::spline(b, x, knots);
+    match e {
+        Evaluated::Value(v) => height(v),
+        Evaluated::Refused(_) => 2000000000000000,
+    }
+}
+
+// i of m parts of the frame's breadth.
+pub fn column(i: u64, m: u64) -> u64
+    requires { ⌜ i ≤ 1000000000000 ⌝ }
+    ensures { λ r. ⌜ (r ≡ columnOf i m) × (r ≤ 9600) ⌝ }
+{
+    if m == 0 {
+        return 1000;
+    }
+    1000 + lesser(8600, i * 8600 / m)
+}
+
+pub fn row(e: Extent, h: u64) -> u64
+    requires { ⌜ Open e × (h ≤ highest) ⌝ }
+    ensures { λ r. ⌜ (r ≡ rowOf e h) × (r ≤ 5400) ⌝ }
+{
+    let lo = e.lo;
+    let hi = e.hi;
+    5400 - lesser(5000, above(h, lo) * 5000 / (hi - lo))
+}
+
+// How many segments n knots make; one where they are too few.
+pub fn segments(b: Basis, n: usize) -> usize
+    ensures { λ r. ⌜ (r ≡ segmentsOf b n) × (r ≤ n + 1) ⌝ }
+{
+    if n < 4 {
+        return 1;
+    }
+    basis::segments(b, n)
+}
+
+// Into how many pieces the curve is cut.
+pub fn pieces(b: Basis, n: usize) -> usize
+    requires { ⌜ n ≤ 4096 ⌝ }
+    ensures { λ r. ⌜ (r ≡ piecesOf b n) × (r ≤ 2048) ⌝ }
+{
+    doubles::whole::lesser(2048, 256 * segments(b, n))
+}
+
+fn is_inner(n: usize, j: usize) -> bool
+    requires { ⌜ j < n ⌝ }
+    ensures { λ r. ⌜ r ≡ (leb 1 j && ltb (j + 1) n) ⌝ }
+{
+    if j < 1 {
+        return false;
+    }
+    j + 1 < n
+}
+
+// Whether knot j of n is a depth.
+pub fn is_shown(b: Basis, n: usize, j: usize) -> bool
+    requires { ⌜ j < n ⌝ }
+    ensures { λ r. ⌜ r ≡ shown b n j ⌝ }
+{
+    match b {
+        Basis::Bspline => is_inner(n, j),
+        Basis::Bezier => true,
+        Basis::CatmullRom => is_inner(n, j),
+        Basis::Hermite => j % 2 == 0,
+        Basis::Linear => is_inner(n, j),
+        Basis::Power => j % 4 == 3,
+    }
+}
+
+// Where knot j of n stands.
+pub fn knot_column(b: Basis, n: u64, j: u64) -> u64
+    requires { ⌜ j ≤ 65535 ⌝ }
+    ensures { λ r. ⌜ (r ≡ knotColumn b n j) × (r ≤ 9600) ⌝ }
+{
+    match b {
+        Basis::Bspline => column(above(j, 1), above(n, 3)),
+        Basis::Bezier => column(j, above(n, 1)),
+        Basis::CatmullRom => column(above(j, 1), above(n, 3)),
+        Basis::Hermite => column(j / 2, above(n / 2, 1)),
+        Basis::Linear => column(above(j, 1), above(n, 3)),
+        Basis::Power => column(j / 4, n / 4),
+    }
+}
+
+fn widen(e: Extent, h: u64) -> Extent
+    requires { ⌜ Narrow e × Between h ⌝ }
+    ensures { λ r. ⌜ (r ≡ widened e h) × Narrow r ⌝ }
+{
+    Extent {
+        lo: lesser(e.lo, h),
+        hi: greater(e.hi, h),
+    }
+}
+
+// Of the curve at 0/p to p/p.
+fn curve_extent(b: Basis, knots: &[f64], p: usize) -> Extent
+    requires { ⌜ p ≤ 4097 ⌝ }
+    ensures { λ r. ⌜ (r ≡ curveExtent b (now (knots .entry)) p p) × Narrow r ⌝ }
+{
+    let h = curve_height(b, knots, p, 0);
+    let mut e = Extent { lo: h, hi: h };
+    let mut i = 0;
+    while i < p {
+        i += 1;
+        e = widen(e, curve_height(b, knots, p, i));
+    }
+    e
+}
+
+// With knot j of n, if it is shown.
+fn with_knot(b: Basis, n: usize, j: usize, x: f64, e: Extent) -> Extent
+    requires { ⌜ (j < n) × Narrow e ⌝ }
+    ensures { λ r. ⌜ (r ≡ withKnot b n j x e) × Narrow r ⌝ }
+{
+    if is_shown(b, n, j) {
+        return widen(e, height(x));
+    }
+    e
+}
+
+// And with all knots.
+fn knots_extent(b: Basis, knots: &[f64], first: Extent) -> Extent
+    requires { ⌜ Narrow first ⌝ }
+    ensures { λ r. ⌜ (r ≡ knotsExtent b (now (knots .entry)) first (length (now (knots .entry)))) × Narrow r ⌝ }
+{
+    let mut e = first;
+    let mut j = 0;
+    while j < knots.len() {
+        e = with_knot(b, knots.len(), j, knots[j], e);
+        j += 1;
+    }
+    e
+}
+
+// Of all that is shown, and a thousandth more on either side.
+pub fn extent_of(b: Basis, knots: &[f64]) -> Extent
+    requires { ⌜ length (now knots) ≤ 4096 ⌝ }
+    ensures { λ r. ⌜ (r ≡ extentOf b (now (knots .entry))) × Open r ⌝ }
+{
+    let p = pieces(b, knots.len());
+    let c = curve_extent(b, knots, p);
+    let e = knots_extent(b, knots, c);
+    Extent {
+        lo: e.lo - 1,
+        hi: e.hi + 1,
+    }
+}
+
+// The step from label to label, for a stretch r: 1, 2 or 5 times a power of ten.
+pub fn step(k: usize, r: u64) -> u64
+    ensures { λ s. ⌜ (s ≡ stepOf k r) × (0 < s) × (0 < r → s ≤ r) × (s ≤ r + 1) ⌝ }
+{
+    if k == 0 {
+        return 1;
+    }
+    if r <= 5 {
+        return 1;
+    }
+    if r <= 10 {
+        return 2;
+    }
+    if r <= 25 {
+        return 5;
+    }
+    10 * step(k - 1, r / 10)
+}
+
+// The first multiple of the step above l.
+pub fn multiple_above(l: u64, s: u64) -> u64
+    requires { ⌜ (0 < s) × (l ≤ highest) × (s ≤ highest) ⌝ }
+    ensures { λ r. ⌜ (r ≡ aboveOf l s) × (r ≤ l + s) ⌝ }
+{
+    l + (s - l % s)
+}
