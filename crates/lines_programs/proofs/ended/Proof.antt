@@ -148,7 +148,7 @@ returns-6 c = let s = c .before .before .before .before .before .before .before 
     let r = c .before .before .before .before .line6 .ensures in
     rw (c .before .before .before .before .before .before .before .before .job5 .given .1) (
       line-went pictureProgram drawing picture-within (drawingOf (c .before .before .before .before .before .before .before .before .job5 .given .0 .0) (s .table .now)) o (ap drawing (r .0)) (nothing _ _)
-          (record { few = r .1; full = omega arith; older = omega arith; newer = omega arith; wide = c .before .before .before .before .before .before .before .before .before .before .before .before .before .before .before .before .pre .0 .wide }),
+          (record { few = r .1; full = omega (arith, c .before .before .before .before .before .before .before .before .before .before .before .before .before .before .before .before .pre .0 .full); older = omega (arith, c .before .before .before .before .before .before .before .before .before .before .before .before .before .before .before .before .pre .0 .older); newer = omega (arith, c .before .before .before .before .before .before .before .before .before .before .before .before .before .before .before .before .pre .0 .newer); wide = c .before .before .before .before .before .before .before .before .before .before .before .before .before .before .before .before .pre .0 .wide }),
       omega arith,
     )
 
