@@ -94,7 +94,8 @@ module _ (b : Basis) (y : Float) (s : ℕ) (x ε : Float) (ks : List Float) wher
   pub above-one : le nought x ≡ true → le x one ≡ false → false ≡ accepts y x (segmentOf b ks s x) ε
   above-one h k = rw (h, k)
 
-  pub in-unit : le nought x ≡ true → le x one ≡ true → {step : ℕ} → step ≡ stepOf b → {v : Float} → v ≡ segmentValue (matrixOf b) (take (length ks - s * step) (drop (s * step) ks)) x
+  pub in-unit : le nought x ≡ true → le x one ≡ true → {step : ℕ} → step ≡ stepOf b → {v : Float}
+      → v ≡ segmentValue (matrixOf b) (take (length ks - s * step) (drop (s * step) ks)) x
       → {t : Bool} → t ≡ near y v ε → t ≡ accepts y x (segmentOf b ks s x) ε
   in-unit h k {step} q {v} d {t} n =
       let e : v ≡ segmentOf b ks s x = d ∙ ap (λ (l : List Float). segmentValue (matrixOf b) l x) (rest (s * step) ks ∙ ap (λ (j : ℕ). drop (s * j) ks) q) in

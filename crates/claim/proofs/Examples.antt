@@ -38,9 +38,11 @@ pub steep : List Float
 steep = nought ∷ fin false 1 (pos 3) ∷ fin false 3 (pos 2) ∷ fin false 1 (pos 4) ∷ []
 
 -- target 4 to a precision of 1/2: the bracket 0 to 1/4 is narrow, and its midpoint is told, where the curve is at 361/128
-pub width-fails : (inverseOf Bezier four steep true defaultLimit half ≡ At (record { parameter = eighth; ground = Width; segment = 0; local = eighth; lower = nought; upper = quarter; count = 3 }))
+pub width-fails : (inverseOf Bezier four steep true defaultLimit half ≡ At
+    (record { parameter = eighth; ground = Width; segment = 0; local = eighth; lower = nought; upper = quarter; count = 3 }))
     × (claimOf Bezier four 0 eighth half steep ≡ Differs)
-unfolding steep matrixOf row frac round ofInt ofBits add sub mul div lt le eq ne neg isNan inRange allInRange precise ordered magnitudeOf lerpOf narrow halving weighed chord kept fraction moved settled probed turn rounds entered enter tries last halve find parameterOf located inverseBy claimOf
+unfolding steep matrixOf row frac round ofInt ofBits add sub mul div lt le eq ne neg isNan inRange allInRange precise ordered magnitudeOf lerpOf narrow
+    halving weighed chord kept fraction moved settled probed turn rounds entered enter tries last halve find parameterOf located inverseBy claimOf
 width-fails = (refl, refl)
 
 -- 0, 0, 6, 12
@@ -48,7 +50,9 @@ pub away : List Float
 away = nought ∷ nought ∷ fin false 3 (pos 1) ∷ fin false 3 (pos 2) ∷ []
 
 -- target 0: the second knot is 0, and the curve begins at 1
-pub end-fails : (inverseOf Bspline nought away true defaultLimit defaultPrecision ≡ At (record { parameter = nought; ground = End; segment = 0; local = nought; lower = nought; upper = nought; count = 0 }))
+pub end-fails : (inverseOf Bspline nought away true defaultLimit defaultPrecision ≡ At
+    (record { parameter = nought; ground = End; segment = 0; local = nought; lower = nought; upper = nought; count = 0 }))
     × (claimOf Bspline nought 0 nought defaultPrecision away ≡ Differs)
-unfolding away matrixOf row frac round ofBits add sub mul div lt le eq ne neg isNan inRange allInRange precise ordered magnitudeOf lerpOf parameterOf located inverseBy claimOf
+unfolding away matrixOf row frac round ofBits add sub mul div lt le eq ne neg isNan inRange allInRange precise ordered magnitudeOf lerpOf parameterOf
+    located inverseBy claimOf
 end-fails = (refl, refl)

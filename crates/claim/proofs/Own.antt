@@ -89,7 +89,8 @@ module _ (b : Basis) (y : Float) (s : ℕ) (x ε : Float) (ks : List Float) wher
   unfolding claimOf
   holds-where a =
       let c : T (near y v ε) = subst T (difference-turned v y (mul binary64 two ε)) (a .close) in
-      let t : accepts y x v ε ≡ true = true-of (accepts y x v ε) (and-i (le nought x && le x one) (near y v ε) (and-i (le nought x) (le x one) (a .place .low) (a .place .high)) c) in
+      let t : accepts y x v ε ≡ true =
+      true-of (accepts y x v ε) (and-i (le nought x && le x one) (near y v ε) (and-i (le nought x) (le x one) (a .place .low) (a .place .high)) c) in
       rw (a .passed, t)
 
   -- where no row applies it differs, or else it holds
@@ -168,7 +169,8 @@ module _ (m : EndsBy) (how : Method) (b : Basis) (y : Float) (ks : List Float) (
   abbrev Enclosed-here : Ground → Place → Type 0
   Enclosed-here = Enclosed (rule m how b y ks check limit ε .ends) (rule m how b y ks check limit ε .made) (segmentOf b ks) (segmentsOf b (length ks)) y ε limit
 
-  close-by : T (precise ε) → (g : Ground) (p : Place) → Settled g → Says-here g p → T (lt (magnitudeOf (sub binary64 (segmentOf b ks (p .segment) (p .local)) y)) (mul binary64 two ε))
+  close-by : T (precise ε) → (g : Ground) (p : Place) → Settled g → Says-here g p
+      → T (lt (magnitudeOf (sub binary64 (segmentOf b ks (p .segment) (p .local)) y)) (mul binary64 two ε))
   close-by q End p t h = absurd t
   close-by q Edge p t h = edge-close (segmentOf b ks (p .segment)) y ε (p .local) h
   close-by q Value p t h = value-close (segmentOf b ks (p .segment)) y ε (p .local) held q h
@@ -192,7 +194,9 @@ module _ (m : EndsBy) (how : Method) (b : Basis) (y : Float) (ks : List Float) (
       let sure : precise ε ≡ true = not-false (precise ε) (c 6) in
       holds-where b y (p .segment) (p .local) ε ks
       (record {
-        passed = none-refuses b y (p .segment) (p .local) ε ks (c 1) (not-false (regular b (length ks)) (c 2)) (c 3) (c 5) (proper .local) sure (below-by (p .ground) p t inside) (not-false (allInRange ks) (c 4));
+        passed =
+            none-refuses b y (p .segment) (p .local) ε ks (c 1) (not-false (regular b (length ks)) (c 2)) (c 3) (c 5) (proper .local) sure
+            (below-by (p .ground) p t inside) (not-false (allInRange ks) (c 4));
         place = proper .local;
         close = close-by (holds sure) (p .ground) p t says;
       })
@@ -214,7 +218,8 @@ module _ (how : Method) (b : Basis) (y : Float) (cv : List Float) (limit : ℕ) 
   unfolding inverseSegmentBy
   segment-pass p e = place-passes (first (inverseSegmentUses y cv limit ε)) _ p e
 
-  segment-close : T (precise ε) → (g : Ground) (x lower upper : Float) (rising : Bool) (n : ℕ) → Settled g → Says (segmentOf b cv 0) y ε rising limit 2 g x lower upper n
+  segment-close : T (precise ε) → (g : Ground) (x lower upper : Float) (rising : Bool) (n : ℕ) → Settled g
+      → Says (segmentOf b cv 0) y ε rising limit 2 g x lower upper n
       → T (lt (magnitudeOf (sub binary64 (segmentOf b cv 0 x) y)) (mul binary64 two ε))
   segment-close q End x lower upper rising n t h = absurd t
   segment-close q Edge x lower upper rising n t h = edge-close (segmentOf b cv 0) y ε x h
@@ -222,18 +227,26 @@ module _ (how : Method) (b : Basis) (y : Float) (cv : List Float) (limit : ℕ) 
   segment-close q Width x lower upper rising n t h = absurd t
   segment-close q Spent x lower upper rising n t h = absurd t
 
-  pub own-segment-accepted : (p : Place) → inverseSegmentBy (ruleOf how) b y cv limit ε ≡ I.At p → Settled (p .ground) → claimOf b y (p .segment) (p .local) ε cv ≡ Holds
+  pub own-segment-accepted : (p : Place) → inverseSegmentBy (ruleOf how) b y cv limit ε ≡ I.At p → Settled (p .ground)
+      → claimOf b y (p .segment) (p .local) ε cv ≡ Holds
   own-segment-accepted p e t =
       let d = segment-pass p e in
       let c = clear (inverseSegmentUses y cv limit ε) d in
       let q = passes y cv limit ε d in
-      let o : Owed (segmentOf b cv 0) y ε limit (I.At p) = subst (Owed (segmentOf b cv 0) y ε limit) e (inverse-segment-owed (ruleOf how) (lawful-of how) b y cv limit ε d) in
+      let o : Owed (segmentOf b cv 0) y ε limit (I.At p) =
+      subst (Owed (segmentOf b cv 0) y ε limit) e (inverse-segment-owed (ruleOf how) (lawful-of how) b y cv limit ε d) in
       let w = o .1 in
       let one-of = one-segment b (length cv) (q .four) in
-      let place : InOne (p .local) = record { low = nought-le (p .local) (w .inside .sign); high = le-trans-float (p .local) (p .upper) one (w .inside .below) (w .bracketed .upper-in .top) } in
+      let place : InOne (p .local) =
+      record {
+        low = nought-le (p .local) (w .inside .sign);
+        high = le-trans-float (p .local) (p .upper) one (w .inside .below) (w .bracketed .upper-in .top);
+      } in
       let many : ltb 4096 (length cv) ≡ false = rw (q .four) refl in
       let below : p .segment < segmentsOf b (length cv) = rw (one-of .1, o .2) (omega arith) in
-      let close : T (lt (magnitudeOf (sub binary64 (segmentOf b cv 0 (p .local)) y)) (mul binary64 two ε)) = segment-close (holds (q .precise-is)) (p .ground) (p .local) (p .lower) (p .upper) (lt (segmentOf b cv 0 nought) (segmentOf b cv 0 one)) (p .count) t (w .says) in
+      let close : T (lt (magnitudeOf (sub binary64 (segmentOf b cv 0 (p .local)) y)) (mul binary64 two ε)) =
+      segment-close (holds (q .precise-is)) (p .ground) (p .local) (p .lower) (p .upper) (lt (segmentOf b cv 0 nought) (segmentOf b cv 0 one))
+      (p .count) t (w .says) in
       holds-where b y (p .segment) (p .local) ε cv
       (record {
         passed = none-refuses b y (p .segment) (p .local) ε cv (c 1) (one-of .0) many (q .number) place (q .precise-is) below (q .in-range);

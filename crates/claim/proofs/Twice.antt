@@ -28,7 +28,8 @@ le-rounded m e h =
     let g : grid f (m * up e) (down e) ≤ U .h = grid-short-le f (m * up e) (down e) (U .h) C (U .digits) (le-of-eq (U .is .1)) in
     let k : U .h ≤ grid f (m * up e) (down e) = grid-short-ge f (m * up e) (down e) (U .h) C (U .digits) (le-of-eq (sym (U .is .1))) in
     let L : 0 < 2 ^ low f = pow-pos (low f) in
-    le-of-values (fin false m e) (round f false (m * up e) (down e)) (U .h) (2 ^ low f) (grid f (m * up e) (down e)) (2 ^ low f) L L (U .is) (round-val f (m * up e) (down e) (lt-of-le-of-lt g (U .fine))) (mul-le-mul-right (2 ^ low f) k)
+    le-of-values (fin false m e) (round f false (m * up e) (down e)) (U .h) (2 ^ low f) (grid f (m * up e) (down e)) (2 ^ low f) L L (U .is)
+    (round-val f (m * up e) (down e) (lt-of-le-of-lt g (U .fine))) (mul-le-mul-right (2 ^ low f) k)
 
 double-le : (x d : ℕ) → x * (1 * d) ≤ 1 * 2 * x * d
 double-le x d = let e : 1 * d ≡ d = one-mul d in rw e (mul-le-mul-right d (omega arith))

@@ -23,7 +23,8 @@ use Rattle.claim.specs.declared.Claimed.the-variants.{Refused, Holds, Di
 abbrev pub claimUses : Basis → Float → ℕ → Float → Float → List Float → Uses
 claimUses b y s x ε ks =
     curveLength b (length ks)
-    ++ ((NotANumber, isNan y || isNan x) ∷ (BadPrecision, not (precise ε)) ∷ (NoSegment, not (ltb s (segmentsOf b (length ks)))) ∷ badKnot ks ∷ [])
+    ++ ((NotANumber, isNan y || isNan x) ∷ (BadPrecision, not (precise ε)) ∷ (NoSegment, not (ltb s (segmentsOf b (length ks))))
+    ∷ badKnot ks ∷ [])
 
 -- the local place x is in 0 to 1, and the value v there differs from the target, as computed, by less than twice the precision
 abbrev pub accepts : Float → Float → Float → Float → Bool

@@ -66,7 +66,8 @@ five-fields y s x l h = rw (fields-more l h) (fifth y s x (take (tabOf l) l) _)
 
 -- ---- a line: the word `claim` before its first tab, another, or no tab
 module _ (t : ℕ) (l : List ℕ) (e : t ≡ tabOf l) (h : t < length l) where
-  pub with-word : same (take (t - 0) l) (bytes "claim") ≡ true → {r : Said} → r ≡ claimIn (fieldsOf (take (length l - (t + 1)) (drop (t + 1) l))) → r ≡ saidIn (fieldsOf l)
+  pub with-word : same (take (t - 0) l) (bytes "claim") ≡ true → {r : Said} → r ≡ claimIn (fieldsOf (take (length l - (t + 1)) (drop (t + 1) l)))
+      → r ≡ saidIn (fieldsOf l)
   unfolding saidIn
   with-word w f = f ∙ rw (parted t l e h, w) refl
 
@@ -97,7 +98,8 @@ module _ (c : Curve) (o : Line) {m : Said} (e : m ≡ says o) where
     unfolding leavesOf
     listed-leaves h = h ∙ ap (leavesOf c) (sym l ∙ e)
 
-    pub listed-wrote : {out : List ℕ} {at : ℕ} {out′ : List ℕ} {next : ℕ} → Wrote out at (textOf (replyTo c r)) out′ next → Wrote out at (claimsProgram .tells c o) out′ next
+    pub listed-wrote : {out : List ℕ} {at : ℕ} {out′ : List ℕ} {next : ℕ} → Wrote out at (textOf (replyTo c r)) out′ next
+        → Wrote out at (claimsProgram .tells c o) out′ next
     unfolding tellsOf
     listed-wrote {out} {at} {out′} {next} w = subst (λ (q : Said). Wrote out at (tellsOf c q) out′ next) (sym l ∙ e) w
 
@@ -106,13 +108,16 @@ module _ (c : Curve) (o : Line) {m : Said} (e : m ≡ says o) where
     unfolding leavesOf
     claim-leaves = ap (leavesOf c) (sym l ∙ e)
 
-    pub claim-wrote : {out : List ℕ} {at : ℕ} {out′ : List ℕ} {next : ℕ} → Wrote out at (checkText c y s x ε) out′ next → Wrote out at (claimsProgram .tells c o) out′ next
+    pub claim-wrote : {out : List ℕ} {at : ℕ} {out′ : List ℕ} {next : ℕ} → Wrote out at (checkText c y s x ε) out′ next
+        → Wrote out at (claimsProgram .tells c o) out′ next
     unfolding tellsOf
     claim-wrote {out} {at} {out′} {next} w = subst (λ (q : Said). Wrote out at (tellsOf c q) out′ next) (sym l ∙ e) w
 
 -- ---- a claim upon the first n knots of a table
-pub on-table : (t : Table) (m : EndsBy) (n : ℕ) (table : List Float) (y : Float) (s : ℕ) (x ε : Float) {q : Claimed} → q ≡ claimOf (t .basis) y s x ε (take (n - 0) table)
-    → {out : List ℕ} {at : ℕ} {out′ : List ℕ} {next : ℕ} → Wrote out at (claimText q) out′ next → Wrote out at (checkText (on t m (take n table)) y s x ε) out′ next
+pub on-table : (t : Table) (m : EndsBy) (n : ℕ) (table : List Float) (y : Float) (s : ℕ) (x ε : Float) {q : Claimed}
+    → q ≡ claimOf (t .basis) y s x ε (take (n - 0) table)
+    → {out : List ℕ} {at : ℕ} {out′ : List ℕ} {next : ℕ} → Wrote out at (claimText q) out′ next
+    → Wrote out at (checkText (on t m (take n table)) y s x ε) out′ next
 unfolding checkText
 on-table t m n table y s x ε e {out} {at} {out′} {next} w =
     let z : n - 0 ≡ n = omega arith in

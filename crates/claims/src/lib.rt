@@ -43,7 +43,8 @@ fn of_table(r: Record) -> Record
 
 // The claim of its four fields.
 fn claim_with(y: &[u8], s: &[u8], x: &[u8], e: &[u8]) -> Said
-    ensures { λ r. ⌜ r ≡ claimWith (hexOf (now (y .entry))) (numberIn 4 (now (s .entry))) (hexOf (now (x .entry))) (hexOf (now (e .entry))) ⌝ }
+    ensures { λ r. ⌜ r ≡ claimWith (hexOf (now (y .entry))) (numberIn 4 (now (s .entry))) (hexOf (now (x .entry)))
+        (hexOf (now (e .entry))) ⌝ }
 {
     let Hexed::Is(target) = text::hex(y) else {
         return Said::Listed(Record::Bad);
@@ -158,7 +159,8 @@ fn checked(
 ) -> usize
     requires table { ⌜ (countOf held ≤ places) × (length (now table) ≡ places) ⌝ }
     requires room { ⌜ at + longest ≤ length (now out) ⌝ }
-    ensures wrote { λ r. ⌜ Wrote (now (out .entry)) at (checkText (curveOf held (now (table .entry))) y s x precision) (now (out .exit)) r ⌝ }
+    ensures wrote { λ r. ⌜ Wrote (now (out .entry)) at (checkText (curveOf held (now (table .entry))) y s x precision) (now (out .exit))
+        r ⌝ }
     ensures short { λ r. ⌜ r ≤ at + longest ⌝ }
 {
     match held {
@@ -187,9 +189,11 @@ pub fn line(
     requires line { ⌜ length (now line) ≡ widest ⌝ }
     requires table { ⌜ (countOf held ≤ places) × (length (now table) ≡ places) × (length (now turned) ≡ places) ⌝ }
     requires room { ⌜ at + longest ≤ length (now out) ⌝ }
-    ensures state { λ r. ⌜ curveOf (r .held) (now (table .exit)) ≡ claimsProgram .after (curveOf held (now (table .entry))) (openOf len (now (line .entry))) ⌝ }
+    ensures state { λ r. ⌜ curveOf (r .held) (now (table .exit)) ≡ claimsProgram .after (curveOf held (now (table .entry)))
+        (openOf len (now (line .entry))) ⌝ }
     ensures few { λ r. ⌜ countOf (r .held) ≤ places ⌝ }
-    ensures wrote { λ r. ⌜ Wrote (now (out .entry)) at (claimsProgram .tells (curveOf held (now (table .entry))) (openOf len (now (line .entry)))) (now (out .exit)) (r .at) ⌝ }
+    ensures wrote { λ r. ⌜ Wrote (now (out .entry)) at
+        (claimsProgram .tells (curveOf held (now (table .entry))) (openOf len (now (line .entry)))) (now (out .exit)) (r .at) ⌝ }
     ensures short { λ r. ⌜ r .at ≤ at + longest ⌝ }
 {
     let told = said_of(len, line);

@@ -3,7 +3,21 @@
 use mathlib.Core.Path.{_≡_, refl, sym, ap, subst, _∙_}
 use mathlib.Core.Logic.{_⊎_, inl, inr}
 use mathlib.Core.Bool.{Bool, true, false, cond}
-use mathlib.Core.List.{List, [], _∷_, _++_, List·Memᴰ, List·Memᴰ·head, List·Memᴰ·tail, List·Memᴰ·not-nil, List·Memᴰ·cases-cons, List·Memᴰ·append-cases, List·Memᴰ·eq-of-singleton, Memᴰ·append-left, Memᴰ·append-right}
+use mathlib.Core.List.{
+  List,
+  [],
+  _∷_,
+  _++_,
+  List·Memᴰ,
+  List·Memᴰ·head,
+  List·Memᴰ·tail,
+  List·Memᴰ·not-nil,
+  List·Memᴰ·cases-cons,
+  List·Memᴰ·append-cases,
+  List·Memᴰ·eq-of-singleton,
+  Memᴰ·append-left,
+  Memᴰ·append-right,
+}
 use Prim.Native.Nat.{ℕ, zero, suc, _+_, _-_, _≤_, _<_}
 use native.Mathlib.Omega.{arith}
 use borrow.Author.Tests.{eq-eqb, ne-eqb, eqb-true, eqb-false}
@@ -154,7 +168,8 @@ deeper k ks ls (knot j a b) p = (
 )
 deeper k ks ls (only j a) p = (omega (arith, p .0), go (p .1))
   where
-    go : ((length (drop 1 ls) ≤ j - suc k) × (j - suc k < length (drop 1 ks)) × (a ≡ getD (drop 1 ks) (j - suc k) 0)) ⊎ ((length (drop 1 ks) ≤ j - suc k) × (j - suc k < length (drop 1 ls)) × (a ≡ getD (drop 1 ls) (j - suc k) 0))
+    go : ((length (drop 1 ls) ≤ j - suc k) × (j - suc k < length (drop 1 ks)) × (a ≡ getD (drop 1 ks) (j - suc k) 0)) ⊎
+        ((length (drop 1 ks) ≤ j - suc k) × (j - suc k < length (drop 1 ls)) × (a ≡ getD (drop 1 ls) (j - suc k) 0))
         → ((length ls ≤ j - k) × (j - k < length ks) × (a ≡ getD ks (j - k) 0)) ⊎ ((length ks ≤ j - k) × (j - k < length ls) × (a ≡ getD ls (j - k) 0))
     go (inl q) = inl (beyond k j ls (p .0) (q .0), further k j ks (p .0) (q .1), next-at k j ks a (p .0) (q .2))
     go (inr q) = inr (beyond k j ks (p .0) (q .0), further k j ls (p .0) (q .1), next-at k j ls a (p .0) (q .2))
@@ -257,7 +272,8 @@ module _ (t : Table) (ks : List ℕ) (u : Table) (ls : List ℕ) where
       z : 0 + i ≡ i
       z = omega arith
 
-      go : ((length ls ≤ i) × (i < length ks) × (a ≡ getD ks i 0)) ⊎ ((length ks ≤ i) × (i < length ls) × (a ≡ getD ls i 0)) → List·Memᴰ (only i a) (knotsFrom 0 ks ls)
+      go : ((length ls ≤ i) × (i < length ks) × (a ≡ getD ks i 0)) ⊎ ((length ks ≤ i) × (i < length ls) × (a ≡ getD ls i 0))
+          → List·Memᴰ (only i a) (knotsFrom 0 ks ls)
       go (inl q) = rw (q .2) (rw z at (old-in 0 i ks ls (q .0) (q .1)))
       go (inr q) = rw (q .2) (rw z at (new-in 0 i ks ls (q .0) (q .1)))
 
@@ -290,7 +306,8 @@ before i [] ys d e r m = absurd (List·Memᴰ·not-nil m)
 before i (x ∷ xs) ys d e r m = go (before (suc (orderOf x)) xs ys d e (r .1)) (List·Memᴰ·cases-cons m)
   where
     go : (List·Memᴰ e xs → orderOf e < orderOf d) → (e ≡ x) ⊎ List·Memᴰ e xs → orderOf e < orderOf d
-    go ih (inl q) = let l : suc (orderOf x) ≤ orderOf d = above (suc (orderOf x)) (xs ++ (d ∷ ys)) d (r .1) (Memᴰ·append-right xs (List·Memᴰ·head refl)) in rw q (omega arith)
+    go ih (inl q) = let l : suc (orderOf x) ≤ orderOf d = above (suc (orderOf x)) (xs ++ (d ∷ ys)) d (r .1) (Memᴰ·append-right xs (List·Memᴰ·head refl))
+        in rw q (omega arith)
     go ih (inr q) = ih q
 
 behind : (i : ℕ) (xs ys : List Difference) (d : Difference) → Ordered i (xs ++ (d ∷ ys)) → Ordered (suc (orderOf d)) ys

@@ -11,7 +11,20 @@ use lib.ListN.{length, getD, drop, drop-of-length-le}
 use lib.Seq.{drop-cons}
 use Rattle.basis.specs.declared.Basis.{Basis}
 use Rattle.table.specs.declared.Table.{Table}
-use Rattle.compare.specs.Differences.{Difference, basis, span, knot, only, rankOf, basisDifference, spanDifference, knotsFrom, differencesOf, newAt, rebuilt}
+use Rattle.compare.specs.Differences.{
+  Difference,
+  basis,
+  span,
+  knot,
+  only,
+  rankOf,
+  basisDifference,
+  spanDifference,
+  knotsFrom,
+  differencesOf,
+  newAt,
+  rebuilt,
+}
 use Rattle.compare.proofs.Listed.{orderOf, Ordered, knots-ordered}
 
 -- a place below all that are listed is as it was
@@ -65,7 +78,9 @@ heads i t u ds a = outer (eqb (rankOf (t .basis)) (rankOf (u .basis)))
     inner true = refl
     inner false = refl
 
-    outer : (p : Bool) → newAt i (cond p [] (basis (t .basis) (u .basis) ∷ []) ++ (cond (eqb (t .span) (u .span)) [] (span (t .span) (u .span) ∷ [])) ++ ds) a ≡ newAt i ds a
+    outer : (p : Bool)
+        → newAt i (cond p [] (basis (t .basis) (u .basis) ∷ []) ++ (cond (eqb (t .span) (u .span)) [] (span (t .span) (u .span) ∷ [])) ++ ds) a ≡ newAt i ds
+        a
     outer true = inner (eqb (t .span) (u .span))
     outer false = inner (eqb (t .span) (u .span))
 

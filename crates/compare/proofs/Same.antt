@@ -56,7 +56,9 @@ module _ (t : Table) (ks : List ℕ) (u : Table) (ls : List ℕ) where
   unfolding differencesOf basisDifference spanDifference placesIn
   places-counted = go (eqb (rankOf (t .basis)) (rankOf (u .basis))) (eqb (t .span) (u .span))
     where
-      go : (p q : Bool) → placesIn (cond p [] (basis (t .basis) (u .basis) ∷ []) ++ cond q [] (span (t .span) (u .span) ∷ []) ++ knotsFrom 0 ks ls) ≡ placesIn (knotsFrom 0 ks ls)
+      go : (p q : Bool)
+          → placesIn (cond p [] (basis (t .basis) (u .basis) ∷ []) ++ cond q [] (span (t .span) (u .span) ∷ []) ++ knotsFrom 0 ks ls) ≡ placesIn
+          (knotsFrom 0 ks ls)
       go true true = refl
       go true false = refl
       go false true = refl

@@ -61,7 +61,8 @@ module _ (i : ℕ) (ks ls : List ℕ) where
   place-new h = rw (le-ltb i (length ks) h) refl
 
   -- the places from i on are place i and those behind it
-  pub place-first : (length ks ≤ i → i < length ls) → knotsFrom i (drop i ks) (drop i ls) ≡ atPlace i ks ls ++ knotsFrom (suc i) (drop (suc i) ks) (drop (suc i) ls)
+  pub place-first : (length ks ≤ i → i < length ls)
+      → knotsFrom i (drop i ks) (drop i ls) ≡ atPlace i ks ls ++ knotsFrom (suc i) (drop (suc i) ks) (drop (suc i) ls)
   unfolding knotsFrom
   place-first f = old (ltb i (length ks)) refl
     where
@@ -118,7 +119,9 @@ module _ (ks ls : List ℕ) where
   unfolding knotsFrom
   upto-all i {o} {o′} {at} {r} h g u =
       let e : u .told ≡ knotsFrom 0 ks ls =
-      sym (append-nil (u .told)) ∙ ap (λ (ds : List Difference). u .told ++ ds) (sym (ends (drop i ks) (drop i ls) (drop-of-length-le ks {i = i} h) (drop-of-length-le ls {i = i} g))) ∙ u .whole in
+      sym (append-nil (u .told))
+      ∙ ap (λ (ds : List Difference). u .told ++ ds)
+      (sym (ends (drop i ks) (drop i ls) (drop-of-length-le ks {i = i} h) (drop-of-length-le ls {i = i} g))) ∙ u .whole in
       (subst (λ (ds : List Difference). Wrote o at (linesText ds) o′ r) e (u .wrote), u .count ∙ ap (λ (ds : List Difference). placesIn ds) e)
     where
       ends : (a b : List ℕ) → a ≡ [] → b ≡ [] → knotsFrom i a b ≡ []

@@ -19,7 +19,8 @@ longest = 180284
 abbrev pub atPlace : ℕ → List ℕ → List ℕ → List Difference
 atPlace i ks ls =
     cond (ltb i (length ks))
-    (cond (ltb i (length ls)) (cond (eqb (getD ks i 0) (getD ls i 0)) [] (knot i (getD ks i 0) (getD ls i 0) ∷ [])) (only i (getD ks i 0) ∷ []))
+    (cond (ltb i (length ls)) (cond (eqb (getD ks i 0) (getD ls i 0)) [] (knot i (getD ks i 0) (getD ls i 0) ∷ []))
+    (only i (getD ks i 0) ∷ []))
     (only i (getD ls i 0) ∷ [])
 
 -- the last line, by whether nothing was written before it, and by how many places were told

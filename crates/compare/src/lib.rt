@@ -92,7 +92,8 @@ fn put_only(out: &mut [u8], at: usize, i: usize, knot: u64) -> usize
 // The line of place i, which one of the tables has at least, where they differ there; n places were told before.
 fn put_place(out: &mut [u8], at: usize, n: u32, i: usize, old: &[u64], new: &[u64]) -> Counted
     requires { ⌜ (n ≤ i) × (i < most) × (at + 44 ≤ length (now out)) × (length (now old) ≤ i → i < length (now new)) ⌝ }
-    ensures wrote { λ r. ⌜ Wrote (now (out .entry)) at (linesText (atPlace i (now (old .entry)) (now (new .entry)))) (now (out .exit)) (r .at) ⌝ }
+    ensures wrote { λ r. ⌜ Wrote (now (out .entry)) at (linesText (atPlace i (now (old .entry)) (now (new .entry)))) (now (out .exit))
+        (r .at) ⌝ }
     ensures count { λ r. ⌜ r .places ≡ n + placesIn (atPlace i (now (old .entry)) (now (new .entry))) ⌝ }
     ensures short { λ r. ⌜ (r .at ≤ at + 44) × (r .places ≤ i + 1) ⌝ }
 {
@@ -127,7 +128,8 @@ fn longer(m: usize, n: usize) -> usize
 // The lines of all places, lowest first.
 fn put_places(out: &mut [u8], at: usize, old: &[u64], new: &[u64]) -> Counted
     requires { ⌜ (length (now old) ≤ most) × (length (now new) ≤ most) × (at + 180224 ≤ length (now out)) ⌝ }
-    ensures wrote { λ r. ⌜ Wrote (now (out .entry)) at (linesText (knotsFrom 0 (now (old .entry)) (now (new .entry)))) (now (out .exit)) (r .at) ⌝ }
+    ensures wrote { λ r. ⌜ Wrote (now (out .entry)) at (linesText (knotsFrom 0 (now (old .entry)) (now (new .entry)))) (now (out .exit))
+        (r .at) ⌝ }
     ensures count { λ r. ⌜ r .places ≡ placesIn (knotsFrom 0 (now (old .entry)) (now (new .entry))) ⌝ }
     ensures short { λ r. ⌜ (r .at ≤ at + 180224) × (r .places ≤ most) ⌝ }
 {
@@ -168,7 +170,8 @@ pub fn put_comparison(
     at: usize,
 ) -> usize
     requires { ⌜ (length (now old) ≤ most) × (length (now new) ≤ most) × (at + longest ≤ length (now out)) ⌝ }
-    ensures { λ r. ⌜ Wrote (now (out .entry)) at (comparisonText t (now (old .entry)) u (now (new .entry))) (now (out .exit)) r × (r ≤ at + longest) ⌝ }
+    ensures { λ r. ⌜ Wrote (now (out .entry)) at (comparisonText t (now (old .entry)) u (now (new .entry))) (now (out .exit)) r
+        × (r ≤ at + longest) ⌝ }
 {
     let b = t.basis;
     let c = u.basis;

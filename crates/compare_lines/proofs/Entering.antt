@@ -19,7 +19,22 @@ use Rattle.compare_lines.specs.declared.Said.{Said}
 use Rattle.compare_lines.specs.declared.Said.the-variants.{Span, Knot}
 use Rattle.compare_lines.specs.declared.Took.{Took}
 use Rattle.compare_lines.specs.Said.{isOther}
-use Rattle.compare_lines.specs.Listings.{Listing, none, on, places, heard, entered, Both, before, parted, verdictOf, afterOf, verdictText, says, compareProgram}
+use Rattle.compare_lines.specs.Listings.{
+  Listing,
+  none,
+  on,
+  places,
+  heard,
+  entered,
+  Both,
+  before,
+  parted,
+  verdictOf,
+  afterOf,
+  verdictText,
+  says,
+  compareProgram,
+}
 use Rattle.compare_lines.specs.Held.{bothOf, Takes}
 
 module _ (t : Table) (n x : ℕ) (knots : List ℕ) where

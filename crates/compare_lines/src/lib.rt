@@ -296,9 +296,12 @@ pub fn line(
     requires line { ⌜ length (now line) ≡ widest ⌝ }
     requires listings { ⌜ (countOf h ≤ places) × (length (now old) ≡ places) × (length (now new) ≡ places) ⌝ }
     requires room { ⌜ at + 18 ≤ length (now out) ⌝ }
-    ensures state { λ r. ⌜ bothOf (r .held) (now (old .exit)) (now (new .exit)) ≡ compareProgram .after (bothOf h (now (old .entry)) (now (new .entry))) (openOf len (now (line .entry))) ⌝ }
+    ensures state { λ r. ⌜ bothOf (r .held) (now (old .exit)) (now (new .exit)) ≡ compareProgram .after
+        (bothOf h (now (old .entry)) (now (new .entry))) (openOf len (now (line .entry))) ⌝ }
     ensures few { λ r. ⌜ countOf (r .held) ≤ places ⌝ }
-    ensures wrote { λ r. ⌜ Wrote (now (out .entry)) at (compareProgram .tells (bothOf h (now (old .entry)) (now (new .entry))) (openOf len (now (line .entry)))) (now (out .exit)) (r .at) ⌝ }
+    ensures wrote { λ r. ⌜ Wrote (now (out .entry)) at
+        (compareProgram .tells (bothOf h (now (old .entry)) (now (new .entry))) (openOf len (now (line .entry)))) (now (out .exit))
+        (r .at) ⌝ }
     ensures short { λ r. ⌜ r .at ≤ at + 18 ⌝ }
 {
     let s = said_by(len, line);
@@ -322,8 +325,10 @@ fn end_on(
     out: &mut [u8],
     at: usize,
 ) -> usize
-    requires { ⌜ (n ≤ places) × (knotsOf l ≤ places) × (length (now old) ≡ places) × (length (now new) ≡ places) × (at + longest ≤ length (now out)) ⌝ }
-    ensures { λ r. ⌜ Wrote (now (out .entry)) at (endsOf (parted (on t (take n (now (old .entry)))) (listingOf l (now (new .entry))))) (now (out .exit)) r × (r ≤ at + longest) ⌝ }
+    requires { ⌜ (n ≤ places) × (knotsOf l ≤ places) × (length (now old) ≡ places) × (length (now new) ≡ places)
+        × (at + longest ≤ length (now out)) ⌝ }
+    ensures { λ r. ⌜ Wrote (now (out .entry)) at (endsOf (parted (on t (take n (now (old .entry)))) (listingOf l (now (new .entry)))))
+        (now (out .exit)) r × (r ≤ at + longest) ⌝ }
 {
     match l {
         Listing::Nothing => lines_reply::put_refused(out, at, Refusal::NoComparison),
@@ -333,8 +338,10 @@ fn end_on(
 
 // The end after an `other`.
 fn end_parted(k: Listing, l: Listing, old: &[u64], new: &[u64], out: &mut [u8], at: usize) -> usize
-    requires { ⌜ (knotsOf k ≤ places) × (knotsOf l ≤ places) × (length (now old) ≡ places) × (length (now new) ≡ places) × (at + longest ≤ length (now out)) ⌝ }
-    ensures { λ r. ⌜ Wrote (now (out .entry)) at (endsOf (parted (listingOf k (now (old .entry))) (listingOf l (now (new .entry))))) (now (out .exit)) r × (r ≤ at + longest) ⌝ }
+    requires { ⌜ (knotsOf k ≤ places) × (knotsOf l ≤ places) × (length (now old) ≡ places) × (length (now new) ≡ places)
+        × (at + longest ≤ length (now out)) ⌝ }
+    ensures { λ r. ⌜ Wrote (now (out .entry)) at (endsOf (parted (listingOf k (now (old .entry))) (listingOf l (now (new .entry)))))
+        (now (out .exit)) r × (r ≤ at + longest) ⌝ }
 {
     match k {
         Listing::Nothing => lines_reply::put_refused(out, at, Refusal::NoComparison),
@@ -345,7 +352,8 @@ fn end_parted(k: Listing, l: Listing, old: &[u64], new: &[u64], out: &mut [u8], 
 // The end of the input: what differs, or 20 in its place.
 pub fn end(h: Held, old: &[u64], new: &[u64], out: &mut [u8], at: usize) -> usize
     requires { ⌜ (countOf h ≤ places) × (length (now old) ≡ places) × (length (now new) ≡ places) × (at + longest ≤ length (now out)) ⌝ }
-    ensures { λ r. ⌜ Wrote (now (out .entry)) at (endsOf (bothOf h (now (old .entry)) (now (new .entry)))) (now (out .exit)) r × (r ≤ at + longest) ⌝ }
+    ensures { λ r. ⌜ Wrote (now (out .entry)) at (endsOf (bothOf h (now (old .entry)) (now (new .entry)))) (now (out .exit)) r
+        × (r ≤ at + longest) ⌝ }
 {
     match h {
         Held::Before(_) => lines_reply::put_refused(out, at, Refusal::NoComparison),

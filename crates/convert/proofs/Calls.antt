@@ -31,12 +31,14 @@ pub record Told (t : Conversion) (r : Converted) (out out′ : List Float) : Typ
 told-refusal : {t : Conversion} (r : Refusal) (out : List Float) → t ≡ refuses r → Told t (Refused r) out out
 told-refusal r out e = record { answer = sym (ap answerOf e); buffer = sym (ap (λ (x : Conversion). bufferOf x out) e) }
 
-told-gift : {t : Conversion} (l : List Float) (n : ℕ) (out out′ : List Float) → t ≡ gives l → n ≡ length l → out′ ≡ bufferOf (gives l) out → Told t (Written n) out out′
+told-gift : {t : Conversion} (l : List Float) (n : ℕ) (out out′ : List Float) → t ≡ gives l → n ≡ length l → out′ ≡ bufferOf (gives l) out
+    → Told t (Written n) out out′
 told-gift l n out out′ e p q = record { answer = ap Written p ∙ sym (ap answerOf e); buffer = q ∙ sym (ap (λ (x : Conversion). bufferOf x out) e) }
 
 -- ---- one segment
 module _ (from to : Basis) (cv out : List Float) where
-  pub segment-refused : (r : Refusal) → first (convertSegmentUses to cv (length out)) ≡ Failed r → Told (convertedSegmentOf from to cv (length out)) (Refused r) out out
+  pub segment-refused : (r : Refusal) → first (convertSegmentUses to cv (length out)) ≡ Failed r
+      → Told (convertedSegmentOf from to cv (length out)) (Refused r) out out
   unfolding convertedSegmentOf
   segment-refused r e = told-refusal r out (ap (λ (v : Verdict). unless v (segmentOutput from to cv)) e)
 

@@ -46,7 +46,8 @@ four-at-most Linear = lit≤ tt
 four-at-most Power = lit≤ tt
 
 -- a curve's output has 4 + (k − 1)·STEP_out doubles, and they fit
-pub spline-length : (from to : Basis) (ks : List Float) (room : ℕ) (l : List Float) → convertedOf from to ks room ≡ gives l → (length l ≡ outputLength from to (length ks)) × (length l ≤ room)
+pub spline-length : (from to : Basis) (ks : List Float) (room : ℕ) (l : List Float) → convertedOf from to ks room ≡ gives l
+    → (length l ≡ outputLength from to (length ks)) × (length l ≤ room)
 unfolding convertedOf splineOutput
 spline-length from to ks room l e =
     let g = given (first (convertUses from to ks room)) e in
@@ -55,7 +56,8 @@ spline-length from to ks room l e =
     (n, le-trans (le-of-eq n) (spline-passed from to ks room (g .0) .1 .enough))
 
 -- a segment's has four
-pub segment-length : (from to : Basis) (cv : List Float) (room : ℕ) (l : List Float) → convertedSegmentOf from to cv room ≡ gives l → (length l ≡ 4) × (length l ≤ room)
+pub segment-length : (from to : Basis) (cv : List Float) (room : ℕ) (l : List Float) → convertedSegmentOf from to cv room ≡ gives l
+    → (length l ≡ 4) × (length l ≤ room)
 unfolding convertedSegmentOf segmentOutput
 segment-length from to cv room l e =
     let g = given (first (convertSegmentUses to cv room)) e in

@@ -34,7 +34,8 @@ module _ (from to : Basis) (ks : List Float) (room : ℕ) {l : Verdict} (e : l �
   pub spline-stops : {r : Refusal} → l ≡ Failed r → l ≡ first (convertUses from to ks room)
   spline-stops k = stops (convertUses from to ks room) e k
 
-  pub spline-goes-on : {w : Verdict} {need : ℕ} → l ≡ Passed → need ≡ outputLength from to (length ks) → w ≡ first (outputUses to ks need room) → w ≡ first (convertUses from to ks room)
+  pub spline-goes-on : {w : Verdict} {need : ℕ} → l ≡ Passed → need ≡ outputLength from to (length ks) → w ≡ first (outputUses to ks need room)
+      → w ≡ first (convertUses from to ks room)
   spline-goes-on k n h = goes-on (convertUses from to ks room) e k (h ∙ ap (λ (x : ℕ). first (outputUses to ks x room)) n)
 
 -- ---- where no row applies
@@ -51,7 +52,8 @@ segment-passed to cv room e =
     let most : length cv ≤ 4 = ltb-false 4 (length cv) (p 2) in
     (omega arith, record { invertible = p 8; enough = ltb-false room 4 (p 9); in-range = not-false (allInRange cv) (p 4) })
 
-pub spline-passed : (from to : Basis) (ks : List Float) (room : ℕ) → first (convertUses from to ks room) ≡ Passed → Length (length ks) × Room to ks (outputLength from to (length ks)) room
+pub spline-passed : (from to : Basis) (ks : List Float) (room : ℕ) → first (convertUses from to ks room) ≡ Passed
+    → Length (length ks) × Room to ks (outputLength from to (length ks)) room
 spline-passed from to ks room e =
     let p = clear (convertUses from to ks room) e in
     let n = length ks in (

@@ -30,7 +30,8 @@ module _ (o : List Float) (at : ℕ) (w : Weights) (gap : ℕ) where
       let q : at + 2 ≡ suc (suc at) = omega arith in
       rw (e, p, q) (sets-eq (w .w1 ∷ w .w2 ∷ w .w3 ∷ []) o at (rw e at h))
 
-  pub put-4 : gap ≡ 4 → at + gap ≤ length o → set (set (set (set o at (w .w0)) (at + 1) (w .w1)) (at + 2) (w .w2)) (at + 3) (w .w3) ≡ placed at (drop (4 - gap) (listOf w)) o
+  pub put-4 : gap ≡ 4 → at + gap ≤ length o
+      → set (set (set (set o at (w .w0)) (at + 1) (w .w1)) (at + 2) (w .w2)) (at + 3) (w .w3) ≡ placed at (drop (4 - gap) (listOf w)) o
   put-4 e h =
       let p : at + 1 ≡ suc at = omega arith in
       let q : at + 2 ≡ suc (suc at) = omega arith in
@@ -64,7 +65,8 @@ module _ (m : Matrix) (step gap : ℕ) (ks : List Float) where
       ∙ omega (arith, suc-mul n gap)
 
   -- the first window
-  pub first-window : (w : Weights) (o out : List Float) → w ≡ weightsOf m ks → out ≡ placed 0 (drop (4 - 4) (listOf w)) o → out ≡ windows m step gap ks 0 ++ drop 4 o
+  pub first-window : (w : Weights) (o out : List Float) → w ≡ weightsOf m ks → out ≡ placed 0 (drop (4 - 4) (listOf w)) o
+      → out ≡ windows m step gap ks 0 ++ drop 4 o
   unfolding windows
   first-window w o out p q =
       q

@@ -17,7 +17,8 @@ pub enum Converted {
 
 // Writes four.
 pub fn convert_segment(from: Basis, to: Basis, cv: &[f64], out: &mut [f64]) -> Converted
-    ensures { λ r. ⌜ (r ≡ answerOf (convertedSegmentOf from to (now (cv .entry)) (length (now (out .entry))))) × (now (out .exit) ≡ bufferOf (convertedSegmentOf from to (now (cv .entry)) (length (now (out .entry)))) (now (out .entry))) ⌝ }
+    ensures { λ r. ⌜ (r ≡ answerOf (convertedSegmentOf from to (now (cv .entry)) (length (now (out .entry)))))
+        × (now (out .exit) ≡ bufferOf (convertedSegmentOf from to (now (cv .entry)) (length (now (out .entry)))) (now (out .entry))) ⌝ }
 {
     let v = refusals::segment_verdict(to, cv, out.len());
     match v {
@@ -32,7 +33,8 @@ pub fn convert_segment(from: Basis, to: Basis, cv: &[f64], out: &mut [f64]) -> C
 
 // Writes 4 + (k - 1) * STEP of the output's basis.
 pub fn convert_spline(from: Basis, to: Basis, knots: &[f64], out: &mut [f64]) -> Converted
-    ensures { λ r. ⌜ (r ≡ answerOf (convertedOf from to (now (knots .entry)) (length (now (out .entry))))) × (now (out .exit) ≡ bufferOf (convertedOf from to (now (knots .entry)) (length (now (out .entry)))) (now (out .entry))) ⌝ }
+    ensures { λ r. ⌜ (r ≡ answerOf (convertedOf from to (now (knots .entry)) (length (now (out .entry)))))
+        × (now (out .exit) ≡ bufferOf (convertedOf from to (now (knots .entry)) (length (now (out .entry)))) (now (out .entry))) ⌝ }
 {
     let v = refusals::spline_verdict(from, to, knots, out.len());
     match v {

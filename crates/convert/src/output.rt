@@ -42,8 +42,12 @@ pub fn put_windows(
     gap: usize,
     out: &mut [f64],
 ) -> usize
-    requires { ⌜ (0 < step) × (0 < gap) × (gap ≤ 4) × (4 ≤ length (now knots)) × (length (now knots) ≤ 4096) × (4 + (length (now knots) - 4) / step * gap ≤ length (now out)) ⌝ }
-    ensures { λ r. ⌜ (r ≡ 4 + (length (now (knots .entry)) - 4) / step * gap) × (now (out .exit) ≡ bufferOf (gives (windows (now (m .entry)) step gap (now (knots .entry)) ((length (now (knots .entry)) - 4) / step))) (now (out .entry))) ⌝ }
+    requires { ⌜ (0 < step) × (0 < gap) × (gap ≤ 4) × (4 ≤ length (now knots)) × (length (now knots) ≤ 4096)
+        × (4 + (length (now knots) - 4) / step * gap ≤ length (now out)) ⌝ }
+    ensures { λ r. ⌜ (r ≡ 4 + (length (now (knots .entry)) - 4) / step * gap)
+        × (now (out .exit) ≡ bufferOf
+        (gives (windows (now (m .entry)) step gap (now (knots .entry)) ((length (now (knots .entry)) - 4) / step)))
+        (now (out .entry))) ⌝ }
 {
     let last = (knots.len() - 4) / step;
     put_last(&mut *out, 0, spline::segment::sums(*m, knots), 4);

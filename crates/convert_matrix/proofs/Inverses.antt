@@ -37,7 +37,8 @@ each f h b =
     let h3 = and-r (f Bezier) t3 h2 in
     let h4 = and-r (f CatmullRom) t4 h3 in
     let h5 = and-r (f Hermite) t5 h4 in
-    go (and-l (f Bspline) t2 h) (and-l (f Bezier) t3 h2) (and-l (f CatmullRom) t4 h3) (and-l (f Hermite) t5 h4) (and-l (f Linear) (f Power) h5) (and-r (f Linear) (f Power) h5) b
+    go (and-l (f Bspline) t2 h) (and-l (f Bezier) t3 h2) (and-l (f CatmullRom) t4 h3) (and-l (f Hermite) t5 h4) (and-l (f Linear) (f Power) h5)
+    (and-r (f Linear) (f Power) h5) b
   where
     go : T (f Bspline) → T (f Bezier) → T (f CatmullRom) → T (f Hermite) → T (f Linear) → T (f Power) → (b : Basis) → T (f b)
     go p q r s t u Bspline = p
@@ -80,4 +81,5 @@ pub conversion-clean : (from to : Basis) → T (clean (conversionOf from to))
 conversion-clean from to = and-l (clean (conversionOf from to)) (smallMatrix 3 (conversionOf from to)) (conversion-tame from to)
 
 pub conversion-small : (from to : Basis) → Small 3 (conversionOf from to)
-conversion-small from to = small-matrix 3 (conversionOf from to) (and-r (clean (conversionOf from to)) (smallMatrix 3 (conversionOf from to)) (conversion-tame from to))
+conversion-small from to =
+    small-matrix 3 (conversionOf from to) (and-r (clean (conversionOf from to)) (smallMatrix 3 (conversionOf from to)) (conversion-tame from to))

@@ -13,7 +13,28 @@ use Rattle.convert_matrix.specs.declared.Inverse.{Inverse}
 use Rattle.convert_matrix.specs.declared.Pivot.{Pivot}
 use Rattle.convert_matrix.specs.declared.Pivot.the-variants.{Row, Missing}
 use Rattle.convert_matrix.specs.Matrix.{Matrix, row, entry, rowTimes, product}
-use Rattle.convert_matrix.specs.Elimination.{Elimination, goes, no-inverse, isZero, widened, firstNonzero, pivotOf, swapped, divided, reduced, clearedRow, cleared, then, withPivot, columns, rightHalf, inverse, rowsOf, inverseOf, conversionOf}
+use Rattle.convert_matrix.specs.Elimination.{
+  Elimination,
+  goes,
+  no-inverse,
+  isZero,
+  widened,
+  firstNonzero,
+  pivotOf,
+  swapped,
+  divided,
+  reduced,
+  clearedRow,
+  cleared,
+  then,
+  withPivot,
+  columns,
+  rightHalf,
+  inverse,
+  rowsOf,
+  inverseOf,
+  conversionOf,
+}
 use Rattle.convert_matrix.specs.Shown.{shown, Found}
 
 pub listed : {A : Type 0} {a b c d a′ b′ c′ d′ : A} → a ≡ a′ → b ≡ b′ → c ≡ c′ → d ≡ d′ → a ∷ b ∷ c ∷ d ∷ [] ≡ a′ ∷ b′ ∷ c′ ∷ d′ ∷ []
@@ -83,7 +104,8 @@ module _ (a : Matrix) (i : ℕ) where
   all-done h = ap (λ (is : List ℕ). columns is a) (from-end i h)
 
 -- the answer from the last column
-pub answers : (m : Matrix) (a : Matrix) (e : Elimination) → a ≡ widened m → e ≡ columns (from 0) a → shown (then e (λ a. goes (rightHalf a))) ≡ shown (inverse m)
+pub answers : (m : Matrix) (a : Matrix) (e : Elimination) → a ≡ widened m → e ≡ columns (from 0) a
+    → shown (then e (λ a. goes (rightHalf a))) ≡ shown (inverse m)
 unfolding inverse
 answers m a e p q = ap (λ (x : Elimination). shown (then x (λ a. goes (rightHalf a)))) (q ∙ ap (columns (from 0)) p)
 
@@ -96,7 +118,9 @@ module _ (from to : Basis) {b : Matrix} (e : b ≡ matrixOf from) where
   pub conversion-row : (i : ℕ) {r v : List Float} → r ≡ row (inverseOf to) i → v ≡ rowTimes r b → v ≡ rowTimes (row (inverseOf to) i) (matrixOf from)
   conversion-row i {r} p q = q ∙ ap (λ (x : List Float). rowTimes x b) p ∙ ap (rowTimes (row (inverseOf to) i)) e
 
-pub conversion : (from to : Basis) {r0 r1 r2 r3 : List Float} → r0 ≡ rowTimes (row (inverseOf to) 0) (matrixOf from) → r1 ≡ rowTimes (row (inverseOf to) 1) (matrixOf from)
-    → r2 ≡ rowTimes (row (inverseOf to) 2) (matrixOf from) → r3 ≡ rowTimes (row (inverseOf to) 3) (matrixOf from) → r0 ∷ r1 ∷ r2 ∷ r3 ∷ [] ≡ conversionOf from to
+pub conversion : (from to : Basis) {r0 r1 r2 r3 : List Float} → r0 ≡ rowTimes (row (inverseOf to) 0) (matrixOf from)
+    → r1 ≡ rowTimes (row (inverseOf to) 1) (matrixOf from)
+    → r2 ≡ rowTimes (row (inverseOf to) 2) (matrixOf from) → r3 ≡ rowTimes (row (inverseOf to) 3) (matrixOf from)
+    → r0 ∷ r1 ∷ r2 ∷ r3 ∷ [] ≡ conversionOf from to
 unfolding conversionOf product
 conversion from to p q r s = listed p q r s

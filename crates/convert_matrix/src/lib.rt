@@ -2,7 +2,21 @@
 ghost use mathlib.Core.Path.{_≡_};
 ghost use Prim.Native.Nat.{_<_};
 ghost use Rattle.convert_matrix.specs.Matrix.{row, rowTimes};
-ghost use Rattle.convert_matrix.specs.Elimination.{widened, pivotOf, swapped, divided, cleared, inverse, inverseOf, conversionOf, rightHalf, reduced, clearedRow, goes, no-inverse};
+ghost use Rattle.convert_matrix.specs.Elimination.{
+  widened,
+  pivotOf,
+  swapped,
+  divided,
+  cleared,
+  inverse,
+  inverseOf,
+  conversionOf,
+  rightHalf,
+  reduced,
+  clearedRow,
+  goes,
+  no-inverse,
+};
 ghost use Rattle.convert_matrix.specs.Shown.{shown, Found};
 use basis::Basis;
 

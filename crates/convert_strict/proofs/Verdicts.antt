@@ -85,7 +85,8 @@ strict a b c d e f g h i s =
 -- those that are decided before the seams
 abbrev allowed : Bool → Bool → Bool → Bool → Bool → Bool → Bool → ℕ → Verdict
 allowed a b c d e f g i =
-    cond a (Failed TooFew) (cond b (Failed BadPattern) (cond c (Failed TooMany) (cond d (Failed LinearOutput) (cond e (Failed BadAllowance) (output f g i Passed)))))
+    cond a (Failed TooFew) (cond b (Failed BadPattern)
+    (cond c (Failed TooMany) (cond d (Failed LinearOutput) (cond e (Failed BadAllowance) (output f g i Passed)))))
 
 stays : (a b c d e f g h : Bool) (i s : ℕ) {r : Refusal} → allowed a b c d e f g i ≡ Failed r → strict a b c d e f g h i s ≡ Failed r
 stays true b c d e f g h i s p = p
@@ -166,7 +167,8 @@ module _ (from to : Basis) (ks : List Float) (allowance : Float) (room : ℕ) wh
       (not (allInRange ks)) (ltb 0 seam) (firstBad ks) seam p
 
   module _ (p : first (allowedUses from to ks allowance room) ≡ Passed) where
-    seam-left : (first (strictUses from to ks allowance room) ≡ cond (ltb 0 seam) (Failed (LostSeam seam)) Passed) × (first (convertUses from to ks room) ≡ Passed)
+    seam-left : (first (strictUses from to ks allowance room) ≡ cond (ltb 0 seam) (Failed (LostSeam seam)) Passed)
+        × (first (convertUses from to ks room) ≡ Passed)
     seam-left = left (ltb number 4) (not (regular from number)) (ltb 4096 number) (isLinear to) (not (allowable allowance)) short
         (not (allInRange ks)) (ltb 0 seam) (firstBad ks) seam p
 

@@ -20,7 +20,8 @@ pub fn convert_spline_strict(
     out: &mut [f64],
 ) -> Converted
     ensures answer { λ r. ⌜ r ≡ answerOf (strictOf from to (now (knots .entry)) allowance (length (now (out .entry)))) ⌝ }
-    ensures buffer { λ _. ⌜ now (out .exit) ≡ bufferOf (strictOf from to (now (knots .entry)) allowance (length (now (out .entry)))) (now (out .entry)) ⌝ }
+    ensures buffer { λ _. ⌜ now (out .exit) ≡ bufferOf (strictOf from to (now (knots .entry)) allowance (length (now (out .entry))))
+        (now (out .entry)) ⌝ }
 {
     let v = refusals::allowed_verdict(from, to, knots, allowance, out.len());
     match v {

@@ -20,7 +20,9 @@ pub fn is_allowance(x: f64) -> bool
 // The rows past the lengths: the allowance comes between the output's basis and its room.
 fn later_verdict(from: Basis, to: Basis, knots: &[f64], allowance: f64, room: usize) -> Verdict
     requires { ⌜ (4 ≤ length (now knots)) × (length (now knots) ≤ 4096) ⌝ }
-    ensures { λ r. ⌜ r ≡ first (outputUses to (now (knots .entry)) (outputLength from to (length (now (knots .entry)))) room ++ (badAllowance allowance ∷ [])) ⌝ }
+    ensures { λ r. ⌜ r ≡ first
+        (outputUses to (now (knots .entry)) (outputLength from to (length (now (knots .entry)))) room ++ (badAllowance allowance ∷ []))
+        ⌝ }
 {
     if basis::is_linear(to) {
         return Verdict::Failed(Refusal::LinearOutput);

@@ -72,6 +72,8 @@ thousandths-back n h =
     let t = (48 + n / 10 / 10 % 10) ∷ (48 + n / 10 % 10) ∷ (48 + n % 10) ∷ [] in
     let l : length w < length (w ++ (POINT ∷ t)) = simp length-append (omega arith) in
     let f : numberIn 9 w ≡ Is (n / 10 / 10 / 10) = number-back 12 8 (n / 10 / 10 / 10) (omega arith) (omega arith) in
-    let g : behindOf t ≡ Is ((((0 * 10 + n / 10 / 10 % 10) * 10 + n / 10 % 10) * 10 + n % 10) * 1) = three (n / 10 / 10 % 10) (n / 10 % 10) (n % 10) (omega arith) (omega arith) (omega arith) in
+    let g : behindOf t ≡ Is ((((0 * 10 + n / 10 / 10 % 10) * 10 + n / 10 % 10) * 10 + n % 10) * 1) =
+    three (n / 10 / 10 % 10) (n / 10 % 10) (n % 10) (omega arith) (omega arith) (omega arith) in
     ap thousandthsOf (fixed-parts n)
-    ∙ rw (point-place t w (dec-digits 12 (n / 10 / 10 / 10)), lt-ltb (length w) (length (w ++ (POINT ∷ t))) l, before-point t w, behind-point t w, f, g) (ap Is (omega arith))
+    ∙ rw (point-place t w (dec-digits 12 (n / 10 / 10 / 10)), lt-ltb (length w) (length (w ++ (POINT ∷ t))) l, before-point t w, behind-point t w, f, g)
+    (ap Is (omega arith))

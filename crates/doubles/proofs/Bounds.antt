@@ -4,7 +4,24 @@
 use mathlib.Core.Path.{_≡_, sym, ap, _∙_, subst}
 use mathlib.Core.Bool.{Bool, true, false, not, _&&_, cond, Bool·beq}
 use Prim.Native.Nat.{ℕ, suc, _+_, _-_, _*_, _^_, _≤_, _<_}
-use native.Mathlib.Nat.{le-trans, le-of-eq, lt-of-le-of-lt, mul-one, one-mul, mul-comm, mul-assoc, mul-right-comm, mul-mul-mul-comm, mul-le-mul-right, mul-le-mul, le-of-mul-le-mul-right, mul-pos, add-mul, add-le-add, two-pow-succ}
+use native.Mathlib.Nat.{
+  le-trans,
+  le-of-eq,
+  lt-of-le-of-lt,
+  mul-one,
+  one-mul,
+  mul-comm,
+  mul-assoc,
+  mul-right-comm,
+  mul-mul-mul-comm,
+  mul-le-mul-right,
+  mul-le-mul,
+  le-of-mul-le-mul-right,
+  mul-pos,
+  add-mul,
+  add-le-add,
+  two-pow-succ,
+}
 use native.Mathlib.Omega.{arith}
 use lib.IntN.{pos}
 use lib.Dec.{T, ltb, lit<, lit≤}
@@ -72,10 +89,12 @@ round-size f s num den a D A h =
     let l = low f in
     let e : 2 ^ a * 2 ^ l ≡ 1 * 2 ^ (a + l) = sym (pow-add 2 a l) ∙ sym (one-mul (2 ^ (a + l))) in
     let g : grid f num den ≤ 2 ^ a * 2 ^ l =
-    le-trans (grid-le f num den 1 (a + l) D (one-digit f) (le-trans (mul-le-mul-right (2 ^ l) h) (le-of-eq (mul-right-comm (2 ^ a) den (2 ^ l) ∙ ap (λ (x : ℕ). x * den) e)))) (le-of-eq (sym e)) in
+    le-trans (grid-le f num den 1 (a + l) D (one-digit f)
+    (le-trans (mul-le-mul-right (2 ^ l) h) (le-of-eq (mul-right-comm (2 ^ a) den (2 ^ l) ∙ ap (λ (x : ℕ). x * den) e)))) (le-of-eq (sym e)) in
     let fine : grid f num den < overflow f = lt-of-le-of-lt g (subst (λ (x : ℕ). x < overflow f) (pow-add 2 a l) (pow-lt (omega arith))) in
     size-of-value (round f s num den) s (grid f num den) (2 ^ l) a (pow-pos l)
-    (subst (λ (x : Float). HasValue x s (grid f num den) (2 ^ l)) (sym (round-is f s num den)) (units-val f s (kept (prec f) (num * 2 ^ l) den) (drop (prec f) (num * 2 ^ l) den) fine)) g
+    (subst (λ (x : Float). HasValue x s (grid f num den) (2 ^ l)) (sym (round-is f s num den))
+    (units-val f s (kept (prec f) (num * 2 ^ l) den) (drop (prec f) (num * 2 ^ l) den) fine)) g
 
 -- ---- the operations
 mul-size : (f : Format) (a b : ℕ) (x y : Float) → a + b ≤ emax f → Size a x → Size b y → Size (a + b) (mul f x y)
@@ -107,7 +126,8 @@ add-size f a (fin s m e) (fin t n d) A v w =
     let de = down e in
     let dd = down d in
     let p : m * up e * dd ≤ 2 ^ a * (de * dd) = le-trans (mul-le-mul-right dd v) (le-of-eq (mul-assoc (2 ^ a) de dd)) in
-    let q : n * up d * de ≤ 2 ^ a * (de * dd) = le-trans (mul-le-mul-right de w) (le-of-eq (mul-assoc (2 ^ a) dd de ∙ ap (λ (x : ℕ). 2 ^ a * x) (mul-comm dd de))) in
+    let q : n * up d * de ≤ 2 ^ a * (de * dd) =
+    le-trans (mul-le-mul-right de w) (le-of-eq (mul-assoc (2 ^ a) dd de ∙ ap (λ (x : ℕ). 2 ^ a * x) (mul-comm dd de))) in
     sum-size f (suc a) s (m * up e * dd) t (n * up d * de) (de * dd) (mul-pos (down-pos e) (down-pos d)) A
     (le-trans (add-le-add p q) (le-of-eq (sym (add-mul (2 ^ a) (2 ^ a) (de * dd)) ∙ ap (λ (x : ℕ). x * (de * dd)) (sym (two-pow-succ a)))))
 
@@ -135,8 +155,10 @@ sized-between : (a : ℕ) (x : Float) → Size a x → T (le (fin true 1 (pos a)
 unfolding le lt eq
 sized-between a nan w = absurd w
 sized-between a (inf s) w = absurd w
-sized-between a (fin true m e) w = (of-Le true (1 * 2 ^ a * down e) true (m * up e * 1) (simp (mul-one, one-mul) w), of-Le true (m * up e * 1) false (1 * 2 ^ a * down e) tt)
-sized-between a (fin false m e) w = (of-Le true (1 * 2 ^ a * down e) false (m * up e * 1) tt, of-Le false (m * up e * 1) false (1 * 2 ^ a * down e) (simp (mul-one, one-mul) w))
+sized-between a (fin true m e) w =
+    (of-Le true (1 * 2 ^ a * down e) true (m * up e * 1) (simp (mul-one, one-mul) w), of-Le true (m * up e * 1) false (1 * 2 ^ a * down e) tt)
+sized-between a (fin false m e) w =
+    (of-Le true (1 * 2 ^ a * down e) false (m * up e * 1) tt, of-Le false (m * up e * 1) false (1 * 2 ^ a * down e) (simp (mul-one, one-mul) w))
 
 pub within-between : {a : ℕ} {x : Float} → Within a x → T (le (fin true 1 (pos a)) x) × T (le x (fin false 1 (pos a)))
 within-between {a} {x} w = sized-between a x (w .held)

@@ -5,7 +5,24 @@ use mathlib.Core.Path.{_≡_, sym, ap, _∙_, subst}
 use mathlib.Core.Logic.{inl, inr}
 use mathlib.Core.Bool.{true, false}
 use Prim.Native.Nat.{ℕ, suc, _+_, _-_, _*_, _/_, _%_, _^_, _≤_, _<_, compare}
-use native.Mathlib.Nat.{le-trans, le-of-eq, lt-of-le-of-lt, lt-of-lt-of-le, mul-one, mul-comm, mul-assoc, mul-right-comm, mul-le-mul-right, mul-le-mul-left, mul-le-mul, le-of-mul-le-mul-right, mul-pos, div-mul-le-self, div-div-eq-div-mul, mul-div-cancel}
+use native.Mathlib.Nat.{
+  le-trans,
+  le-of-eq,
+  lt-of-le-of-lt,
+  lt-of-lt-of-le,
+  mul-one,
+  mul-comm,
+  mul-assoc,
+  mul-right-comm,
+  mul-le-mul-right,
+  mul-le-mul-left,
+  mul-le-mul,
+  le-of-mul-le-mul-right,
+  mul-pos,
+  div-mul-le-self,
+  div-div-eq-div-mul,
+  mul-div-cancel,
+}
 use native.Mathlib.Omega.{arith}
 use lib.IntN.{ℤ}
 use lib.Dec.{T, ltb→lt, lit<, lit≤}
@@ -51,14 +68,21 @@ part f x a b B h =
           let Q : x < 2 ^ p = subst (λ (z : ℕ). z < 2 ^ p) e (lt-of-lt-of-le (size-lt w) (pow-mono few)) in
           let D : d ≤ x * 2 ^ 0 = grid-le f x c x 0 (pow-pos l) Q (le-of-eq (ap (λ (z : ℕ). z * c) (sym (mul-one x)))) in
           let A : d * a ≤ x * 2 ^ 0 * b = mul-le-mul D (omega arith) in
-          le-trans (grid-le f (d * a) (c * b) x 0 (mul-pos (pow-pos l) B) Q (le-trans (mul-le-mul-right c A) (le-of-eq (swap (x * 2 ^ 0) b c)))) (le-of-eq (mul-one x))
+          le-trans (grid-le f (d * a) (c * b) x 0 (mul-pos (pow-pos l) B) Q (le-trans (mul-le-mul-right c A) (le-of-eq (swap (x * 2 ^ 0) b c))))
+          (le-of-eq (mul-one x))
       | inr more ↦
           let P : 0 < p = lt-of-lt-of-le (lit< tt) (two f) in
           let big : 99 ≤ q = le-trans (many f) (full p w P (omega arith)) in
-          let D : d ≤ suc q * 2 ^ k = mul-le-mul-right (2 ^ k) (le-trans (nearest-le (n / (c * 2 ^ k)) (compare (n % (c * 2 ^ k) * 2) (c * 2 ^ k))) (le-of-eq (ap suc (sym (div-div-eq-div-mul n c (2 ^ k)))))) in
+          let D : d ≤ suc q * 2 ^ k =
+          mul-le-mul-right (2 ^ k)
+          (le-trans (nearest-le (n / (c * 2 ^ k)) (compare (n % (c * 2 ^ k) * 2) (c * 2 ^ k)))
+          (le-of-eq (ap suc (sym (div-div-eq-div-mul n c (2 ^ k)))))) in
           let A : d * a ≤ q * 2 ^ k * b =
-          le-trans (mul-le-mul-right a D) (le-trans (le-of-eq (mul-right-comm (suc q) (2 ^ k) a)) (le-trans (mul-le-mul-right (2 ^ k) (one-more-fits q a b big h)) (le-of-eq (mul-right-comm q b (2 ^ k))))) in
-          le-trans (grid-le f (d * a) (c * b) q k (mul-pos (pow-pos l) B) (kept-lt p w) (le-trans (mul-le-mul-right c A) (le-of-eq (swap (q * 2 ^ k) b c)))) (le-trans (div-mul-le-self w (2 ^ k)) (le-of-eq e))
+          le-trans (mul-le-mul-right a D)
+          (le-trans (le-of-eq (mul-right-comm (suc q) (2 ^ k) a))
+          (le-trans (mul-le-mul-right (2 ^ k) (one-more-fits q a b big h)) (le-of-eq (mul-right-comm q b (2 ^ k))))) in
+          le-trans (grid-le f (d * a) (c * b) q k (mul-pos (pow-pos l) B) (kept-lt p w) (le-trans (mul-le-mul-right c A) (le-of-eq (swap (q * 2 ^ k) b c))))
+          (le-trans (div-mul-le-self w (2 ^ k)) (le-of-eq e))
     ]
   where
     swap : (y b c : ℕ) → y * b * c ≡ y * (c * b)
@@ -71,7 +95,8 @@ pub record Inside (lower upper r : Float) : Type 0 where
   pub above : T (le lower r)
   pub below : T (le r upper)
 
-inside : (lower upper : Float) (n : ℕ) (e : ℤ) (Lo : Units binary64 lower) (Hi : Units binary64 upper) → Lo .h ≤ Hi .h → 100 * (n * up e) ≤ 99 * down e → Inside lower upper (lerpOf lower upper (fin false n e))
+inside : (lower upper : Float) (n : ℕ) (e : ℤ) (Lo : Units binary64 lower) (Hi : Units binary64 upper) → Lo .h ≤ Hi .h → 100 * (n * up e) ≤ 99 * down e
+    → Inside lower upper (lerpOf lower upper (fin false n e))
 unfolding lerpOf
 inside lower upper n e Lo Hi o s =
     let f = binary64 in
@@ -86,11 +111,14 @@ inside lower upper n e Lo Hi o s =
     let dv : HasValue (sub f upper lower) false D c = rw (sub-at f upper lower H L o (Hi .is) (Lo .is)) (round-val f X c (lt-of-le-of-lt D-le (Hi .fine))) in
     let P = grid f (D * (n * up e)) (c * down e) in
     let P-le : P ≤ X = part f X (n * up e) (down e) (down-pos e) s in
-    let pv : HasValue (mul f (sub f upper lower) t) false P c = rw (mul-at f (sub f upper lower) n e D dv) (round-val f (D * (n * up e)) (c * down e) (lt-of-le-of-lt P-le (lt-of-le-of-lt (omega arith) (Hi .fine)))) in
+    let pv : HasValue (mul f (sub f upper lower) t) false P c =
+    rw (mul-at f (sub f upper lower) n e D dv)
+    (round-val f (D * (n * up e)) (c * down e) (lt-of-le-of-lt P-le (lt-of-le-of-lt (omega arith) (Hi .fine)))) in
     let R = grid f (L + P) c in
     let R-le : R ≤ H = grid-short-le f (L + P) c H C (Hi .digits) (mul-le-mul-right c (omega arith)) in
     let R-ge : L ≤ R = grid-short-ge f (L + P) c L C (Lo .digits) (mul-le-mul-right c (omega arith)) in
-    let rv : HasValue (add f lower (mul f (sub f upper lower) t)) false R c = rw (add-at f lower (mul f (sub f upper lower) t) L P (Lo .is) pv) (round-val f (L + P) c (lt-of-le-of-lt R-le (Hi .fine))) in
+    let rv : HasValue (add f lower (mul f (sub f upper lower) t)) false R c =
+    rw (add-at f lower (mul f (sub f upper lower) t) L P (Lo .is) pv) (round-val f (L + P) c (lt-of-le-of-lt R-le (Hi .fine))) in
     record {
       sign = clear-of (add f lower (mul f (sub f upper lower) t)) R c rv;
       held = add-fits f lower (mul f (sub f upper lower) t);
@@ -102,7 +130,8 @@ under : (n : ℕ) (e : ℤ) → T (lt (fin false n e) ninetyNineHundredths) → 
 unfolding lt
 under n e h = le-of-mul-le-mul-right {k = 2 ^ 52} (omega (arith, ltb→lt (n * up e * 2 ^ 52) (4458563631096791 * 1 * down e) h)) (lit< tt)
 
-pub lerp-inside : (lower upper t : Float) → T (fits binary64 lower) → T (fits binary64 upper) → T (clear lower) → T (clear upper) → T (clear t) → T (le lower upper) → T (lt t ninetyNineHundredths) → Inside lower upper (lerpOf lower upper t)
+pub lerp-inside : (lower upper t : Float) → T (fits binary64 lower) → T (fits binary64 upper) → T (clear lower) → T (clear upper) → T (clear t)
+    → T (le lower upper) → T (lt t ninetyNineHundredths) → Inside lower upper (lerpOf lower upper t)
 lerp-inside lower upper nan a b p q c h k = absurd c
 lerp-inside lower upper (inf s) a b p q c h k = absurd c
 lerp-inside lower upper (fin true n e) a b p q c h k = absurd c

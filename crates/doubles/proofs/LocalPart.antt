@@ -48,7 +48,8 @@ between a c k C h = (round-mono binary64 0 1 a c (lit< tt) C (simp zero-mul (ome
 
 -- ---- the product
 product-le : (a b c d k : ℕ) → a ≤ c → b * 1 ≡ k * d → a * b ≤ k * (c * d)
-product-le a b c d k h e = le-trans (mul-le-mul h (le-of-eq (sym (mul-one b) ∙ e))) (le-of-eq (sym (mul-assoc c k d) ∙ (ap (λ (z : ℕ). z * d) (mul-comm c k) ∙ mul-assoc k c d)))
+product-le a b c d k h e =
+    le-trans (mul-le-mul h (le-of-eq (sym (mul-one b) ∙ e))) (le-of-eq (sym (mul-assoc c k d) ∙ (ap (λ (z : ℕ). z * d) (mul-comm c k) ∙ mul-assoc k c d)))
 
 pub product : (x y : Float) (k : ℕ) → HasValue y false k 1 → InOne x → T (le nought (mul binary64 x y)) × T (le (mul binary64 x y) (double k))
 unfolding mul le lt eq
@@ -63,8 +64,11 @@ product (fin false m e) (fin false n d) k v u =
     (product-le (m * up e) (n * up d) (down e) (down d) k (simp (mul-one, one-mul) at (at-most (m * up e * 1) (1 * 1 * down e) true (u .high))) (v .1))
 product (fin true m e) (fin false n d) k v u =
     let z : m * up e * (n * up d) ≡ 0 = ap (λ (z : ℕ). z * (n * up d)) (zero-of m e (u .low)) ∙ zero-mul (n * up d) in
-    let r = zero-round true (m * up e * (n * up d)) (down e * down d) (mul-pos (down-pos e) (down-pos d)) z in
-    (r .above, le-trans-float (round binary64 true (m * up e * (n * up d)) (down e * down d)) nought (double k) (r .below) (between 0 1 k (lit< tt) (omega arith) .1))
+    let r = zero-round true (m * up e * (n * up d)) (down e * down d) (mul-pos (down-pos e) (down-pos d)) z in (
+      r .above,
+      le-trans-float (round binary64 true (m * up e * (n * up d)) (down e * down d)) nought (double k) (r .below)
+          (between 0 1 k (lit< tt) (omega arith) .1),
+    )
 
 -- ---- the rest
 -- y is at least the whole part, and at most one more
@@ -99,7 +103,9 @@ none-below m y h = skipped m 0 y (omega arith) (not-T (le (double 1) y) (λ t. o
 
 minus-zero : (m : ℕ) (e : ℤ) → m * up e ≡ 0 → InOne (sub binary64 (fin true m e) (double 0))
 unfolding sub add neg sum ofInt
-minus-zero m e z = level-in (zero-round true (m * up e * 1 + 0 * 1 * down e) (down e * 1) (mul-pos (down-pos e) (lit< tt)) (ap (λ (w : ℕ). w * 1 + 0 * 1 * down e) z ∙ simp zero-mul))
+minus-zero m e z =
+    level-in (zero-round true (m * up e * 1 + 0 * 1 * down e) (down e * 1) (mul-pos (down-pos e) (lit< tt))
+    (ap (λ (w : ℕ). w * 1 + 0 * 1 * down e) z ∙ simp zero-mul))
 
 unit : (a c : ℕ) → 0 < c → a ≤ 1 * c → InOne (round binary64 false a c)
 unfolding ofInt
@@ -108,7 +114,8 @@ unit a c C h = let v = between a c 1 C h in record { low = v .0; high = v .1 }
 apart : (h s c : ℕ) → h ≤ (s + 1) * c → h - s * c ≤ 1 * c
 apart h s c b = let e : (s + 1) * c ≡ s * c + 1 * c = add-mul s 1 c in omega arith
 
-split : (p : Float) (k : ℕ) → 0 < k → k ≤ 4096 → T (fits binary64 p) → T (finite p) → T (le nought p) → T (le p (double k)) → InOne (sub binary64 p (double (wholeUpTo (k - 1) p)))
+split : (p : Float) (k : ℕ) → 0 < k → k ≤ 4096 → T (fits binary64 p) → T (finite p) → T (le nought p) → T (le p (double k))
+    → InOne (sub binary64 p (double (wholeUpTo (k - 1) p)))
 split nan k K M f g l h = absurd g
 split (inf s) k K M f g l h = absurd g
 split (fin true m e) k K M f g l h =
@@ -124,11 +131,14 @@ split (fin false m e) k K M f g l h =
     let dw : HasValue (double (s + 1)) false ((s + 1) * L) L = whole-at (s + 1) (omega arith) in
     let a : s * L ≤ U .h = in-order binary64 (double s) p (s * L) (U .h) dv (U .is) (whole-low (k - 1) p l) in
     let e1 : k - 1 + 1 ≡ k = omega arith in
-    let b : U .h ≤ (s + 1) * L = in-order binary64 p (double (s + 1)) (U .h) ((s + 1) * L) (U .is) dw (whole-high (k - 1) p (le-number p (double k) h) (rw e1 h)) in
+    let b : U .h ≤ (s + 1) * L =
+    in-order binary64 p (double (s + 1)) (U .h) ((s + 1) * L) (U .is) dw (whole-high (k - 1) p (le-number p (double k) h) (rw e1 h)) in
     rw (sub-at binary64 p (double s) (U .h) (s * L) a (U .is) dv) (unit (U .h - s * L) L (pow-pos (low binary64)) (apart (U .h) s L b))
 
 -- a number from 0 to 1 times k, less the whole part below k
-pub local-in : (k : ℕ) (x : Float) → 0 < k → k ≤ 4096 → InOne x → InOne (sub binary64 (mul binary64 x (double k)) (double (wholeUpTo (k - 1) (mul binary64 x (double k)))))
+pub local-in : (k : ℕ) (x : Float) → 0 < k → k ≤ 4096 → InOne x
+    → InOne (sub binary64 (mul binary64 x (double k)) (double (wholeUpTo (k - 1) (mul binary64 x (double k)))))
 local-in k x K M u =
     let v = product x (double k) k (whole-value k M) u in
-    split (mul binary64 x (double k)) k K M (mul-fits binary64 x (double k)) (within-finite (times {a = 0} {b = 12} (lit≤ tt) (unit-within x (u .low) (u .high)) (whole-within k M))) (v .0) (v .1)
+    split (mul binary64 x (double k)) k K M (mul-fits binary64 x (double k))
+    (within-finite (times {a = 0} {b = 12} (lit≤ tt) (unit-within x (u .low) (u .high)) (whole-within k M))) (v .0) (v .1)

@@ -36,14 +36,25 @@ Le-of true a false b h = tt
 Le-of true a true b h = at-least a b true h
 
 pub of-Le : (s : Bool) (a : ℕ) (t : Bool) (b : ℕ) → Le s a t b → T (below s a t b || level s a t b)
-of-Le false a false b h = elim (eq-or-lt-of-le h) [ inl e ↦ or-r (ltb a b) (eqb a b && true) (and-i (eqb a b) true (eq→eqb e) tt) | inr l ↦ or-l (ltb a b) (eqb a b && true) (lt→ltb a b l) ]
+of-Le false a false b h =
+    elim (eq-or-lt-of-le h) [
+      | inl e ↦ or-r (ltb a b) (eqb a b && true) (and-i (eqb a b) true (eq→eqb e) tt)
+      | inr l ↦ or-l (ltb a b) (eqb a b && true)
+          (lt→ltb a b l)
+    ]
 of-Le false a true b h = and-i (eqb a b) (eqb a 0) (eq→eqb (h .0 ∙ sym (h .1))) (eq→eqb (h .0))
 of-Le true a false b h =
     elim (eq-or-lt-of-le {n = 0} {m = a + b} (omega arith)) [
-      | inl e ↦ or-r (ltb 0 (a + b)) (eqb a b && eqb a 0) (and-i (eqb a b) (eqb a 0) (eq→eqb {a = a} {b = b} (omega arith)) (eq→eqb {a = a} {b = 0} (omega arith)))
+      | inl e ↦ or-r (ltb 0 (a + b)) (eqb a b && eqb a 0)
+          (and-i (eqb a b) (eqb a 0) (eq→eqb {a = a} {b = b} (omega arith)) (eq→eqb {a = a} {b = 0} (omega arith)))
       | inr l ↦ or-l (ltb 0 (a + b)) (eqb a b && eqb a 0) (lt→ltb 0 (a + b) l)
     ]
-of-Le true a true b h = elim (eq-or-lt-of-le h) [ inl e ↦ or-r (ltb b a) (eqb a b && true) (and-i (eqb a b) true (eq→eqb (sym e)) tt) | inr l ↦ or-l (ltb b a) (eqb a b && true) (lt→ltb b a l) ]
+of-Le true a true b h =
+    elim (eq-or-lt-of-le h) [
+      | inl e ↦ or-r (ltb b a) (eqb a b && true) (and-i (eqb a b) true (eq→eqb (sym e)) tt)
+      | inr l ↦ or-l (ltb b a) (eqb a b && true)
+          (lt→ltb b a l)
+    ]
 
 Le-scale : (s : Bool) (a : ℕ) (t : Bool) (b c : ℕ) → Le s a t b → Le s (a * c) t (b * c)
 Le-scale false a false b c h = mul-le-mul-right c h
@@ -101,10 +112,13 @@ le-trans-float (fin s m e) (fin t n d) (fin r p g) h k =
     let Y = n * up d in
     let Z = p * up g in
     let a : Le s (X * down d * down g) t (Y * down e * down g) = Le-scale s (X * down d) t (Y * down e) (down g) (Le-of s (X * down d) t (Y * down e) h) in
-    let b : Le t (Y * down e * down g) r (Z * down d * down e) = subst (λ (q : ℕ). Le t q r (Z * down d * down e)) (mul-right-comm Y (down g) (down e)) (Le-scale t (Y * down g) r (Z * down d) (down e) (Le-of t (Y * down g) r (Z * down d) k)) in
+    let b : Le t (Y * down e * down g) r (Z * down d * down e) =
+    subst (λ (q : ℕ). Le t q r (Z * down d * down e)) (mul-right-comm Y (down g) (down e))
+    (Le-scale t (Y * down g) r (Z * down d) (down e) (Le-of t (Y * down g) r (Z * down d) k)) in
     let c : Le s (X * down d * down g) r (Z * down d * down e) = Le-trans s (X * down d * down g) t (Y * down e * down g) r (Z * down d * down e) a b in
     of-Le s (X * down g) r (Z * down e)
-    (Le-unscale s (X * down g) r (Z * down e) (down d) (down-pos d) (subst₂ (λ (q w : ℕ). Le s q r w) (mul-right-comm X (down d) (down g)) (mul-right-comm Z (down d) (down e)) c))
+    (Le-unscale s (X * down g) r (Z * down e) (down d) (down-pos d)
+    (subst₂ (λ (q w : ℕ). Le s q r w) (mul-right-comm X (down d) (down g)) (mul-right-comm Z (down d) (down e)) c))
 
 pub lt→le : (x y : Float) → T (lt x y) → T (le x y)
 unfolding le
@@ -161,7 +175,9 @@ pub ne-itself : (x : Float) → ne x x ≡ isNan x
 unfolding isNan
 ne-itself nan = nan-differs
 ne-itself (inf s) = is-false (ne (inf s) (inf s)) (not-T (ne (inf s) (inf s)) (λ h. let e : inf s ≡ nan = differs-from-itself (inf s) h in number (inf s) e tt))
-ne-itself (fin s m d) = is-false (ne (fin s m d) (fin s m d)) (not-T (ne (fin s m d) (fin s m d)) (λ h. let e : fin s m d ≡ nan = differs-from-itself (fin s m d) h in number (fin s m d) e tt))
+ne-itself (fin s m d) =
+    is-false (ne (fin s m d) (fin s m d))
+    (not-T (ne (fin s m d) (fin s m d)) (λ h. let e : fin s m d ≡ nan = differs-from-itself (fin s m d) h in number (fin s m d) e tt))
 
 pub no-nan : (x : Float) → ne x x ≡ false → T (not (isNan x))
 no-nan x e = fails (sym (ne-itself x) ∙ e)

@@ -25,4 +25,5 @@ all-fair = tt
 
 pub is-fair : (k : ℕ) → 0 < k → k ≤ 4093 → T (fair k (div binary64 one (ofInt binary64 (pos k))))
 unfolding inverse-fair
-is-fair k p l = let e : suc (k - 1) ≡ k = omega arith in subst (λ (i : ℕ). T (inverse-fair i)) e (each-at (λ i. inverse-fair (suc i)) 4093 (k - 1) all-fair (omega arith))
+is-fair k p l = let e : suc (k - 1) ≡ k = omega arith
+    in subst (λ (i : ℕ). T (inverse-fair i)) e (each-at (λ i. inverse-fair (suc i)) 4093 (k - 1) all-fair (omega arith))

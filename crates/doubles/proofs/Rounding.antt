@@ -3,7 +3,24 @@ use mathlib.Core.Path.{_≡_, sym, ap, _∙_, subst}
 use mathlib.Core.Logic.{_⊎_, inl, inr}
 use mathlib.Core.Bool.{Bool, true, false, not}
 use Prim.Native.Nat.{ℕ, _+_, _-_, _*_, _/_, _%_, _^_, _≤_, _<_, compare}
-use native.Mathlib.Nat.{le-trans, le-of-eq, le-of-lt, lt-of-le-of-lt, lt-of-lt-of-le, mul-one, mul-comm, mul-assoc, mul-le-mul-right, mul-pos, le-div-iff-mul-le, div-lt-iff-lt-mul, div-div-eq-div-mul, div-one, mod-one, mul-lt-mul-of-pos-right}
+use native.Mathlib.Nat.{
+  le-trans,
+  le-of-eq,
+  le-of-lt,
+  lt-of-le-of-lt,
+  lt-of-lt-of-le,
+  mul-one,
+  mul-comm,
+  mul-assoc,
+  mul-le-mul-right,
+  mul-pos,
+  le-div-iff-mul-le,
+  div-lt-iff-lt-mul,
+  div-div-eq-div-mul,
+  div-one,
+  mod-one,
+  mul-lt-mul-of-pos-right,
+}
 use native.Mathlib.Omega.{arith}
 use lib.Dec.{T, leb, leb→le, nleb→lt, lit<}
 use lib.Pow.{pow-add, pow-pos, pow-mono, shl-lt}
@@ -33,17 +50,24 @@ pub grid-le : (f : Format) (a c q j : ℕ) → 0 < c → q < 2 ^ prec f → a * 
 grid-le f a c q j C Q h =
     let n = a * 2 ^ low f in
     let k = drop (prec f) n c in
-    let k-le : k ≤ j = spare (size (n / c)) (prec f) j (size-le (n / c) (prec f + j) (div-lt-iff-lt-mul C .1 (lt-of-le-of-lt h (mul-lt-mul-of-pos-right (shl-lt (prec f) j Q) C)))) in
+    let k-le : k ≤ j =
+    spare (size (n / c)) (prec f) j
+    (size-le (n / c) (prec f + j) (div-lt-iff-lt-mul C .1 (lt-of-le-of-lt h (mul-lt-mul-of-pos-right (shl-lt (prec f) j Q) C)))) in
     let r = q * 2 ^ (j - k) in
-    let split : r * 2 ^ k ≡ q * 2 ^ j = mul-assoc q (2 ^ (j - k)) (2 ^ k) ∙ ap (λ (x : ℕ). q * x) (sym (pow-add 2 (j - k) k) ∙ ap (λ (x : ℕ). 2 ^ x) (back j k k-le)) in
+    let split : r * 2 ^ k ≡ q * 2 ^ j =
+    mul-assoc q (2 ^ (j - k)) (2 ^ k) ∙ ap (λ (x : ℕ). q * x) (sym (pow-add 2 (j - k) k) ∙ ap (λ (x : ℕ). 2 ^ x) (back j k k-le)) in
     let u = c * 2 ^ k in
     let e : q * 2 ^ j * c ≡ r * u = ap (λ (x : ℕ). x * c) (sym split) ∙ mul-assoc r (2 ^ k) c ∙ ap (λ (x : ℕ). r * x) (mul-comm (2 ^ k) c) in
-    let b : closest n u ≤ r = le-trans (closest-mono n u r 1 (mul-pos C (pow-pos k)) (lit< tt) (le-trans (le-of-eq (mul-one n)) (le-trans h (le-of-eq e)))) (le-of-eq (closest-whole r)) in
+    let b : closest n u ≤ r =
+    le-trans (closest-mono n u r 1 (mul-pos C (pow-pos k)) (lit< tt) (le-trans (le-of-eq (mul-one n)) (le-trans h (le-of-eq e))))
+    (le-of-eq (closest-whole r)) in
     le-trans (mul-le-mul-right (2 ^ k) b) (le-of-eq split)
 
 -- where digits are dropped, the whole part in 2 ^ drop has all its digits
 pub full : (p w : ℕ) → 0 < p → 0 < size w - p → 2 ^ (p - 1) ≤ w / 2 ^ (size w - p)
-full p w P K = le-div-iff-mul-le (pow-pos (size w - p)) .1 (le-trans (le-of-eq (sym (pow-add 2 (p - 1) (size w - p)))) (size-reaches w (p - 1 + (size w - p)) (omega arith)))
+full p w P K =
+    le-div-iff-mul-le (pow-pos (size w - p)) .1
+    (le-trans (le-of-eq (sym (pow-add 2 (p - 1) (size w - p)))) (size-reaches w (p - 1 + (size w - p)) (omega arith)))
 
 -- the same from below
 grid-ge : (f : Format) (a c q j : ℕ) → 0 < c → q < 2 ^ prec f → q * 2 ^ j * c ≤ a * 2 ^ low f → q * 2 ^ j ≤ grid f a c
@@ -54,14 +78,20 @@ grid-ge f a c q j C Q h =
     elim (le-or-lt k j) [
       | inl k-le ↦
           let r = q * 2 ^ (j - k) in
-          let split : r * 2 ^ k ≡ q * 2 ^ j = mul-assoc q (2 ^ (j - k)) (2 ^ k) ∙ ap (λ (x : ℕ). q * x) (sym (pow-add 2 (j - k) k) ∙ ap (λ (x : ℕ). 2 ^ x) (back j k k-le)) in
+          let split : r * 2 ^ k ≡ q * 2 ^ j =
+          mul-assoc q (2 ^ (j - k)) (2 ^ k) ∙ ap (λ (x : ℕ). q * x) (sym (pow-add 2 (j - k) k) ∙ ap (λ (x : ℕ). 2 ^ x) (back j k k-le)) in
           let e : r * u ≡ q * 2 ^ j * c = sym (ap (λ (x : ℕ). x * c) (sym split) ∙ mul-assoc r (2 ^ k) c ∙ ap (λ (x : ℕ). r * x) (mul-comm (2 ^ k) c)) in
-          let b : r ≤ closest n u = le-trans (le-of-eq (sym (closest-whole r))) (closest-mono r 1 n u (lit< tt) (mul-pos C (pow-pos k)) (le-trans (le-of-eq e) (le-trans h (le-of-eq (sym (mul-one n)))))) in
+          let b : r ≤ closest n u =
+          le-trans (le-of-eq (sym (closest-whole r)))
+          (closest-mono r 1 n u (lit< tt) (mul-pos C (pow-pos k)) (le-trans (le-of-eq e) (le-trans h (le-of-eq (sym (mul-one n)))))) in
           le-trans (le-of-eq (sym split)) (mul-le-mul-right (2 ^ k) b)
       | inr k-gt ↦
           let P : 0 < prec f = lt-of-lt-of-le (lit< tt) (two f) in
-          let b : 2 ^ (prec f - 1) ≤ closest n u = le-trans (subst (λ (x : ℕ). 2 ^ (prec f - 1) ≤ x) (div-div-eq-div-mul n c (2 ^ k)) (full (prec f) (n / c) P (omega arith))) (nearest-ge (n / u) (compare (n % u * 2) u)) in
-          le-trans (le-of-lt (shl-lt (prec f) j Q)) (le-trans (pow-mono (omega arith)) (le-trans (le-of-eq (pow-add 2 (prec f - 1) k)) (mul-le-mul-right (2 ^ k) b)))
+          let b : 2 ^ (prec f - 1) ≤ closest n u =
+          le-trans (subst (λ (x : ℕ). 2 ^ (prec f - 1) ≤ x) (div-div-eq-div-mul n c (2 ^ k)) (full (prec f) (n / c) P (omega arith)))
+          (nearest-ge (n / u) (compare (n % u * 2) u)) in
+          le-trans (le-of-lt (shl-lt (prec f) j Q))
+          (le-trans (pow-mono (omega arith)) (le-trans (le-of-eq (pow-add 2 (prec f - 1) k)) (mul-le-mul-right (2 ^ k) b)))
     ]
 
 -- h is q * 2 ^ j with a q of no more digits than the format keeps

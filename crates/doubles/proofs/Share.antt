@@ -66,7 +66,9 @@ under-one k z (fin false n d) S h =
     let w : k * (n * up d) * 2 ^ 53 ≤ (2 ^ 53 + 1) * down d = leb→le (k * (n * up d) * 2 ^ 53) ((2 ^ 53 + 1) * down d) h in
     let A : a * 2 ^ 53 ≤ (2 ^ 53 + 1) * b = cross (S .r) (n * up d) (2 ^ 53) k c (2 ^ 53 + 1) (down d) (S .most) w in
     let e : mul f z (fin false n d) ≡ round f false a b = mul-at f z n d (S .r) (S .is) in
-    let o : T (le (mul f z (fin false n d)) one) = rw e (le-trans-float (round f false a b) (round f false (2 ^ 53 + 1) (2 ^ 53)) one (round-mono f a b (2 ^ 53 + 1) (2 ^ 53) B (pow-pos 53) A) nearly) in
+    let o : T (le (mul f z (fin false n d)) one) =
+    rw e (le-trans-float (round f false a b) (round f false (2 ^ 53 + 1) (2 ^ 53)) one (round-mono f a b (2 ^ 53 + 1) (2 ^ 53) B (pow-pos 53) A) nearly)
+    in
     let s : Within 1 (round f false a b) = record { held = round-size f false a b 1 B (lit≤ tt) (twice a b A) } in
     let v : HasValue (round f false a b) false (grid f a b) c = round-val f a b (round-under f a b (within-finite s)) in
     (rw e (clear-of (round f false a b) (grid f a b) c v), o)
@@ -80,7 +82,8 @@ under-one k z (fin false n d) S h =
         (le-trans (le-of-eq (simp (mul-assoc, mul-comm, mul-left-comm)))
         (le-trans (mul-le-mul-left c h) (le-of-eq (mul-left-comm c q d))))
 
-pub share-in : (k s : ℕ) (x : Float) → s < k → k ≤ 4093 → InUnit x → InOne (mul binary64 (add binary64 (ofInt binary64 (pos s)) x) (div binary64 one (ofInt binary64 (pos k))))
+pub share-in : (k s : ℕ) (x : Float) → s < k → k ≤ 4093 → InUnit x
+    → InOne (mul binary64 (add binary64 (ofInt binary64 (pos s)) x) (div binary64 one (ofInt binary64 (pos k))))
 share-in k s x h l u =
     let r = under-one k _ _ (summed k s x h (omega arith) u) (is-fair k (omega arith) l) in
     record { low = nought-le _ (r .0); high = r .1 }

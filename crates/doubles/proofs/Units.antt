@@ -3,7 +3,27 @@ use mathlib.Core.Path.{_≡_, refl, sym, ap, _∙_}
 use mathlib.Core.Logic.{inl, inr}
 use mathlib.Core.Bool.{Bool, true, false, not, _&&_, cond, true≢false}
 use Prim.Native.Nat.{ℕ, zero, suc, _+_, _-_, _*_, _%_, _^_, _≤_, _<_}
-use native.Mathlib.Nat.{le-trans, le-of-eq, lt-of-le-of-lt, lt-of-lt-of-le, not-le-of-lt, mul-one, zero-mul, mul-comm, mul-assoc, mul-right-comm, mul-mul-mul-comm, mul-le-mul-right, mul-le-mul-left, le-of-mul-le-mul-right, mul-pos, mul-sub, add-mul, mul-lt-mul-of-pos-right, lt-of-mul-lt-mul-right}
+use native.Mathlib.Nat.{
+  le-trans,
+  le-of-eq,
+  lt-of-le-of-lt,
+  lt-of-lt-of-le,
+  not-le-of-lt,
+  mul-one,
+  zero-mul,
+  mul-comm,
+  mul-assoc,
+  mul-right-comm,
+  mul-mul-mul-comm,
+  mul-le-mul-right,
+  mul-le-mul-left,
+  le-of-mul-le-mul-right,
+  mul-pos,
+  mul-sub,
+  add-mul,
+  mul-lt-mul-of-pos-right,
+  lt-of-mul-lt-mul-right,
+}
 use native.Mathlib.Omega.{arith}
 use lib.IntN.{ℤ, pos, negsuc}
 use lib.Dec.{T, ltb, leb, eqb, ltb→lt, leb→le, lit≤, lit<}
@@ -36,13 +56,15 @@ fine-of : (y de l h E : ℕ) → y < 2 ^ E * de → y * 2 ^ l ≡ h * de → h <
 fine-of y de l h E lt e =
     lt-of-mul-lt-mul-right de
     (lt-of-le-of-lt (le-of-eq (sym e))
-    (lt-of-lt-of-le (mul-lt-mul-of-pos-right lt (pow-pos l)) (le-of-eq (mul-right-comm (2 ^ E) de (2 ^ l) ∙ ap (λ (z : ℕ). z * de) (mul-comm (2 ^ E) (2 ^ l) ∙ sym (pow-add 2 l E))))))
+    (lt-of-lt-of-le (mul-lt-mul-of-pos-right lt (pow-pos l))
+    (le-of-eq (mul-right-comm (2 ^ E) de (2 ^ l) ∙ ap (λ (z : ℕ). z * de) (mul-comm (2 ^ E) (2 ^ l) ∙ sym (pow-add 2 l E))))))
 
 exponents : (i j : ℕ) → 2 ^ i ≤ 2 ^ j → i ≤ j
 exponents i j h = elim (le-or-lt i j) [ inl l ↦ l | inr g ↦ absurd (not-le-of-lt (pow-lt g) h) ]
 
 -- a value above zero: m * 2 ^ j units
-made : (f : Format) (m j : ℕ) (e : ℤ) → T (fits f (fin false (suc m) e)) → (T (leb (down e) (2 ^ low f)) → suc m * up e * 2 ^ low f ≡ suc m * 2 ^ j * down e) → Units f (fin false (suc m) e)
+made : (f : Format) (m j : ℕ) (e : ℤ) → T (fits f (fin false (suc m) e))
+    → (T (leb (down e) (2 ^ low f)) → suc m * up e * 2 ^ low f ≡ suc m * 2 ^ j * down e) → Units f (fin false (suc m) e)
 unfolding fits
 made f m j e t is =
     let p = eqb (suc m % 2) 1 in
@@ -54,23 +76,33 @@ made f m j e t is =
       h = suc m * 2 ^ j;
       is = (refl, v);
       digits = record { q = suc m; j = j; short = ltb→lt (suc m) (2 ^ prec f) (and-r p q (and-l (p && q) r (and-l (p && q && r) s t))); whole = refl };
-      fine = fine-of (suc m * up e) (down e) (low f) (suc m * 2 ^ j) (suc (emax f)) (ltb→lt (suc m * up e) (2 ^ suc (emax f) * down e) (and-r (p && q && r) s t)) v;
+      fine =
+          fine-of (suc m * up e) (down e) (low f) (suc m * 2 ^ j) (suc (emax f))
+          (ltb→lt (suc m * up e) (2 ^ suc (emax f) * down e) (and-r (p && q && r) s t)) v;
     }
 
 pub units-of : (f : Format) (x : Float) → T (fits f x) → T (clear x) → Units f x
 units-of f nan t c = absurd c
 units-of f (inf s) t c = absurd c
 units-of f (fin true m e) t c = absurd c
-units-of f (fin false zero e) t c = record { h = 0; is = (refl, simp zero-mul); digits = record { q = 0; j = 0; short = pow-pos (prec f); whole = refl }; fine = pow-pos (low f + suc (emax f)) }
+units-of f (fin false zero e) t c =
+    record {
+      h = 0;
+      is = (refl, simp zero-mul);
+      digits = record { q = 0; j = 0; short = pow-pos (prec f); whole = refl };
+      fine = pow-pos (low f + suc (emax f));
+    }
 units-of f (fin false (suc m) (pos k)) t c =
     made f m (k + low f) (pos k) t
-    (λ (g : T (leb (down (pos k)) (2 ^ low f))). mul-assoc (suc m) (2 ^ k) (2 ^ low f) ∙ ap (λ (z : ℕ). suc m * z) (sym (pow-add 2 k (low f))) ∙ sym (mul-one (suc m * 2 ^ (k + low f))))
+    (λ (g : T (leb (down (pos k)) (2 ^ low f))). mul-assoc (suc m) (2 ^ k) (2 ^ low f) ∙ ap (λ (z : ℕ). suc m * z) (sym (pow-add 2 k (low f)))
+    ∙ sym (mul-one (suc m * 2 ^ (k + low f))))
 units-of f (fin false (suc m) (negsuc k)) t c =
     let j = low f - suc k in
     made f m j (negsuc k) t
     (λ (g : T (leb (down (negsuc k)) (2 ^ low f))).
     ap (λ (z : ℕ). z * 2 ^ low f) (mul-one (suc m))
-    ∙ ap (λ (z : ℕ). suc m * z) (ap (λ (z : ℕ). 2 ^ z) (sym (back (low f) (suc k) (exponents (suc k) (low f) (leb→le (2 ^ suc k) (2 ^ low f) g)))) ∙ pow-add 2 j (suc k))
+    ∙ ap (λ (z : ℕ). suc m * z)
+    (ap (λ (z : ℕ). 2 ^ z) (sym (back (low f) (suc k) (exponents (suc k) (low f) (leb→le (2 ^ suc k) (2 ^ low f) g)))) ∙ pow-add 2 j (suc k))
     ∙ sym (mul-assoc (suc m) (2 ^ j) (2 ^ suc k)))
 
 -- ---- the operations on such values
@@ -81,7 +113,8 @@ scale X de dd L a v = mul-right-comm X dd L ∙ ap (λ (z : ℕ). z * dd) v ∙ 
 scale' : (Y de dd L b : ℕ) → Y * L ≡ b * dd → Y * de * L ≡ b * (de * dd)
 scale' Y de dd L b w = scale Y dd de L b w ∙ ap (λ (z : ℕ). b * z) (mul-comm dd de)
 
-pub add-at : (f : Format) (x y : Float) (a b : ℕ) → HasValue x false a (2 ^ low f) → HasValue y false b (2 ^ low f) → add f x y ≡ round f false (a + b) (2 ^ low f)
+pub add-at : (f : Format) (x y : Float) (a b : ℕ) → HasValue x false a (2 ^ low f) → HasValue y false b (2 ^ low f)
+    → add f x y ≡ round f false (a + b) (2 ^ low f)
 unfolding add
 add-at f nan y a b v w = absurd v
 add-at f (inf s) y a b v w = absurd v
@@ -91,7 +124,12 @@ add-at f (fin false m e) (inf s) a b v w = absurd w
 add-at f (fin false m e) (fin true n d) a b v w = absurd (true≢false (w .0))
 add-at f (fin false m e) (fin false n d) a b v w =
     round-same f false (m * up e * down d + n * up d * down e) (down e * down d) (a + b) (2 ^ low f) (mul-pos (down-pos e) (down-pos d)) (pow-pos (low f))
-    (add-mul (m * up e * down d) (n * up d * down e) (2 ^ low f) ∙ cc (scale (m * up e) (down e) (down d) (2 ^ low f) a (v .1), scale' (n * up d) (down e) (down d) (2 ^ low f) b (w .1), add-mul a b (down e * down d)))
+    (add-mul (m * up e * down d) (n * up d * down e) (2 ^ low f)
+    ∙ cc (
+      scale (m * up e) (down e) (down d) (2 ^ low f) a (v .1),
+      scale' (n * up d) (down e) (down d) (2 ^ low f) b (w .1),
+      add-mul a b (down e * down d),
+    ))
 
 pick : (f : Format) (a b c : ℕ) → b ≤ a → sum f false a true b c ≡ round f false (a - b) c
 unfolding sum
@@ -101,7 +139,8 @@ pick f a b c h = go (ltb a b) (ltb→lt a b)
     go true k = absurd (not-le-of-lt (k tt) h)
     go false k = refl
 
-pub sub-at : (f : Format) (x y : Float) (a b : ℕ) → b ≤ a → HasValue x false a (2 ^ low f) → HasValue y false b (2 ^ low f) → sub f x y ≡ round f false (a - b) (2 ^ low f)
+pub sub-at : (f : Format) (x y : Float) (a b : ℕ) → b ≤ a → HasValue x false a (2 ^ low f) → HasValue y false b (2 ^ low f)
+    → sub f x y ≡ round f false (a - b) (2 ^ low f)
 unfolding sub
 sub-at f nan y a b h v w = absurd v
 sub-at f (inf s) y a b h v w = absurd v
@@ -121,14 +160,17 @@ sub-at f (fin false m e) (fin false n d) a b h v w =
     ∙ round-same f false (A - B) c (a - b) L (mul-pos (down-pos e) (down-pos d)) (pow-pos (low f))
     (mul-comm (A - B) L ∙ mul-sub L A B ∙ cc (mul-comm L A, mul-comm L B, p, q, mul-comm (a - b) c, mul-sub c a b, mul-comm c a, mul-comm c b))
 
-pub mul-at : (f : Format) (x : Float) (n : ℕ) (d : ℤ) (a : ℕ) → HasValue x false a (2 ^ low f) → mul f x (fin false n d) ≡ round f false (a * (n * up d)) (2 ^ low f * down d)
+pub mul-at : (f : Format) (x : Float) (n : ℕ) (d : ℤ) (a : ℕ) → HasValue x false a (2 ^ low f)
+    → mul f x (fin false n d) ≡ round f false (a * (n * up d)) (2 ^ low f * down d)
 unfolding mul
 mul-at f nan n d a v = absurd v
 mul-at f (inf s) n d a v = absurd v
 mul-at f (fin true m e) n d a v = absurd (true≢false (v .0))
 mul-at f (fin false m e) n d a v =
-    round-same f false (m * up e * (n * up d)) (down e * down d) (a * (n * up d)) (2 ^ low f * down d) (mul-pos (down-pos e) (down-pos d)) (mul-pos (pow-pos (low f)) (down-pos d))
-    (mul-mul-mul-comm (m * up e) (n * up d) (2 ^ low f) (down d) ∙ ap (λ (z : ℕ). z * (n * up d * down d)) (v .1) ∙ mul-mul-mul-comm a (down e) (n * up d) (down d))
+    round-same f false (m * up e * (n * up d)) (down e * down d) (a * (n * up d)) (2 ^ low f * down d) (mul-pos (down-pos e) (down-pos d))
+    (mul-pos (pow-pos (low f)) (down-pos d))
+    (mul-mul-mul-comm (m * up e) (n * up d) (2 ^ low f) (down d) ∙ ap (λ (z : ℕ). z * (n * up d * down d)) (v .1)
+    ∙ mul-mul-mul-comm a (down e) (n * up d) (down d))
 
 pub clear-of : (x : Float) (a c : ℕ) → HasValue x false a c → T (clear x)
 clear-of nan a c v = v
@@ -147,7 +189,8 @@ in-order f (fin false m e) (inf s) a b v w h = absurd w
 in-order f (fin false m e) (fin true n d) a b v w h = absurd (true≢false (w .0))
 in-order f (fin false m e) (fin false n d) a b v w h =
     le-of-mul-le-mul-right
-    (transfer a b (2 ^ low f) (2 ^ low f) (m * up e) (n * up d) (down e) (down d) (down-pos e) (down-pos d) (sym (v .1)) (sym (w .1)) (at-most (m * up e * down d) (n * up d * down e) true h))
+    (transfer a b (2 ^ low f) (2 ^ low f) (m * up e) (n * up d) (down e) (down d) (down-pos e) (down-pos d) (sym (v .1)) (sym (w .1))
+    (at-most (m * up e * down d) (n * up d * down e) true h))
     (pow-pos (low f))
 
 -- ---- whole numbers
@@ -180,7 +223,8 @@ unfolding le lt fits
 one-in = record { sign = tt; held = tt; top = tt }
 
 pub le-refl-clear : (x : Float) → T (fits binary64 x) → T (clear x) → T (le x x)
-le-refl-clear x h c = let U = units-of binary64 x h c in le-of-values x x (U .h) _ (U .h) _ (pow-pos (low binary64)) (pow-pos (low binary64)) (U .is) (U .is) (le-of-eq refl)
+le-refl-clear x h c = let U = units-of binary64 x h c
+    in le-of-values x x (U .h) _ (U .h) _ (pow-pos (low binary64)) (pow-pos (low binary64)) (U .is) (U .is) (le-of-eq refl)
 
 pub nought-le : (w : Float) → T (clear w) → T (le nought w)
 nought-le nan c = absurd c
@@ -213,6 +257,11 @@ trillionth-le w h c =
     let C : 0 < 2 ^ low f = pow-pos (low f) in
     let a = U .h * m in
     let d = 2 ^ low f * 2 ^ 92 in
-    let g : grid f a d ≤ U .h = grid-short-le f a d (U .h) (mul-pos C (pow-pos 92)) (U .digits) (le-trans (le-of-eq (mul-assoc (U .h) m (2 ^ low f))) (mul-le-mul-left (U .h) (le-trans (mul-le-mul-right (2 ^ low f) (lit≤ {m = m} {n = 2 ^ 92} tt)) (le-of-eq (mul-comm (2 ^ 92) (2 ^ low f)))))) in
-    let v : HasValue (mul f w trillionth) false (grid f a d) (2 ^ low f) = rw (mul-at f w 4951760157141521 (negsuc 91) (U .h) (U .is)) (round-val f a d (lt-of-le-of-lt g (U .fine))) in
+    let g : grid f a d ≤ U .h =
+    grid-short-le f a d (U .h) (mul-pos C (pow-pos 92)) (U .digits)
+    (le-trans (le-of-eq (mul-assoc (U .h) m (2 ^ low f)))
+    (mul-le-mul-left (U .h)
+    (le-trans (mul-le-mul-right (2 ^ low f) (lit≤ {m = m} {n = 2 ^ 92} tt)) (le-of-eq (mul-comm (2 ^ 92) (2 ^ low f)))))) in
+    let v : HasValue (mul f w trillionth) false (grid f a d) (2 ^ low f) =
+    rw (mul-at f w 4951760157141521 (negsuc 91) (U .h) (U .is)) (round-val f a d (lt-of-le-of-lt g (U .fine))) in
     le-of-values (mul f w trillionth) w (grid f a d) (2 ^ low f) (U .h) (2 ^ low f) C C v (U .is) (mul-le-mul-right (2 ^ low f) g)

@@ -46,7 +46,8 @@ pub guessed : (m n : ℕ) (y : Float) → T (le (double n) y) → T (lt y (doubl
 guessed m n y h k =
     elim (le-or-lt m n) [
       | inl l ↦ reached m y (le-trans-float (double m) (double n) y (double-mono l) h) ∙ sym (min-eq-right l)
-      | inr l ↦ skipped m n y (omega arith) (not-T (le (double (n + 1)) y) (lt-le-absurd y (double (n + 1)) k)) ∙ (reached n y h ∙ sym (min-eq-left (omega arith)))
+      | inr l ↦ skipped m n y (omega arith) (not-T (le (double (n + 1)) y) (lt-le-absurd y (double (n + 1)) k))
+          ∙ (reached n y h ∙ sym (min-eq-left (omega arith)))
     ]
 
 -- ---- halving: low is reached, and nothing above high up to m is
@@ -78,7 +79,8 @@ met {m} {low} {high} {y} v h =
 pub answered : (m : ℕ) (y : Float) {r : ℕ} → r ≡ wholeUpTo m y → (r ≡ wholeUpTo m y) × (r ≤ m)
 answered m y {r} e = (e, rw e (whole-le m y))
 
-pub confirmed : (m n : ℕ) (y : Float) {r : ℕ} {a b : Float} → a ≡ double n → le a y ≡ true → b ≡ double (n + 1) → lt y b ≡ true → r ≡ min n m → (r ≡ wholeUpTo m y) × (r ≤ m)
+pub confirmed : (m n : ℕ) (y : Float) {r : ℕ} {a b : Float} → a ≡ double n → le a y ≡ true → b ≡ double (n + 1) → lt y b ≡ true → r ≡ min n m
+    → (r ≡ wholeUpTo m y) × (r ≤ m)
 confirmed m n y {r} {a} {b} p t q u e =
     let low : T (le (double n) y) = subst (λ (z : Float). T (le z y)) p (holds t) in
     let high : T (lt y (double (n + 1))) = subst (λ (z : Float). T (lt y z)) q (holds u) in

@@ -7,7 +7,28 @@ use native.Mathlib.Omega.{arith}
 use lib.Dec.{eqb}
 use borrow.Author.Tests.{eqb-true}
 use Rattle.error.specs.declared.Refusal.{Refusal}
-use Rattle.error.specs.declared.Refusal.the-variants.{TooFew, BadPattern, TooMany, BadSpan, NotANumber, BadPrecision, NoRounds, LinearOutput, BadAllowance, ShortBuffer, BadStep, NoSegment, BadKnot, TurnsBack, UnequalSegments, OffCurve, BadLine, BadSheet, NoComparison, LostSeam}
+use Rattle.error.specs.declared.Refusal.the-variants.{
+  TooFew,
+  BadPattern,
+  TooMany,
+  BadSpan,
+  NotANumber,
+  BadPrecision,
+  NoRounds,
+  LinearOutput,
+  BadAllowance,
+  ShortBuffer,
+  BadStep,
+  NoSegment,
+  BadKnot,
+  TurnsBack,
+  UnequalSegments,
+  OffCurve,
+  BadLine,
+  BadSheet,
+  NoComparison,
+  LostSeam,
+}
 use Rattle.error.specs.declared.Verdict.{Verdict}
 use Rattle.error.specs.declared.Verdict.the-variants.{Passed, Failed}
 use Rattle.error.specs.Refusals.{numberOf, rows, Uses, applies, refusalBy, firstOf, first}
@@ -70,7 +91,8 @@ pub passed : (ns : List ℕ) (us : Uses) → firstOf ns us ≡ Passed → None n
 passed [] us e = tt
 passed (n ∷ ns) us e = go (applies n us) refl e (passed ns us)
   where
-    go : (t : Bool) → applies n us ≡ t → cond t (Failed (refusalBy n us)) (firstOf ns us) ≡ Passed → (firstOf ns us ≡ Passed → None ns us) → (applies n us ≡ false) × None ns us
+    go : (t : Bool) → applies n us ≡ t → cond t (Failed (refusalBy n us)) (firstOf ns us) ≡ Passed → (firstOf ns us ≡ Passed → None ns us)
+        → (applies n us ≡ false) × None ns us
     go true p h k = never (cc)
     go false p h k = (p, k h)
 
@@ -87,7 +109,8 @@ pub first-sound : (ns : List ℕ) (us : Uses) (r : Refusal) → firstOf ns us �
 first-sound [] us r e = never (cc)
 first-sound (n ∷ ns) us r e = go (applies n us) refl e (first-sound ns us r)
   where
-    go : (t : Bool) → applies n us ≡ t → cond t (Failed (refusalBy n us)) (firstOf ns us) ≡ Failed r → (firstOf ns us ≡ Failed r → First us ns r) → First us (n ∷ ns) r
+    go : (t : Bool) → applies n us ≡ t → cond t (Failed (refusalBy n us)) (firstOf ns us) ≡ Failed r → (firstOf ns us ≡ Failed r → First us ns r)
+        → First us (n ∷ ns) r
     go true p h k = let e : refusalBy n us ≡ r = cc in here p e
     go false p h k = there p (k h)
 
@@ -101,14 +124,16 @@ row-number : (n : ℕ) (us : Uses) → applies n us ≡ true → numberOf (refus
 row-number n [] e = never (cc)
 row-number n (u ∷ us) e = go (eqb n (numberOf (u .0))) refl e (row-number n us)
   where
-    go : (t : Bool) → eqb n (numberOf (u .0)) ≡ t → cond t (u .1) (applies n us) ≡ true → (applies n us ≡ true → numberOf (refusalBy n us) ≡ n) → numberOf (cond t (u .0) (refusalBy n us)) ≡ n
+    go : (t : Bool) → eqb n (numberOf (u .0)) ≡ t → cond t (u .1) (applies n us) ≡ true → (applies n us ≡ true → numberOf (refusalBy n us) ≡ n)
+        → numberOf (cond t (u .0) (refusalBy n us)) ≡ n
     go true p h k = sym (eqb-true n (numberOf (u .0)) p)
     go false p h k = k h
 
 -- its own row applies, and it is the refusal by that row
 pub first-applies : (us : Uses) (ns : List ℕ) (r : Refusal) → First us ns r → (applies (numberOf r) us ≡ true) × (refusalBy (numberOf r) us ≡ r)
 first-applies us [] r f = elim f [ ]
-first-applies us (n ∷ ns) r (here p e) = let q : n ≡ numberOf r = sym (row-number n us p) ∙ ap numberOf e in subst (λ (m : ℕ). (applies m us ≡ true) × (refusalBy m us ≡ r)) q (p, e)
+first-applies us (n ∷ ns) r (here p e) = let q : n ≡ numberOf r = sym (row-number n us p) ∙ ap numberOf e
+    in subst (λ (m : ℕ). (applies m us ≡ true) × (refusalBy m us ≡ r)) q (p, e)
 first-applies us (n ∷ ns) r (there p f) = first-applies us ns r f
 
 -- ---- where no row applies, each by its number

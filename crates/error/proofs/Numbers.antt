@@ -7,12 +7,35 @@ use Prim.Native.Nat.{ℕ, _+_, _*_, _/_, _%_, _≤_}
 use native.Mathlib.Omega.{arith}
 use lib.Dec.{eqb}
 use Rattle.error.specs.declared.Refusal.{Refusal}
-use Rattle.error.specs.declared.Refusal.the-variants.{TooFew, BadPattern, TooMany, BadSpan, NotANumber, BadPrecision, NoRounds, LinearOutput, BadAllowance, ShortBuffer, BadStep, NoSegment, BadKnot, TurnsBack, UnequalSegments, OffCurve, BadLine, BadSheet, NoComparison, LostSeam}
+use Rattle.error.specs.declared.Refusal.the-variants.{
+  TooFew,
+  BadPattern,
+  TooMany,
+  BadSpan,
+  NotANumber,
+  BadPrecision,
+  NoRounds,
+  LinearOutput,
+  BadAllowance,
+  ShortBuffer,
+  BadStep,
+  NoSegment,
+  BadKnot,
+  TurnsBack,
+  UnequalSegments,
+  OffCurve,
+  BadLine,
+  BadSheet,
+  NoComparison,
+  LostSeam,
+}
 use Rattle.error.specs.Refusals.{numberOf, placesOf, placeIn, placeOf, replyOf, rows}
 
 -- all refusals, with a place for those that tell one
 abbrev all : ℕ → List Refusal
-all i = TooFew ∷ BadPattern ∷ TooMany ∷ BadSpan ∷ NotANumber ∷ BadPrecision ∷ NoRounds ∷ LinearOutput ∷ BadAllowance ∷ ShortBuffer ∷ BadStep ∷ NoSegment ∷ BadKnot i ∷ TurnsBack i ∷ UnequalSegments ∷ OffCurve ∷ BadLine ∷ BadSheet ∷ NoComparison ∷ LostSeam i ∷ []
+all i =
+    TooFew ∷ BadPattern ∷ TooMany ∷ BadSpan ∷ NotANumber ∷ BadPrecision ∷ NoRounds ∷ LinearOutput ∷ BadAllowance ∷ ShortBuffer ∷ BadStep ∷ NoSegment
+    ∷ BadKnot i ∷ TurnsBack i ∷ UnequalSegments ∷ OffCurve ∷ BadLine ∷ BadSheet ∷ NoComparison ∷ LostSeam i ∷ []
 
 abbrev numbered : ℕ → List Refusal → Refusal
 numbered n [] = BadLine
@@ -74,7 +97,8 @@ reply-place r = omega (arith, number-in-table r)
 
 -- so a reply tells which refusal it is, and is never that of success
 pub reply-tells : (r q : Refusal) → replyOf r ≡ replyOf q → r ≡ q
-reply-tells r q e = number-tells r q (sym (reply-number r) ∙ ap (λ (n : ℕ). n % 256) e ∙ reply-number q) (sym (reply-place r) ∙ ap (λ (n : ℕ). n / 256) e ∙ reply-place q)
+reply-tells r q e =
+    number-tells r q (sym (reply-number r) ∙ ap (λ (n : ℕ). n % 256) e ∙ reply-number q) (sym (reply-place r) ∙ ap (λ (n : ℕ). n / 256) e ∙ reply-place q)
 
 pub reply-some : (r : Refusal) → 1 ≤ replyOf r
 reply-some r = omega (arith, number-in-table r)

@@ -72,7 +72,8 @@ both true b e = never (cc)
 both false b e = (refl, e)
 
 -- its row applies just where the test says so, with the refusal that stands beside it
-pub heard : (us : Uses) → once (named us) ≡ true → (u : Refusal × Bool) → Among u us → (applies (numberOf (u .0)) us ≡ u .1) × (refusalBy (numberOf (u .0)) us ≡ u .0)
+pub heard : (us : Uses) → once (named us) ≡ true → (u : Refusal × Bool) → Among u us
+    → (applies (numberOf (u .0)) us ≡ u .1) × (refusalBy (numberOf (u .0)) us ≡ u .0)
 heard [] e u i = elim i [ ]
 heard (v ∷ us) e u here = rw (eq-eqb (numberOf (u .0)) (numberOf (u .0)) refl) (refl, refl)
 heard (v ∷ us) e u (there i) = go (eqb (numberOf (u .0)) (numberOf (v .0))) refl (heard us (both (has (numberOf (v .0)) (named us)) (once (named us)) e .1) u i)
@@ -80,7 +81,8 @@ heard (v ∷ us) e u (there i) = go (eqb (numberOf (u .0)) (numberOf (v .0))) re
     go : (t : Bool) → eqb (numberOf (u .0)) (numberOf (v .0)) ≡ t → (applies (numberOf (u .0)) us ≡ u .1) × (refusalBy (numberOf (u .0)) us ≡ u .0)
         → (cond t (v .1) (applies (numberOf (u .0)) us) ≡ u .1) × (cond t (v .0) (refusalBy (numberOf (u .0)) us) ≡ u .0)
     go true p h =
-        let a : has (numberOf (v .0)) (named us) ≡ true = subst (λ (n : ℕ). has n (named us) ≡ true) (eqb-true (numberOf (u .0)) (numberOf (v .0)) p) (names us u i) in
+        let a : has (numberOf (v .0)) (named us) ≡ true =
+        subst (λ (n : ℕ). has n (named us) ≡ true) (eqb-true (numberOf (u .0)) (numberOf (v .0)) p) (names us u i) in
         let b : has (numberOf (v .0)) (named us) ≡ false = both (has (numberOf (v .0)) (named us)) (once (named us)) e .0 in
         never (cc)
     go false p h = h

@@ -4,7 +4,28 @@ use mathlib.Core.List.{List, [], _∷_}
 use Prim.Native.Nat.{ℕ, _+_, _*_}
 use lib.Dec.{eqb}
 use Rattle.error.specs.declared.Refusal.{Refusal}
-use Rattle.error.specs.declared.Refusal.the-variants.{TooFew, BadPattern, TooMany, BadSpan, NotANumber, BadPrecision, NoRounds, LinearOutput, BadAllowance, ShortBuffer, BadStep, NoSegment, BadKnot, TurnsBack, UnequalSegments, OffCurve, BadLine, BadSheet, NoComparison, LostSeam}
+use Rattle.error.specs.declared.Refusal.the-variants.{
+  TooFew,
+  BadPattern,
+  TooMany,
+  BadSpan,
+  NotANumber,
+  BadPrecision,
+  NoRounds,
+  LinearOutput,
+  BadAllowance,
+  ShortBuffer,
+  BadStep,
+  NoSegment,
+  BadKnot,
+  TurnsBack,
+  UnequalSegments,
+  OffCurve,
+  BadLine,
+  BadSheet,
+  NoComparison,
+  LostSeam,
+}
 use Rattle.error.specs.declared.Verdict.{Verdict}
 use Rattle.error.specs.declared.Verdict.the-variants.{Passed, Failed}
 

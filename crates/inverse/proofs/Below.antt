@@ -38,13 +38,17 @@ module _ (b : Basis) (y ε : Float) (ks : List Float) (limit k : ℕ) (e : k ≡
   pub k-some : 0 < k
   k-some = rw e (segments-some b (length ks))
 
-  below : (m : ℕ) (N : Type 0) (o : Outcome) (p : Place) → Result (segmentOf b ks) y k (SoundIn (segmentOf b ks) y ε limit) m N o → At p ≡ answered alone o → p .segment < k
+  below : (m : ℕ) (N : Type 0) (o : Outcome) (p : Place) → Result (segmentOf b ks) y k (SoundIn (segmentOf b ks) y ε limit) m N o → At p ≡ answered alone o
+      → p .segment < k
   below m N (off t) p (missed n c) h = never (cc)
   below m N (placed q) p (got r) h = let s : p .segment ≡ q .segment = cc in subst (λ (i : ℕ). i < k) (sym (s ∙ r .good .1)) (r .below)
 
-  pub found-below : (how : Method) (rising : Bool) (p : Place) → isNan y ≡ false → allInRange ks ≡ true → (n : ℕ) → ((ev : Evaluations) → length ev ≡ n → At p ≡ answered alone (find (trial (ruleOf how) (segmentOf b ks) y ε limit) y rising k ev)) → p .segment < k
+  pub found-below : (how : Method) (rising : Bool) (p : Place) → isNan y ≡ false → allInRange ks ≡ true → (n : ℕ)
+      → ((ev : Evaluations) → length ev ≡ n → At p ≡ answered alone (find (trial (ruleOf how) (segmentOf b ks) y ε limit) y rising k ev)) → p .segment < k
   found-below how rising p n t m h =
       let ev : Evaluations = replicate m (0, nought) in
       let g = segmentOf b ks in
       let numbers : (s : ℕ) → s < k → Numbers (segmentOf b ks s) y = λ s l. curve-numbers b y ks long n t s (subst (λ (z : ℕ). s < z) e l) in
-      below _ _ (find (trial (ruleOf how) g y ε limit) y rising k ev) p (find-sound g y ε limit (ruleOf how) (lawful-of how) k k-some (lt-of-le-of-lt k-few (lit< tt)) numbers rising ev) (h ev (length-replicate m (0, nought)))
+      below _ _ (find (trial (ruleOf how) g y ε limit) y rising k ev) p
+      (find-sound g y ε limit (ruleOf how) (lawful-of how) k k-some (lt-of-le-of-lt k-few (lit< tt)) numbers rising ev)
+      (h ev (length-replicate m (0, nought)))

@@ -32,15 +32,25 @@ use Rattle.inverse.specs.Curve.{parameterOf, ended, located}
 
 -- ---- the search's answer, with another parameter
 module _ (P : ℕ → Float → Float) where
-  pub refusal-kept : (o : Outcome) (a : Inverted) (tag : Inverted → ℕ) → ((p : Place) → tag (At p) ≡ 2) → OneOf (0 ∷ (1 ∷ [])) (tag a) → a ≡ answered alone o → a ≡ answered P o
+  pub refusal-kept : (o : Outcome) (a : Inverted) (tag : Inverted → ℕ) → ((p : Place) → tag (At p) ≡ 2) → OneOf (0 ∷ (1 ∷ [])) (tag a)
+      → a ≡ answered alone o → a ≡ answered P o
   refusal-kept (off ev) a tag two h e = e
   refusal-kept (placed p) a tag two h e = absurd (miss (0 ∷ (1 ∷ [])) 2 tt (subst (OneOf (0 ∷ (1 ∷ []))) (ap tag e ∙ two _) h))
 
   pub with-parameter : (o : Outcome) (p : Place) {x : Float} → At p ≡ answered alone o → x ≡ P (p .segment) (p .local)
-      → At (record { parameter = x; ground = p .ground; segment = p .segment; local = p .local; lower = p .lower; upper = p .upper; count = p .count }) ≡ answered P o
+      → At (record { parameter = x; ground = p .ground; segment = p .segment; local = p .local; lower = p .lower; upper = p .upper; count = p .count })
+      ≡ answered P o
   with-parameter (off ev) p e h = never (cc)
   with-parameter (placed q) p e h =
-      let s : p ≡ record { parameter = q .local; ground = q .ground; segment = q .segment; local = q .local; lower = q .lower; upper = q .upper; count = length (q .made) } = cc in
+      let s : p ≡ record {
+        parameter = q .local;
+        ground = q .ground;
+        segment = q .segment;
+        local = q .local;
+        lower = q .lower;
+        upper = q .upper;
+        count = length (q .made);
+      } = cc in
       rw (h, s)
 
 -- ---- the end rule's two tests, then the search
@@ -53,7 +63,8 @@ module _ (R : Rule) (e : Ends) (ev : Evaluations) (g : ℕ → Float → Float) 
   unfolding located
   located-high t u h = h ∙ simp (t, u)
 
-  pub located-searched : atLow e y ≡ false → atHigh e y ≡ false → r ≡ answered (parameterOf k) (find (trial R g y ε limit) y (e .rising) k ev) → r ≡ located R e ev g k y ε limit
+  pub located-searched : atLow e y ≡ false → atHigh e y ≡ false → r ≡ answered (parameterOf k) (find (trial R g y ε limit) y (e .rising) k ev)
+      → r ≡ located R e ev g k y ε limit
   unfolding located
   located-searched t u h = h ∙ simp (t, u)
 
@@ -70,15 +81,19 @@ module _ (m : EndsBy) (b : Basis) (ks : List Float) (k : ℕ) (q : k ≡ segment
   pub knot-ends-in : {e : Ends} → m ≡ Knots → e ≡ knotEnds b ks → e ≡ endRuleOf m b ks (segmentOf b ks) .ends
   knot-ends-in t h = rw t h
 
-  pub by-rule : (how : Method) (y ε : Float) (limit n : ℕ) {r : Inverted} (e : Ends) → e ≡ endRuleOf m b ks (segmentOf b ks) .ends → n ≡ own m → LocatedIs how e b y ks limit ε k n r
-      → r ≡ located (ruleOf how) (endRuleOf m b ks (segmentOf b ks) .ends) (endRuleOf m b ks (segmentOf b ks) .made) (segmentOf b ks) (segmentsOf b (length ks)) y ε limit
+  pub by-rule : (how : Method) (y ε : Float) (limit n : ℕ) {r : Inverted} (e : Ends) → e ≡ endRuleOf m b ks (segmentOf b ks) .ends → n ≡ own m
+      → LocatedIs how e b y ks limit ε k n r
+      → r ≡ located (ruleOf how) (endRuleOf m b ks (segmentOf b ks) .ends) (endRuleOf m b ks (segmentOf b ks) .made) (segmentOf b ks)
+      (segmentsOf b (length ks)) y ε limit
   by-rule how y ε limit n e p o i =
       let g = segmentOf b ks in
       let ev = endRuleOf m b ks g .made in
-      i ev (rule-made m b ks g ∙ sym o) ∙ ap (λ (z : Ends). located (ruleOf how) z ev g k y ε limit) p ∙ ap (λ (z : ℕ). located (ruleOf how) (endRuleOf m b ks g .ends) ev g z y ε limit) q
+      i ev (rule-made m b ks g ∙ sym o) ∙ ap (λ (z : Ends). located (ruleOf how) z ev g k y ε limit) p
+      ∙ ap (λ (z : ℕ). located (ruleOf how) (endRuleOf m b ks g .ends) ev g z y ε limit) q
 
 -- ---- the curve's own ends, from the row sums of its first and last segment
-pub ends-are : (b : Basis) (ks : List Float) (k : ℕ) {w0 w1 : Weights} {v0 v1 : Float} → w0 ≡ weightsOf (matrixOf b) (drop (0 * stepOf b) ks) → v0 ≡ hornerOf w0 nought → w1 ≡ weightsOf (matrixOf b) (drop ((k - 1) * stepOf b) ks) → v1 ≡ hornerOf w1 one
+pub ends-are : (b : Basis) (ks : List Float) (k : ℕ) {w0 w1 : Weights} {v0 v1 : Float} → w0 ≡ weightsOf (matrixOf b) (drop (0 * stepOf b) ks)
+    → v0 ≡ hornerOf w0 nought → w1 ≡ weightsOf (matrixOf b) (drop ((k - 1) * stepOf b) ks) → v1 ≡ hornerOf w1 one
     → _≡_ {A = Ends} (record { rising = lt v0 v1; low = v0; high = v1 }) (curveRule (segmentOf b ks) k .ends)
 ends-are b ks k {w0} {w1} {v0} {v1} a c d e =
     let p : v0 ≡ segmentOf b ks 0 nought = c ∙ ap (λ (w : Weights). hornerOf w nought) a in

@@ -29,5 +29,6 @@ module _ (b : Basis) (n : ℕ) where
   pub segment-fits : (s : ℕ) → 4 ≤ n → s < segmentsOf b n → s * stepOf b + 4 ≤ n
   segment-fits s h l = omega (arith, inside s (stepOf b) (n - 4) (omega arith))
 
-pub curve-numbers : (b : Basis) (y : Float) (ks : List Float) → 4 ≤ length ks → isNan y ≡ false → allInRange ks ≡ true → (s : ℕ) → s < segmentsOf b (length ks) → Numbers (segmentOf b ks s) y
+pub curve-numbers : (b : Basis) (y : Float) (ks : List Float) → 4 ≤ length ks → isNan y ≡ false → allInRange ks ≡ true → (s : ℕ)
+    → s < segmentsOf b (length ks) → Numbers (segmentOf b ks s) y
 curve-numbers b y ks long n t s l = segment-numbers b ks s y (holds t) (segment-fits b (length ks) s long l) (fails n)

@@ -66,5 +66,7 @@ unfolding zeros
 jumping = nought ∷ nought ∷ one ∷ nought ∷ zeros 44 (nought ∷ nought ∷ one ∷ one ∷ [])
 
 pub premise-needed : T (Holds (segmentOf Power jumping) half 13 0) × (inverseOf Power half jumping false defaultLimit defaultPrecision ≡ OffCurve 12)
-unfolding zeros jumping matrixOf row frac round ofInt ofBits add sub mul div lt le eq ne neg isNan inRange allInRange precise ordered bitsOf leadingZeros magnitudeOf lerpOf narrow halving weighed kept fraction moved settled probed turn rounds entered enter tries last halve find parameterOf located inverseBy
+unfolding zeros jumping matrixOf row frac round ofInt ofBits add sub mul div lt le eq ne neg isNan inRange allInRange precise ordered bitsOf leadingZeros
+    magnitudeOf lerpOf narrow halving weighed kept fraction moved settled probed turn rounds entered enter tries last halve find parameterOf located
+    inverseBy
 premise-needed = (tt, refl)

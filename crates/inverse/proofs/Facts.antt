@@ -87,7 +87,8 @@ module _ (e : Ends) (ev : Evaluations) (g : ℕ → Float → Float) (k : ℕ) (
   -- what each ground says
   abbrev pub GroundSays : Ground → Place → Type 0
   GroundSays End p = (T (atLow e y) × EndAt 0 nought p) ⊎ (T (not (atLow e y)) × T (atHigh e y) × EndAt (k - 1) one p)
-  GroundSays Edge p = let f = g (p .segment) in ((p .local ≡ nought) × T (near y (f nought) ε)) ⊎ ((p .local ≡ one) × T (not (near y (f nought) ε)) × T (near y (f one) ε))
+  GroundSays Edge p = let f = g (p .segment)
+      in ((p .local ≡ nought) × T (near y (f nought) ε)) ⊎ ((p .local ≡ one) × T (not (near y (f nought) ε)) × T (near y (f one) ε))
   GroundSays Value p = T (lt (magnitudeOf (sub binary64 (g (p .segment) (p .local)) y)) ε)
   GroundSays Width p = T (lt (sub binary64 (p .upper) (p .lower)) ε)
   GroundSays Spent p = (base : ℕ) × (base + limit ≤ most e ev g k y ε limit) × (p .count ≡ base + limit)
@@ -103,7 +104,9 @@ module _ (R : Rule) (e : Ends) (ev : Evaluations) (g : ℕ → Float → Float) 
   unfolding located evaluations
   count-is-length = go (atLow e y) (atHigh e y)
     where
-      go : (a b : Bool) → countTold (cond a (ended ev 0 nought) (cond b (ended ev (k - 1) one) (answered (parameterOf k) (find (trial R g y ε limit) y (e .rising) k ev))))
+      go : (a b : Bool)
+          → countTold
+          (cond a (ended ev 0 nought) (cond b (ended ev (k - 1) one) (answered (parameterOf k) (find (trial R g y ε limit) y (e .rising) k ev))))
           ≡ length (cond a ev (cond b ev (evaluationsOf (find (trial R g y ε limit) y (e .rising) k ev))))
       go true b = refl
       go false true = refl
@@ -128,7 +131,8 @@ module _ (R : Rule) (e : Ends) (ev : Evaluations) (g : ℕ → Float → Float) 
       go false true a = refl
       go false false a = ap (answered (parameterOf k)) (find-same g h R y ε limit (e .rising) k ev a)
 
-module _ (R : Rule) (lawful : Lawful R) (e : Ends) (ev : Evaluations) (g : ℕ → Float → Float) (k : ℕ) (y ε : Float) (limit : ℕ) (some : 0 < k) (fits : k ≤ 4093) (numbers : (s : ℕ) → s < k → Numbers (g s) y) where
+module _ (R : Rule) (lawful : Lawful R) (e : Ends) (ev : Evaluations) (g : ℕ → Float → Float) (k : ℕ) (y ε : Float) (limit : ℕ) (some : 0 < k)
+    (fits : k ≤ 4093) (numbers : (s : ℕ) → s < k → Numbers (g s) y) where
   from-unit : (x : Float) → InUnit x → InOne x
   from-unit x u = record { low = nought-le x (u .sign); high = u .top }
 
@@ -204,7 +208,8 @@ module _ (R : Rule) (lawful : Lawful R) (e : Ends) (ev : Evaluations) (g : ℕ �
   pub place-enclosed : AtPlace (λ p. Enclosed e ev g k y ε limit (p .ground) p) (located R e ev g k y ε limit)
   place-enclosed = told-enclosed (located R e ev g k y ε limit) (located-told R lawful e ev g k y ε limit some fits numbers)
 
-  says-so : (p : Place) (base : ℕ) (i : Ground) → base + limit ≤ most e ev g k y ε limit → Says (g (p .segment)) y ε (lt (g (p .segment) nought) (g (p .segment) one)) limit base i (p .local) (p .lower) (p .upper) (p .count)
+  says-so : (p : Place) (base : ℕ) (i : Ground) → base + limit ≤ most e ev g k y ε limit
+      → Says (g (p .segment)) y ε (lt (g (p .segment) nought) (g (p .segment) one)) limit base i (p .local) (p .lower) (p .upper) (p .count)
       → GroundSays e ev g k y ε limit i p
   says-so p base End few h = absurd h
   says-so p base Edge few h = h
@@ -242,12 +247,14 @@ module _ (R : Rule) (lawful : Lawful R) (e : Ends) (ev : Evaluations) (g : ℕ �
   pub off-where : Silent e ev g k y ε limit → NoneHolds e ev g k y ε limit → (n : ℕ) × (located R e ev g k y ε limit ≡ OffCurve n)
   off-where = told-nowhere (located R e ev g k y ε limit) (located-told R lawful e ev g k y ε limit some fits numbers)
 
-  told-place : (r : Inverted) → Told e ev g k y ε limit r → Silent e ev g k y ε limit → Supposed e ev g k y ε limit → (s : ℕ) → s < k → T (Holds g y k s) → (p : Place) × (r ≡ At p)
+  told-place : (r : Inverted) → Told e ev g k y ε limit r → Silent e ev g k y ε limit → Supposed e ev g k y ε limit → (s : ℕ) → s < k → T (Holds g y k s)
+      → (p : Place) × (r ≡ At p)
   told-place _ (at-low h) q S s l H = absurd (T-not (atLow e y) (q .0) h)
   told-place _ (at-high p h) q S s l H = absurd (T-not (atHigh e y) (q .1) h)
   told-place _ (entered {p} _ r) q S s l H = (p, refl)
   told-place _ (nowhere _ _ N) q S s l H = absurd (T-not (Holds g y k s) (N S s l) H)
 
   -- where some segment's ends enclose the target, the answer is a place
-  pub place-where : Silent e ev g k y ε limit → Supposed e ev g k y ε limit → (s : ℕ) → s < k → T (Holds g y k s) → (p : Place) × (located R e ev g k y ε limit ≡ At p)
+  pub place-where : Silent e ev g k y ε limit → Supposed e ev g k y ε limit → (s : ℕ) → s < k → T (Holds g y k s)
+      → (p : Place) × (located R e ev g k y ε limit ≡ At p)
   place-where = told-place (located R e ev g k y ε limit) (located-told R lawful e ev g k y ε limit some fits numbers)

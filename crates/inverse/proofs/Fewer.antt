@@ -81,7 +81,8 @@ module _ (R : Rule) (e : Ends) (ev : Evaluations) (g : ℕ → Float → Float) 
 
   pub located-fewer : Fewer 2 (located R e ev g k y ε limit) locatedTwice
   unfolding located
-  located-fewer = either 2 (atLow e y) (by-end refl) (either 2 (atHigh e y) (by-end refl) (told (parameterOf k) 2 (search.find-fewer R g y ε limit (e .rising) k ev)))
+  located-fewer =
+      either 2 (atLow e y) (by-end refl) (either 2 (atHigh e y) (by-end refl) (told (parameterOf k) 2 (search.find-fewer R g y ε limit (e .rising) k ev)))
 
 -- ---- the call
 module _ (m : EndsBy) (how : Method) (b : Basis) (y : Float) (ks : List Float) (check : Bool) (limit : ℕ) (ε : Float) where
@@ -96,6 +97,8 @@ module _ (m : EndsBy) (how : Method) (b : Basis) (y : Float) (ks : List Float) (
   inverse-fewer = go (first (inverseUses b y ks check limit ε))
     where
       go : (v : Verdict) → let r = endRuleOf m b ks (segmentOf b ks) in
-          Fewer 2 (inverted v (located (ruleOf how) (r .ends) (r .made) (segmentOf b ks) (segmentsOf b (length ks)) y ε limit)) (inverted v (locatedTwice (ruleOf how) (r .ends) (r .made) (segmentOf b ks) (segmentsOf b (length ks)) y ε limit))
-      go Passed = let r = endRuleOf m b ks (segmentOf b ks) in located-fewer (ruleOf how) (r .ends) (r .made) (segmentOf b ks) (segmentsOf b (length ks)) y ε limit
+          Fewer 2 (inverted v (located (ruleOf how) (r .ends) (r .made) (segmentOf b ks) (segmentsOf b (length ks)) y ε limit))
+          (inverted v (locatedTwice (ruleOf how) (r .ends) (r .made) (segmentOf b ks) (segmentsOf b (length ks)) y ε limit))
+      go Passed = let r = endRuleOf m b ks (segmentOf b ks)
+          in located-fewer (ruleOf how) (r .ends) (r .made) (segmentOf b ks) (segmentsOf b (length ks)) y ε limit
       go (Failed r) = refused

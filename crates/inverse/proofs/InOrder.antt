@@ -42,16 +42,22 @@ module _ (m : EndsBy) (how : Method) (b : Basis) (y : Float) (ks : List Float) (
   placed-in : (s : ℕ) (o : Outcome) (p : Placed) → o ≡ placed p → p .segment ≡ s → In s (answered (parameterOf k) o)
   placed-in s o p e q = (_, ap (answered (parameterOf k)) e, q)
 
-  located-first : Pass m how b y ks check limit ε → Quiet m how b y ks check limit ε → k ≤ 12 → (s : ℕ) → s < k → T (Holds (segmentOf b ks) y k s) → Nothing (segmentOf b ks) y k 0 s
+  located-first : Pass m how b y ks check limit ε → Quiet m how b y ks check limit ε → k ≤ 12 → (s : ℕ) → s < k → T (Holds (segmentOf b ks) y k s)
+      → Nothing (segmentOf b ks) y k 0 s
       → In s (located (ruleOf how) (endRuleOf m b ks (segmentOf b ks) .ends) (endRuleOf m b ks (segmentOf b ks) .made) (segmentOf b ks) k y ε limit)
   unfolding located
   located-first v q f s l H N =
       let a = admitted b y ks check limit ε v in
       let g = segmentOf b ks in
-      let u = first-entered g y k (SoundIn g y ε limit) (trial (ruleOf how) g y ε limit) (trial-tried g y ε limit (ruleOf how) (lawful-of how) k (curve-numbers b y ks (a .long) (a .number) (a .in-range))) (endRuleOf m b ks (segmentOf b ks) .ends .rising) s (endRuleOf m b ks (segmentOf b ks) .made) f l H N in
-      simp (is-false (atLow (endRuleOf m b ks (segmentOf b ks) .ends) y) (q .0), is-false (atHigh (endRuleOf m b ks (segmentOf b ks) .ends) y) (q .1)) (placed-in s _ (u .0) (u .1) (u .2 .1))
+      let u =
+      first-entered g y k (SoundIn g y ε limit) (trial (ruleOf how) g y ε limit)
+      (trial-tried g y ε limit (ruleOf how) (lawful-of how) k (curve-numbers b y ks (a .long) (a .number) (a .in-range)))
+      (endRuleOf m b ks (segmentOf b ks) .ends .rising) s (endRuleOf m b ks (segmentOf b ks) .made) f l H N in
+      simp (is-false (atLow (endRuleOf m b ks (segmentOf b ks) .ends) y) (q .0), is-false (atHigh (endRuleOf m b ks (segmentOf b ks) .ends) y) (q .1))
+      (placed-in s _ (u .0) (u .1) (u .2 .1))
 
   -- so of the call
-  pub inverse-first-entered : Pass m how b y ks check limit ε → Quiet m how b y ks check limit ε → k ≤ 12 → (s : ℕ) → s < k → T (Holds (segmentOf b ks) y k s) → Nothing (segmentOf b ks) y k 0 s → In s (inverseBy m how b y ks check limit ε)
+  pub inverse-first-entered : Pass m how b y ks check limit ε → Quiet m how b y ks check limit ε → k ≤ 12 → (s : ℕ) → s < k
+      → T (Holds (segmentOf b ks) y k s) → Nothing (segmentOf b ks) y k 0 s → In s (inverseBy m how b y ks check limit ε)
   unfolding inverseBy
   inverse-first-entered v q f s l H N = rw v (located-first v q f s l H N)

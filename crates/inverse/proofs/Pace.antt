@@ -49,7 +49,9 @@ module _ (R : Rule) (lawful : Lawful R) (y ε : Float) (limit N : ℕ) (E : Enou
 
       searched : Searched (find (trial (paced R) g y ε limit) y (e .rising) k ev)
       unfolding Searched
-      searched = find-says g y k InTime (trial (paced R) g y ε limit) trial-in-time (numbers 0 some .target) (λ s l. (numbers s l .values nought nought-in, numbers s l .values one one-in)) (e .rising) ev (lt-of-le-of-lt fits (lit< tt))
+      searched =
+          find-says g y k InTime (trial (paced R) g y ε limit) trial-in-time (numbers 0 some .target)
+          (λ s l. (numbers s l .values nought nought-in, numbers s l .values one one-in)) (e .rising) ev (lt-of-le-of-lt fits (lit< tt))
 
       -- what an answer owes: never spent, and a count bounded as if the limit were N
       abbrev pub Timely : Inverted → Type 0
@@ -71,4 +73,5 @@ module _ (R : Rule) (lawful : Lawful R) (y ε : Float) (limit N : ℕ) (E : Enou
       unfolding located
       located-timely =
           branch Timely (atLow e y) (λ _. (λ _. tt, omega (arith, room 0 (omega arith))))
-          (λ _. branch Timely (atHigh e y) (λ _. (λ _. tt, omega (arith, room 0 (omega arith)))) (λ _. found-timely (find (trial (paced R) g y ε limit) y (e .rising) k ev) searched))
+          (λ _. branch Timely (atHigh e y) (λ _. (λ _. tt, omega (arith, room 0 (omega arith))))
+          (λ _. found-timely (find (trial (paced R) g y ε limit) y (e .rising) k ev) searched))

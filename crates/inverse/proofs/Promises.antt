@@ -34,13 +34,30 @@ use Rattle.inverse.specs.EndRule.{EndRule, endRuleOf, own}
 use Rattle.inverse.specs.Curve.{located, evaluations}
 use Rattle.inverse.specs.Inverse.{inverseUses, inverseBy, evaluationsBy}
 use Rattle.inverse.proofs.Told.{Silent, NoneHolds, Supposed}
-use Rattle.inverse.proofs.Facts.{AtPlace, IfOff, Proper, Enclosed, GroundSays, count-is-length, rule-listed, none-unlisted, count-bounded, place-proper, place-enclosed, ground-says, off-only, off-where, place-where}
+use Rattle.inverse.proofs.Facts.{
+  AtPlace,
+  IfOff,
+  Proper,
+  Enclosed,
+  GroundSays,
+  count-is-length,
+  rule-listed,
+  none-unlisted,
+  count-bounded,
+  place-proper,
+  place-enclosed,
+  ground-says,
+  off-only,
+  off-where,
+  place-where,
+}
 use Rattle.inverse.proofs.Calls.{rule-made}
 use Rattle.inverse.proofs.Curve.{segments-some, segments-few, curve-numbers}
 use Rattle.inverse.proofs.Verdicts.{Admitted, admitted}
 
 -- curves that agree at these have the same rule
-rule-same : (m : EndsBy) (b : Basis) (ks : List Float) (g h : ℕ → Float → Float) → Agreed g h (endRuleOf m b ks g .made) → endRuleOf m b ks g ≡ endRuleOf m b ks h
+rule-same : (m : EndsBy) (b : Basis) (ks : List Float) (g h : ℕ → Float → Float) → Agreed g h (endRuleOf m b ks g .made)
+    → endRuleOf m b ks g ≡ endRuleOf m b ks h
 rule-same Knots b ks g h a = refl
 rule-same Curve b ks g h a = rw (a .0, a .1 .0)
 
@@ -100,13 +117,15 @@ module _ (m : EndsBy) (how : Method) (b : Basis) (y : Float) (ks : List Float) (
   unfolding inverseBy evaluationsBy
   inverse-count = go (first (inverseUses b y ks check limit ε))
     where
-      go : (v : Verdict) → countTold (inverted v here) ≡ length (unlessRefused v (evaluations (ruleOf how) (rule .ends) (rule .made) (segmentOf b ks) k y ε limit))
+      go : (v : Verdict)
+          → countTold (inverted v here) ≡ length (unlessRefused v (evaluations (ruleOf how) (rule .ends) (rule .made) (segmentOf b ks) k y ε limit))
       go Passed = count-is-length (ruleOf how) (rule .ends) (rule .made) (segmentOf b ks) k y ε limit
       go (Failed r) = refl
 
   -- it misses none: a curve h that agrees with this one at every listed place gets the same answer
   pub inverse-unlisted : (h : ℕ → Float → Float) → Agreed (segmentOf b ks) h (evaluationsBy m how b y ks check limit ε)
-      → inverseBy m how b y ks check limit ε ≡ inverted (first (inverseUses b y ks check limit ε)) (located (ruleOf how) (endRuleOf m b ks h .ends) (endRuleOf m b ks h .made) h k y ε limit)
+      → inverseBy m how b y ks check limit ε ≡ inverted (first (inverseUses b y ks check limit ε))
+      (located (ruleOf how) (endRuleOf m b ks h .ends) (endRuleOf m b ks h .made) h k y ε limit)
   unfolding inverseBy evaluationsBy
   inverse-unlisted h = go (first (inverseUses b y ks check limit ε))
     where
@@ -114,12 +133,16 @@ module _ (m : EndsBy) (how : Method) (b : Basis) (y : Float) (ks : List Float) (
           → inverted v here ≡ inverted v (located (ruleOf how) (endRuleOf m b ks h .ends) (endRuleOf m b ks h .made) h k y ε limit)
       go Passed a =
           none-unlisted (ruleOf how) (rule .ends) (rule .made) (segmentOf b ks) k y ε limit h a
-          ∙ ap (λ (r : EndRule). located (ruleOf how) (r .ends) (r .made) h k y ε limit) (rule-same m b ks (segmentOf b ks) h (rule-listed (ruleOf how) (rule .ends) (rule .made) (segmentOf b ks) k y ε limit h a))
+          ∙ ap (λ (r : EndRule). located (ruleOf how) (r .ends) (r .made) h k y ε limit)
+          (rule-same m b ks (segmentOf b ks) h (rule-listed (ruleOf how) (rule .ends) (rule .made) (segmentOf b ks) k y ε limit h a))
       go (Failed r) a = refl
 
   -- a place and refusal 11 carry at most so many
   pub inverse-bounded : countTold (inverseBy m how b y ks check limit ε) ≤ own m + boundOf k limit
-  inverse-bounded = by-verdict (λ r. countTold r ≤ own m + boundOf k limit) (λ r. omega arith) (λ a. le-trans (count-bounded (ruleOf how) (lawful-of how) (rule .ends) (rule .made) (segmentOf b ks) k y ε limit some (fits a) (numbers a)) (omega (arith, rule-made m b ks (segmentOf b ks))))
+  inverse-bounded =
+      by-verdict (λ r. countTold r ≤ own m + boundOf k limit) (λ r. omega arith)
+      (λ a. le-trans (count-bounded (ruleOf how) (lawful-of how) (rule .ends) (rule .made) (segmentOf b ks) k y ε limit some (fits a) (numbers a))
+      (omega (arith, rule-made m b ks (segmentOf b ks))))
 
   pub few-bound : k ≤ 12 → boundOf k limit ≡ limit + 24
   few-bound h = rw (le-leb k 12 h)
@@ -129,17 +152,22 @@ module _ (m : EndsBy) (how : Method) (b : Basis) (y : Float) (ks : List Float) (
 
   -- ---- parameter, local place and both bracket ends lie in 0 to 1, lower not above upper
   pub inverse-proper : AtPlace Proper (inverseBy m how b y ks check limit ε)
-  inverse-proper = by-verdict (AtPlace Proper) (λ r. tt) (λ a. place-proper (ruleOf how) (lawful-of how) (rule .ends) (rule .made) (segmentOf b ks) k y ε limit some (fits a) (numbers a))
+  inverse-proper =
+      by-verdict (AtPlace Proper) (λ r. tt)
+      (λ a. place-proper (ruleOf how) (lawful-of how) (rule .ends) (rule .made) (segmentOf b ks) k y ε limit some (fits a) (numbers a))
 
-  -- ---- where a segment was entered: its values at the two bracket ends enclose the target, and so do those at its own ends; the local place lies between the bracket's ends
+  -- ---- where a segment was entered: its values at the two bracket ends enclose the target, and so do those at its own ends; the local place lies between the
+  -- bracket's ends
   pub inverse-enclosed : AtPlace (λ p. Enclosed (rule .ends) (rule .made) (segmentOf b ks) k y ε limit (p .ground) p) (inverseBy m how b y ks check limit ε)
   inverse-enclosed =
-      by-verdict (AtPlace (λ p. Enclosed (rule .ends) (rule .made) (segmentOf b ks) k y ε limit (p .ground) p)) (λ r. tt) (λ a. place-enclosed (ruleOf how) (lawful-of how) (rule .ends) (rule .made) (segmentOf b ks) k y ε limit some (fits a) (numbers a))
+      by-verdict (AtPlace (λ p. Enclosed (rule .ends) (rule .made) (segmentOf b ks) k y ε limit (p .ground) p)) (λ r. tt)
+      (λ a. place-enclosed (ruleOf how) (lawful-of how) (rule .ends) (rule .made) (segmentOf b ks) k y ε limit some (fits a) (numbers a))
 
   -- ---- what the ground says
   pub inverse-ground : AtPlace (λ p. GroundSays (rule .ends) (rule .made) (segmentOf b ks) k y ε limit (p .ground) p) (inverseBy m how b y ks check limit ε)
   inverse-ground =
-      by-verdict (AtPlace (λ p. GroundSays (rule .ends) (rule .made) (segmentOf b ks) k y ε limit (p .ground) p)) (λ r. tt) (λ a. ground-says (ruleOf how) (lawful-of how) (rule .ends) (rule .made) (segmentOf b ks) k y ε limit some (fits a) (numbers a))
+      by-verdict (AtPlace (λ p. GroundSays (rule .ends) (rule .made) (segmentOf b ks) k y ε limit (p .ground) p)) (λ r. tt)
+      (λ a. ground-says (ruleOf how) (lawful-of how) (rule .ends) (rule .made) (segmentOf b ks) k y ε limit some (fits a) (numbers a))
 
   -- ---- where some segment's ends enclose the target, and the end rule is silent, a segment is entered and not refused
   pub inverse-entered : Pass → Quiet → Premise
@@ -155,7 +183,9 @@ module _ (m : EndsBy) (how : Method) (b : Basis) (y : Float) (ks : List Float) (
   inverse-off-only = go (first (inverseUses b y ks check limit ε)) refl
     where
       go : (v : Verdict) → first (inverseUses b y ks check limit ε) ≡ v → IfOff (Pass × Quiet × (Premise → Nowhere)) (inverted v here)
-      go Passed e = let a = admitted b y ks check limit ε e in with-pass Pass Quiet (Premise → Nowhere) here e (off-only (ruleOf how) (lawful-of how) (rule .ends) (rule .made) (segmentOf b ks) k y ε limit some (fits a) (numbers a))
+      go Passed e = let a = admitted b y ks check limit ε e
+          in with-pass Pass Quiet (Premise → Nowhere) here e
+          (off-only (ruleOf how) (lawful-of how) (rule .ends) (rule .made) (segmentOf b ks) k y ε limit some (fits a) (numbers a))
       go (Failed r) e = tt
 
   -- and everywhere there

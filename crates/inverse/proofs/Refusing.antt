@@ -38,17 +38,24 @@ module _ (m : EndsBy) (how : Method) (b : Basis) (y : Float) (ks : List Float) (
   abbrev uses : Uses
   uses = inverseUses b y ks check limit ε
 
-  located-past : Past (located (ruleOf how) (endRuleOf m b ks (segmentOf b ks) .ends) (endRuleOf m b ks (segmentOf b ks) .made) (segmentOf b ks) (segmentsOf b (length ks)) y ε limit)
+  located-past : Past (located (ruleOf how) (endRuleOf m b ks (segmentOf b ks) .ends) (endRuleOf m b ks (segmentOf b ks) .made) (segmentOf b ks)
+      (segmentsOf b (length ks)) y ε limit)
   unfolding located
   located-past =
       branch Past (atLow (endRuleOf m b ks (segmentOf b ks) .ends) y) (λ _. tt)
-      (λ _. branch Past (atHigh (endRuleOf m b ks (segmentOf b ks) .ends) y) (λ _. tt) (λ _. answered-past (parameterOf (segmentsOf b (length ks))) (find (trial (ruleOf how) (segmentOf b ks) y ε limit) y (endRuleOf m b ks (segmentOf b ks) .ends .rising) (segmentsOf b (length ks)) (endRuleOf m b ks (segmentOf b ks) .made))))
+      (λ _. branch Past (atHigh (endRuleOf m b ks (segmentOf b ks) .ends) y) (λ _. tt)
+      (λ _. answered-past (parameterOf (segmentsOf b (length ks)))
+      (find (trial (ruleOf how) (segmentOf b ks) y ε limit) y (endRuleOf m b ks (segmentOf b ks) .ends .rising) (segmentsOf b (length ks))
+      (endRuleOf m b ks (segmentOf b ks) .made))))
 
   -- ---- by a row
   -- only where that row applies and none before it
   pub inverse-refused-only : (r : Refusal) → inverseBy m how b y ks check limit ε ≡ Refused r → First (inverseUses b y ks check limit ε) rows r
   unfolding inverseBy
-  inverse-refused-only r e = first-sound rows uses r (refused-by (first uses) (located (ruleOf how) (endRuleOf m b ks (segmentOf b ks) .ends) (endRuleOf m b ks (segmentOf b ks) .made) (segmentOf b ks) (segmentsOf b (length ks)) y ε limit) r located-past e)
+  inverse-refused-only r e =
+      first-sound rows uses r (refused-by (first uses)
+      (located (ruleOf how) (endRuleOf m b ks (segmentOf b ks) .ends) (endRuleOf m b ks (segmentOf b ks) .made) (segmentOf b ks)
+      (segmentsOf b (length ks)) y ε limit) r located-past e)
 
   -- and everywhere there
   pub inverse-refused-where : (r : Refusal) → First (inverseUses b y ks check limit ε) rows r → inverseBy m how b y ks check limit ε ≡ Refused r
@@ -57,7 +64,8 @@ module _ (m : EndsBy) (how : Method) (b : Basis) (y : Float) (ks : List Float) (
 
   -- ---- refusal 10
   -- only where the order check is wanted, and with the first knot whose step to the next goes against the direction
-  pub inverse-turns-back : (i : ℕ) → inverseBy m how b y ks check limit ε ≡ Refused (TurnsBack i) → T check × AgainstAt ks i × ((j : ℕ) → AgainstAt ks j → i ≤ j)
+  pub inverse-turns-back : (i : ℕ) → inverseBy m how b y ks check limit ε ≡ Refused (TurnsBack i)
+      → T check × AgainstAt ks i × ((j : ℕ) → AgainstAt ks j → i ≤ j)
   inverse-turns-back i e =
       let p = first-applies uses rows (TurnsBack i) (inverse-refused-only (TurnsBack i) e) in
       let a : (check && turnsBack ks) ≡ true = p .0 in
@@ -68,7 +76,8 @@ module _ (m : EndsBy) (how : Method) (b : Basis) (y : Float) (ks : List Float) (
       (and-l check (turnsBack ks) t, subst (AgainstAt ks) q (f .0), subst (λ (i : ℕ). (j : ℕ) → AgainstAt ks j → i ≤ j) q (f .1))
 
   -- and everywhere there where no earlier row applies
-  pub inverse-turns-back-where : None earlier (inverseUses b y ks check limit ε) → T check → (i : ℕ) → AgainstAt ks i → inverseBy m how b y ks check limit ε ≡ Refused (TurnsBack (turningKnot ks))
+  pub inverse-turns-back-where : None earlier (inverseUses b y ks check limit ε) → T check → (i : ℕ) → AgainstAt ks i
+      → inverseBy m how b y ks check limit ε ≡ Refused (TurnsBack (turningKnot ks))
   unfolding inverseBy
   inverse-turns-back-where n c i a =
       let later : List ℕ = after 10 rows in

@@ -19,18 +19,22 @@ use Rattle.inverse.specs.Scan.{follows, kept}
 pub next : (ks : List Float) (i : ℕ) → i < length ks → drop i ks ≡ getD ks i nan ∷ drop (i + 1) ks
 next ks i h = let q : suc i ≡ i + 1 = omega arith in drop-cons ks i nan h ∙ ap (λ (n : ℕ). getD ks i nan ∷ drop n ks) q
 
-kept-pair : (rising : Bool) (ks : List Float) (i : ℕ) → i + 1 < length ks → kept rising (drop i ks) ≡ (follows rising (getD ks i nan) (getD ks (i + 1) nan) && kept rising (drop (i + 1) ks))
+kept-pair : (rising : Bool) (ks : List Float) (i : ℕ) → i + 1 < length ks
+    → kept rising (drop i ks) ≡ (follows rising (getD ks i nan) (getD ks (i + 1) nan) && kept rising (drop (i + 1) ks))
 unfolding kept
 kept-pair rising ks i h =
     let e = next ks i (omega arith) in
     let f = next ks (i + 1) h in
-    ap (kept rising) (e ∙ ap (λ (l : List Float). getD ks i nan ∷ l) f) ∙ ap (λ (l : List Float). follows rising (getD ks i nan) (getD ks (i + 1) nan) && kept rising l) (sym f)
+    ap (kept rising) (e ∙ ap (λ (l : List Float). getD ks i nan ∷ l) f)
+    ∙ ap (λ (l : List Float). follows rising (getD ks i nan) (getD ks (i + 1) nan) && kept rising l) (sym f)
 
 -- one more pair
-pub scanned : (rising : Bool) (ks : List Float) (i : ℕ) (good t : Bool) → i + 1 < length ks → (good && kept rising (drop i ks)) ≡ kept rising (drop 1 ks) → t ≡ follows rising (getD ks i nan) (getD ks (i + 1) nan)
+pub scanned : (rising : Bool) (ks : List Float) (i : ℕ) (good t : Bool) → i + 1 < length ks → (good && kept rising (drop i ks)) ≡ kept rising (drop 1 ks)
+    → t ≡ follows rising (getD ks i nan) (getD ks (i + 1) nan)
     → ((good && t) && kept rising (drop (i + 1) ks)) ≡ kept rising (drop 1 ks)
 scanned rising ks i good t h v e =
-    and-assoc good t (kept rising (drop (i + 1) ks)) ∙ ap (λ (z : Bool). good && (z && kept rising (drop (i + 1) ks))) e ∙ ap (λ (z : Bool). good && z) (sym (kept-pair rising ks i h)) ∙ v
+    and-assoc good t (kept rising (drop (i + 1) ks)) ∙ ap (λ (z : Bool). good && (z && kept rising (drop (i + 1) ks))) e
+    ∙ ap (λ (z : Bool). good && z) (sym (kept-pair rising ks i h)) ∙ v
 
 last-kept : (rising : Bool) (ks : List Float) (i : ℕ) → i + 1 ≡ length ks → kept rising (drop i ks) ≡ true
 unfolding kept
@@ -38,7 +42,8 @@ last-kept rising ks i h =
     ap (kept rising) (next ks i (omega arith) ∙ ap (λ (l : List Float). getD ks i nan ∷ l) (drop-of-length-le ks {i = i + 1} (omega arith)))
 
 -- no pair is left
-pub scanned-all : (rising : Bool) (ks : List Float) (i : ℕ) (good : Bool) → i + 1 ≡ length ks → (good && kept rising (drop i ks)) ≡ kept rising (drop 1 ks) → good ≡ kept rising (drop 1 ks)
+pub scanned-all : (rising : Bool) (ks : List Float) (i : ℕ) (good : Bool) → i + 1 ≡ length ks → (good && kept rising (drop i ks)) ≡ kept rising (drop 1 ks)
+    → good ≡ kept rising (drop 1 ks)
 scanned-all rising ks i good h v = sym (and-true good) ∙ ap (λ (z : Bool). good && z) (sym (last-kept rising ks i h)) ∙ v
 
 -- ---- bounds along a kept list
@@ -50,9 +55,11 @@ module _ (rising : Bool) (P : Float → Type 0) where
   forward : ((x z : Float) → P x → T (follows rising x z) → P z) → (x : Float) (xs : List Float) → P x → T (kept rising (x ∷ xs)) → All P (x ∷ xs)
   unfolding kept
   forward f x [] p h = (p, tt)
-  forward f x (z ∷ r) p h = (p, forward f z r (f x z p (and-l (follows rising x z) (kept rising (z ∷ r)) h)) (and-r (follows rising x z) (kept rising (z ∷ r)) h))
+  forward f x (z ∷ r) p h =
+      (p, forward f z r (f x z p (and-l (follows rising x z) (kept rising (z ∷ r)) h)) (and-r (follows rising x z) (kept rising (z ∷ r)) h))
 
-  backward : ((x z : Float) → P z → T (follows rising x z) → P x) → (x : Float) (xs : List Float) → P (getD (x ∷ xs) (length xs) nan) → T (kept rising (x ∷ xs)) → All P (x ∷ xs)
+  backward : ((x z : Float) → P z → T (follows rising x z) → P x) → (x : Float) (xs : List Float) → P (getD (x ∷ xs) (length xs) nan)
+      → T (kept rising (x ∷ xs)) → All P (x ∷ xs)
   unfolding kept
   backward f x [] p h = (p, tt)
   backward f x (z ∷ r) p h =
@@ -71,13 +78,17 @@ all-in [] a b = tt
 all-in (x ∷ xs) a b = and-i (inRange x) (allInRange xs) (and-i (le (neg bound) x) (le x bound) (a .0) (b .0)) (all-in xs (a .1) (b .1))
 
 -- the first and the last in range, and each pair kept: so all are in range
-kept-range : (rising : Bool) (x : Float) (xs : List Float) → T (inRange x) → T (inRange (getD (x ∷ xs) (length xs) nan)) → T (kept rising (x ∷ xs)) → T (allInRange (x ∷ xs))
+kept-range : (rising : Bool) (x : Float) (xs : List Float) → T (inRange x) → T (inRange (getD (x ∷ xs) (length xs) nan)) → T (kept rising (x ∷ xs))
+    → T (allInRange (x ∷ xs))
 unfolding inRange
 kept-range true x xs p q h =
     all-in (x ∷ xs) (forward true Low (λ x z p k. le-trans-float (neg bound) x z p k) x xs (and-l (le (neg bound) x) (le x bound) p) h)
-    (backward true High (λ x z p k. le-trans-float x z bound k p) x xs (and-r (le (neg bound) (getD (x ∷ xs) (length xs) nan)) (le (getD (x ∷ xs) (length xs) nan) bound) q) h)
+    (backward true High (λ x z p k. le-trans-float x z bound k p) x xs
+    (and-r (le (neg bound) (getD (x ∷ xs) (length xs) nan)) (le (getD (x ∷ xs) (length xs) nan) bound) q) h)
 kept-range false x xs p q h =
-    all-in (x ∷ xs) (backward false Low (λ x z p k. le-trans-float (neg bound) z x p k) x xs (and-l (le (neg bound) (getD (x ∷ xs) (length xs) nan)) (le (getD (x ∷ xs) (length xs) nan) bound) q) h)
+    all-in (x
+    ∷ xs) (backward false Low (λ x z p k. le-trans-float (neg bound) z x p k) x xs
+    (and-l (le (neg bound) (getD (x ∷ xs) (length xs) nan)) (le (getD (x ∷ xs) (length xs) nan) bound) q) h)
     (forward false High (λ x z p k. le-trans-float z x bound k p) x xs (and-r (le (neg bound) x) (le x bound) p) h)
 
 -- ---- kept and ordered
@@ -94,7 +105,8 @@ unfolding kept ordered
 kept-ordered rising [] h = tt
 kept-ordered rising (x ∷ []) h = tt
 kept-ordered rising (x ∷ (z ∷ r)) h =
-    and-i (not (before rising z x)) (ordered rising (z ∷ r)) (follows-so rising x z (and-l (follows rising x z) (kept rising (z ∷ r)) h)) (kept-ordered rising (z ∷ r) (and-r (follows rising x z) (kept rising (z ∷ r)) h))
+    and-i (not (before rising z x)) (ordered rising (z ∷ r)) (follows-so rising x z (and-l (follows rising x z) (kept rising (z ∷ r)) h))
+    (kept-ordered rising (z ∷ r) (and-r (follows rising x z) (kept rising (z ∷ r)) h))
 
 in-number : (x : Float) → T (inRange x) → T (not (isNan x))
 unfolding inRange le lt eq isNan
@@ -108,7 +120,9 @@ ordered-kept rising [] a h = tt
 ordered-kept rising (x ∷ []) a h = tt
 ordered-kept rising (x ∷ (z ∷ r)) a h =
     let b = and-r (inRange x) (inRange z && allInRange r) a in
-    and-i (follows rising x z) (kept rising (z ∷ r)) (so-follows rising x z (in-number x (and-l (inRange x) (inRange z && allInRange r) a)) (in-number z (and-l (inRange z) (allInRange r) b)) (and-l (not (before rising z x)) (ordered rising (z ∷ r)) h))
+    and-i (follows rising x z) (kept rising (z ∷ r))
+    (so-follows rising x z (in-number x (and-l (inRange x) (inRange z && allInRange r) a)) (in-number z (and-l (inRange z) (allInRange r) b))
+    (and-l (not (before rising z x)) (ordered rising (z ∷ r)) h))
     (ordered-kept rising (z ∷ r) b (and-r (not (before rising z x)) (ordered rising (z ∷ r)) h))
 
 -- ---- the test

@@ -1,4 +1,5 @@
--- The call by the steady method ends in time: where N rounds are enough for the precision and the limit is above N, the ground `spent` is never told, and whatever
+-- The call by the steady method ends in time: where N rounds are enough for the precision and the limit is above N, the ground `spent` is never told, and
+-- whatever
 -- the limit, the count is bounded as if it were N. Assumes nothing.
 use mathlib.Core.List.{List}
 use mathlib.Core.Bool.{Bool}
@@ -35,5 +36,7 @@ module _ (m : EndsBy) (b : Basis) (ks : List Float) (limit : ℕ) where
       kept.by-verdict m Steady b y ks check limit ε (Within N) (λ r. (λ _. tt, omega arith))
       (λ a.
       let rule = endRuleOf m b ks (segmentOf b ks) in
-      let r = located-timely secant secant-lawful y ε limit N E (segmentOf b ks) (segmentsOf b (length ks)) (kept.some m Steady b y ks check limit ε) (kept.fits m Steady b y ks check limit ε a) (kept.numbers m Steady b y ks check limit ε a) (rule .ends) (rule .made) in
+      let r =
+      located-timely secant secant-lawful y ε limit N E (segmentOf b ks) (segmentsOf b (length ks)) (kept.some m Steady b y ks check limit ε)
+      (kept.fits m Steady b y ks check limit ε a) (kept.numbers m Steady b y ks check limit ε a) (rule .ends) (rule .made) in
       (r .0, le-trans (r .1) (omega (arith, rule-made m b ks (segmentOf b ks)))))

@@ -60,7 +60,8 @@ module _ (e : Ends) (ev : Evaluations) (g : ℕ → Float → Float) (k : ℕ) (
     entered : {p : Place} → Silent → In p → Told (At p)
     nowhere : {n : ℕ} → Silent → n ≤ most → (Supposed → NoneHolds) → Told (OffCurve n)
 
-module _ (R : Rule) (lawful : Lawful R) (e : Ends) (ev : Evaluations) (g : ℕ → Float → Float) (k : ℕ) (y ε : Float) (limit : ℕ) (some : 0 < k) (fits : k ≤ 4093) (numbers : (s : ℕ) → s < k → Numbers (g s) y) where
+module _ (R : Rule) (lawful : Lawful R) (e : Ends) (ev : Evaluations) (g : ℕ → Float → Float) (k : ℕ) (y ε : Float) (limit : ℕ) (some : 0 < k)
+    (fits : k ≤ 4093) (numbers : (s : ℕ) → s < k → Numbers (g s) y) where
   abbrev Found : Outcome → Type 0
   Found = Result g y k (SoundIn g y ε limit) (length ev + probes (leb k 12) k) (Supposed e ev g k y ε limit → Nothing g y k 0 k)
 
@@ -76,7 +77,8 @@ module _ (R : Rule) (lawful : Lawful R) (e : Ends) (ev : Evaluations) (g : ℕ �
       go false h = omega arith
 
   found-told : Silent e ev g k y ε limit → (o : Outcome) → Found o → Told e ev g k y ε limit (answered (parameterOf k) o)
-  found-told q (off t) (missed n c) = let h : length t ≤ most e ev g k y ε limit = omega (arith, room (length t) (omega arith)) in nowhere q h (λ S s l. n S s (omega arith) (omega arith))
+  found-told q (off t) (missed n c) = let h : length t ≤ most e ev g k y ε limit = omega (arith, room (length t) (omega arith))
+      in nowhere q h (λ S s l. n S s (omega arith) (omega arith))
   found-told q (placed p) (got r) =
       let s = r .good .1 in
       entered q (record {
@@ -84,7 +86,9 @@ module _ (R : Rule) (lawful : Lawful R) (e : Ends) (ev : Evaluations) (g : ℕ �
         few = room (r .base) (r .few);
         below = subst (λ (i : ℕ). i < k) (sym s) (r .below);
         holds = subst (λ (i : ℕ). T (Holds g y k i)) (sym s) (r .holds);
-        sound = subst (λ (i : ℕ). Sound (g i) y ε (lt (g i nought) (g i one)) limit (r .base) (p .ground) (p .local) (p .lower) (p .upper) (length (p .made))) (sym s) (r .good .0);
+        sound =
+            subst (λ (i : ℕ). Sound (g i) y ε (lt (g i nought) (g i one)) limit (r .base) (p .ground) (p .local) (p .lower) (p .upper) (length (p .made)))
+            (sym s) (r .good .0);
         scaled = refl;
       })
 

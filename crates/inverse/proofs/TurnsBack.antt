@@ -47,25 +47,35 @@ from-one ks i = let q : 1 + i ≡ suc i = omega arith in getD-drop 1 ks i nan �
 
 pub turns-back-at : (ks : List Float) → T (turnsBack ks) → (i : ℕ) × AgainstAt ks i
 turns-back-at ks h =
-    let a = against (rises ks) (drop 1 ks) h in
-    (suc (a .0), (omega arith, omega (arith, a .1, length-drop 1 ks), subst₂ (λ (u v : Float). T (before (rises ks) u v)) (from-one ks (suc (a .0))) (from-one ks (a .0)) (a .2)))
+    let a = against (rises ks) (drop 1 ks) h in (
+      suc (a .0),
+      (
+        omega arith,
+        omega (arith, a .1, length-drop 1 ks),
+        subst₂ (λ (u v : Float). T (before (rises ks) u v)) (from-one ks (suc (a .0))) (from-one ks (a .0)) (a .2),
+      ),
+    )
 
 pub turns-back-where : (ks : List Float) (i : ℕ) → AgainstAt ks i → T (turnsBack ks)
 turns-back-where ks zero a = absurd (omega (arith, a .0))
 turns-back-where ks (suc i) a =
     not-T (ordered (rises ks) (drop 1 ks))
-    (not-ordered (rises ks) (drop 1 ks) i (omega (arith, a .1, length-drop 1 ks)) (subst₂ (λ (u v : Float). T (before (rises ks) u v)) (sym (from-one ks (suc i))) (sym (from-one ks i)) (a .2)))
+    (not-ordered (rises ks) (drop 1 ks) i (omega (arith, a .1, length-drop 1 ks))
+    (subst₂ (λ (u v : Float). T (before (rises ks) u v)) (sym (from-one ks (suc i))) (sym (from-one ks i)) (a .2)))
 
 -- ---- the first such knot
 module _ (rising : Bool) (ks : List Float) (i : ℕ) where
   -- as the code looks for it
-  pub turn-later : suc i < length ks → before rising (knot ks (i + 1)) (knot ks i) ≡ false → turnsAt rising i (drop i ks) ≡ turnsAt rising (i + 1) (drop (i + 1) ks)
+  pub turn-later : suc i < length ks → before rising (knot ks (i + 1)) (knot ks i) ≡ false
+      → turnsAt rising i (drop i ks) ≡ turnsAt rising (i + 1) (drop (i + 1) ks)
   unfolding turnsAt
   turn-later h e =
       let f = next ks (i + 1) (omega arith) in
       let q : suc i ≡ i + 1 = omega arith in
-      let r : turnsAt rising i (knot ks i ∷ (knot ks (i + 1) ∷ drop (i + 1 + 1) ks)) ≡ turnsAt rising (suc i) (knot ks (i + 1) ∷ drop (i + 1 + 1) ks) = simp e in
-      ap (turnsAt rising i) (next ks i (omega arith) ∙ ap (λ (l : List Float). knot ks i ∷ l) f) ∙ r ∙ ap (turnsAt rising (suc i)) (sym f) ∙ ap (λ (n : ℕ). turnsAt rising n (drop (i + 1) ks)) q
+      let r : turnsAt rising i (knot ks i ∷ (knot ks (i + 1) ∷ drop (i + 1 + 1) ks)) ≡ turnsAt rising (suc i) (knot ks (i + 1) ∷ drop (i + 1 + 1) ks) =
+      simp e in
+      ap (turnsAt rising i) (next ks i (omega arith) ∙ ap (λ (l : List Float). knot ks i ∷ l) f) ∙ r ∙ ap (turnsAt rising (suc i)) (sym f)
+      ∙ ap (λ (n : ℕ). turnsAt rising n (drop (i + 1) ks)) q
 
   pub turn-here : suc i < length ks → before rising (knot ks (i + 1)) (knot ks i) ≡ true → turnsAt rising i (drop i ks) ≡ i
   unfolding turnsAt
@@ -92,14 +102,17 @@ module _ (rising : Bool) where
   first-in a (x ∷ []) h = absurd h
   first-in a (x ∷ (z ∷ r)) h = go (before rising z x) refl (first-in (suc a) (z ∷ r)) h
     where
-      go : (t : Bool) → before rising z x ≡ t → (T (not (ordered rising (z ∷ r))) → (d : ℕ) × FirstIn (suc a) (z ∷ r) d) → T (not (not t && ordered rising (z ∷ r))) → (d : ℕ) × FirstIn a (x ∷ (z ∷ r)) d
-      go true e u k = let q : a ≡ a + 0 = omega arith in (0, record { told = rw e q; within = omega arith; turns = holds e; none = λ j l. absurd (omega arith) })
+      go : (t : Bool) → before rising z x ≡ t → (T (not (ordered rising (z ∷ r))) → (d : ℕ) × FirstIn (suc a) (z ∷ r) d)
+          → T (not (not t && ordered rising (z ∷ r))) → (d : ℕ) × FirstIn a (x ∷ (z ∷ r)) d
+      go true e u k = let q : a ≡ a + 0 = omega arith
+          in (0, record { told = rw e q; within = omega arith; turns = holds e; none = λ j l. absurd (omega arith) })
       go false e u k =
           let v = u k in
           let q : suc a + v .0 ≡ a + suc (v .0) = omega arith in
           (suc (v .0), record { told = rw e (v .1 .told ∙ q); within = omega (arith, v .1 .within); turns = v .1 .turns; none = none-of (v .1 .none) })
         where
-          none-of : {d : ℕ} → ((j : ℕ) → j < d → T (not (before rising (getD (z ∷ r) (suc j) nan) (getD (z ∷ r) j nan)))) → (j : ℕ) → j < suc d → T (not (before rising (getD (x ∷ (z ∷ r)) (suc j) nan) (getD (x ∷ (z ∷ r)) j nan)))
+          none-of : {d : ℕ} → ((j : ℕ) → j < d → T (not (before rising (getD (z ∷ r) (suc j) nan) (getD (z ∷ r) j nan)))) → (j : ℕ) → j < suc d
+              → T (not (before rising (getD (x ∷ (z ∷ r)) (suc j) nan) (getD (x ∷ (z ∷ r)) j nan)))
           none-of f zero l = fails e
           none-of f (suc j) l = f j (omega arith)
 
@@ -110,7 +123,11 @@ turning-first ks h =
     let d = r .0 in
     let f = r .1 in
     let q : turningKnot ks ≡ suc d = f .told ∙ one-and d in (
-      subst (AgainstAt ks) (sym q) (omega arith, omega (arith, f .within, length-drop 1 ks), subst₂ (λ (u v : Float). T (before (rises ks) u v)) (from-one ks (suc d)) (from-one ks d) (f .turns)),
+      subst (AgainstAt ks) (sym q) (
+        omega arith,
+        omega (arith, f .within, length-drop 1 ks),
+        subst₂ (λ (u v : Float). T (before (rises ks) u v)) (from-one ks (suc d)) (from-one ks d) (f .turns),
+      ),
       λ j a. rw q (least j a),
     )
   where
@@ -123,5 +140,6 @@ turning-first ks h =
         let r = first-in (rises ks) 1 (drop 1 ks) h in
         elim (le-or-lt (r .0) j) [
           | inl l ↦ omega arith
-          | inr l ↦ absurd (T-not (before (rises ks) (getD (drop 1 ks) (suc j) nan) (getD (drop 1 ks) j nan)) (r .1 .none j l) (subst₂ (λ (u v : Float). T (before (rises ks) u v)) (sym (from-one ks (suc j))) (sym (from-one ks j)) (a .2)))
+          | inr l ↦ absurd (T-not (before (rises ks) (getD (drop 1 ks) (suc j) nan) (getD (drop 1 ks) j nan)) (r .1 .none j l)
+              (subst₂ (λ (u v : Float). T (before (rises ks) u v)) (sym (from-one ks (suc j))) (sym (from-one ks j)) (a .2)))
         ]

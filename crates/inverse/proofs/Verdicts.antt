@@ -32,7 +32,8 @@ use Rattle.inverse.specs.Scan.{kept}
 use Rattle.inverse.proofs.Scan.{all-sound}
 
 -- ---- all in range and in order, by one scan
-pub sound-in : (ks : List Float) → 4 ≤ length ks → inRange (getD ks 0 nan) ≡ true → inRange (getD ks 1 nan) ≡ true → inRange (getD ks (length ks - 1) nan) ≡ true → kept (rises ks) (drop 1 ks) ≡ (allInRange ks && not (turnsBack ks))
+pub sound-in : (ks : List Float) → 4 ≤ length ks → inRange (getD ks 0 nan) ≡ true → inRange (getD ks 1 nan) ≡ true
+    → inRange (getD ks (length ks - 1) nan) ≡ true → kept (rises ks) (drop 1 ks) ≡ (allInRange ks && not (turnsBack ks))
 sound-in [] h a b c = absurd (omega arith)
 sound-in (x ∷ []) h a b c = absurd (omega arith)
 sound-in (x ∷ (z ∷ r)) h a b c =
@@ -77,7 +78,8 @@ module _ (p q : ℕ) (a t check : Bool) where
     pub knots-turn : {r : Refusal} → k ≡ Passed → check ≡ true → (a && not t) ≡ false → r ≡ TurnsBack q → Failed r ≡ first (knotRows p q a t check)
     knots-turn {r} f c n h = ap Failed h ∙ go a t check (sym f ∙ e) c n
       where
-        go : (a t check : Bool) → Passed ≡ first ((BadKnot p, not a) ∷ []) → check ≡ true → (a && not t) ≡ false → Failed (TurnsBack q) ≡ first (knotRows p q a t check)
+        go : (a t check : Bool) → Passed ≡ first ((BadKnot p, not a) ∷ []) → check ≡ true → (a && not t) ≡ false
+            → Failed (TurnsBack q) ≡ first (knotRows p q a t check)
         go true true true f c n = refl
         go true true false f c n = absurd (holds c)
         go true false check f c n = absurd (fails n)
@@ -106,7 +108,8 @@ pub record Admitted (b : Basis) (y : Float) (ks : List Float) (check : Bool) : T
   pub in-range : allInRange ks ≡ true
   pub in-order : (check && turnsBack ks) ≡ false
 
-pub admitted : (b : Basis) (y : Float) (ks : List Float) (check : Bool) (limit : ℕ) (ε : Float) → first (inverseUses b y ks check limit ε) ≡ Passed → Admitted b y ks check
+pub admitted : (b : Basis) (y : Float) (ks : List Float) (check : Bool) (limit : ℕ) (ε : Float) → first (inverseUses b y ks check limit ε) ≡ Passed
+    → Admitted b y ks check
 admitted b y ks check limit ε e =
     let p = clear (inverseUses b y ks check limit ε) e in
     record {
@@ -118,11 +121,14 @@ admitted b y ks check limit ε e =
     }
 
 -- ---- the answer
-module _ (m : EndsBy) (how : Method) (b : Basis) (y : Float) (ks : List Float) (check : Bool) (limit : ℕ) (ε : Float) {v : Verdict} (e : v ≡ first (inverseUses b y ks check limit ε)) where
+module _ (m : EndsBy) (how : Method) (b : Basis) (y : Float) (ks : List Float) (check : Bool) (limit : ℕ) (ε : Float) {v : Verdict}
+    (e : v ≡ first (inverseUses b y ks check limit ε)) where
   pub refused-is : {r : Refusal} → v ≡ Failed r → Refused r ≡ inverseBy m how b y ks check limit ε
   unfolding inverseBy
   refused-is k = rw (sym e ∙ k)
 
-  pub answer-is : {a : Inverted} → v ≡ Passed → a ≡ located (ruleOf how) (endRuleOf m b ks (segmentOf b ks) .ends) (endRuleOf m b ks (segmentOf b ks) .made) (segmentOf b ks) (segmentsOf b (length ks)) y ε limit → a ≡ inverseBy m how b y ks check limit ε
+  pub answer-is : {a : Inverted} → v ≡ Passed
+      → a ≡ located (ruleOf how) (endRuleOf m b ks (segmentOf b ks) .ends) (endRuleOf m b ks (segmentOf b ks) .made) (segmentOf b ks)
+      (segmentsOf b (length ks)) y ε limit → a ≡ inverseBy m how b y ks check limit ε
   unfolding inverseBy
   answer-is k h = h ∙ rw (sym e ∙ k)

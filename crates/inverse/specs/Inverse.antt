@@ -27,13 +27,15 @@ inverseUses b y ks check limit ε = curveLength b (length ks) ++ asked y limit �
 unfoldable pub inverseBy : EndsBy → Method → Basis → Float → List Float → Bool → ℕ → Float → Inverted
 inverseBy m how b y ks check limit ε =
     let r = endRuleOf m b ks (segmentOf b ks) in
-    inverted (first (inverseUses b y ks check limit ε)) (located (ruleOf how) (r .ends) (r .made) (segmentOf b ks) (segmentsOf b (length ks)) y ε limit)
+    inverted (first (inverseUses b y ks check limit ε))
+    (located (ruleOf how) (r .ends) (r .made) (segmentOf b ks) (segmentsOf b (length ks)) y ε limit)
 
 -- the evaluations that the call makes: none where it refuses by a row
 unfoldable pub evaluationsBy : EndsBy → Method → Basis → Float → List Float → Bool → ℕ → Float → Evaluations
 evaluationsBy m how b y ks check limit ε =
     let r = endRuleOf m b ks (segmentOf b ks) in
-    unlessRefused (first (inverseUses b y ks check limit ε)) (evaluations (ruleOf how) (r .ends) (r .made) (segmentOf b ks) (segmentsOf b (length ks)) y ε limit)
+    unlessRefused (first (inverseUses b y ks check limit ε))
+    (evaluations (ruleOf how) (r .ends) (r .made) (segmentOf b ks) (segmentsOf b (length ks)) y ε limit)
 
 -- as the crate inverts: by the knots, and by its own rule
 abbrev pub inverseOf : Basis → Float → List Float → Bool → ℕ → Float → Inverted

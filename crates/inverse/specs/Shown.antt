@@ -21,7 +21,8 @@ abbrev pub EndedIs : ℕ → ℕ → Float → Inverted → Type 0
 EndedIs n s x r = (ev : Evaluations) → length ev ≡ n → r ≡ ended ev s x
 
 abbrev pub SearchedIs : Method → Basis → Float → List Float → ℕ → Float → Bool → ℕ → ℕ → Inverted → Type 0
-SearchedIs how b y ks limit ε rising k n r = (ev : Evaluations) → length ev ≡ n → r ≡ answered (parameterOf k) (find (trial (ruleOf how) (segmentOf b ks) y ε limit) y rising k ev)
+SearchedIs how b y ks limit ε rising k n r = (ev : Evaluations) → length ev ≡ n
+    → r ≡ answered (parameterOf k) (find (trial (ruleOf how) (segmentOf b ks) y ε limit) y rising k ev)
 
 abbrev pub LocatedIs : Method → Ends → Basis → Float → List Float → ℕ → Float → ℕ → ℕ → Inverted → Type 0
 LocatedIs how e b y ks limit ε k n r = (ev : Evaluations) → length ev ≡ n → r ≡ located (ruleOf how) e ev (segmentOf b ks) k y ε limit

@@ -125,7 +125,8 @@ fn searched(
     k: usize,
     n: u32,
 ) -> Inverted
-    requires { ⌜ (k ≡ segmentsOf b (length (now knots))) × (4 ≤ length (now knots)) × (length (now knots) ≤ 4096) × (isNan y ≡ false) × (allInRange (now knots) ≡ true) × (n ≤ 1000) ⌝ }
+    requires { ⌜ (k ≡ segmentsOf b (length (now knots))) × (4 ≤ length (now knots)) × (length (now knots) ≤ 4096) × (isNan y ≡ false)
+        × (allInRange (now knots) ≡ true) × (n ≤ 1000) ⌝ }
     ensures { λ r. ⌜ SearchedIs how b y (now (knots .entry)) limit precision rising k n r ⌝ }
 {
     let a = inverse_search::find(how, b, knots, y, precision, limit, rising, k, n);
@@ -157,7 +158,8 @@ fn located(
     precision: f64,
     k: usize,
 ) -> Inverted
-    requires { ⌜ (k ≡ segmentsOf b (length (now knots))) × (4 ≤ length (now knots)) × (length (now knots) ≤ 4096) × (isNan y ≡ false) × (allInRange (now knots) ≡ true) × (n ≤ 1000) ⌝ }
+    requires { ⌜ (k ≡ segmentsOf b (length (now knots))) × (4 ≤ length (now knots)) × (length (now knots) ≤ 4096) × (isNan y ≡ false)
+        × (allInRange (now knots) ≡ true) × (n ≤ 1000) ⌝ }
     ensures { λ r. ⌜ LocatedIs how e b y (now (knots .entry)) limit precision k n r ⌝ }
 {
     if is_at_low(e, y) {
@@ -200,7 +202,9 @@ fn locate(
     precision: f64,
 ) -> Inverted
     requires { ⌜ (4 ≤ length (now knots)) × (length (now knots) ≤ 4096) × (isNan y ≡ false) × (allInRange (now knots) ≡ true) ⌝ }
-    ensures { λ r. ⌜ r ≡ located (ruleOf how) (endRuleOf ends b (now (knots .entry)) (segmentOf b (now (knots .entry))) .ends) (endRuleOf ends b (now (knots .entry)) (segmentOf b (now (knots .entry))) .made) (segmentOf b (now (knots .entry))) (segmentsOf b (length (now (knots .entry)))) y precision limit ⌝ }
+    ensures { λ r. ⌜ r ≡ located (ruleOf how) (endRuleOf ends b (now (knots .entry)) (segmentOf b (now (knots .entry))) .ends)
+        (endRuleOf ends b (now (knots .entry)) (segmentOf b (now (knots .entry))) .made) (segmentOf b (now (knots .entry)))
+        (segmentsOf b (length (now (knots .entry)))) y precision limit ⌝ }
 {
     let k = basis::segments(b, knots.len());
     located(

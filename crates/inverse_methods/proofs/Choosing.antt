@@ -36,7 +36,8 @@ module _ (limit i : ℕ) (y width : Float) (st : State) (e : width ≡ allowed i
   choose-middle x h m = (simp (← e, h), simp (← e, h, m))
 
   pub choose-chord : (a : Bracket) (t p x : Float) → lt width (sub binary64 (st .bracket .upper) (st .bracket .lower)) ≡ false → a ≡ weighed toward y true st
-      → t ≡ div binary64 (sub binary64 y (a .v0)) (sub binary64 (a .v1) (a .v0)) → p ≡ lerpOf (a .lower) (a .upper) t → x ≡ inner a p → (a ≡ steady limit i y st .bracket) × (x ≡ steady limit i y st .place)
+      → t ≡ div binary64 (sub binary64 y (a .v0)) (sub binary64 (a .v1) (a .v0)) → p ≡ lerpOf (a .lower) (a .upper) t → x ≡ inner a p
+      → (a ≡ steady limit i y st .bracket) × (x ≡ steady limit i y st .place)
   unfolding paced secant
   choose-chord a t p x h e-a e-t e-p e-x = (simp (← e, h) e-a, simp (← e, h) (cc))
 
@@ -51,7 +52,8 @@ next-width i e = rw (add-one) (ap (λ (z : Float). mul binary64 z half) e)
 
 -- ---- by a method
 module _ (w : Weights) (s : ℕ) (y ε : Float) (limit : ℕ) (v0 v1 : Float) (n : ℕ) (how : Method) {r : Place} where
-  by-rule : (h : Method) → how ≡ h → ((ev : Evaluations) → length ev ≡ n → r ≡ placeOf alone (entered (ruleOf h) (hornerOf w) s y ε limit v0 v1 ev)) → EnteredBy how w s y ε limit v0 v1 n r
+  by-rule : (h : Method) → how ≡ h → ((ev : Evaluations) → length ev ≡ n → r ≡ placeOf alone (entered (ruleOf h) (hornerOf w) s y ε limit v0 v1 ev))
+      → EnteredBy how w s y ε limit v0 v1 n r
   by-rule h e i ev k = i ev k ∙ ap (λ (m : Method). placeOf alone (entered (ruleOf m) (hornerOf w) s y ε limit v0 v1 ev)) (sym e)
 
   pub by-weighing : (m : Weighing) {x : RoundsBy} → x ≡ roundsOf how → x ≡ Weight m → ChordIs m w s y ε limit v0 v1 n r → EnteredBy how w s y ε limit v0 v1 n r

@@ -1,5 +1,6 @@
 -- A lawful rule kept to the pace ends in time. Before round i the bracket spans at most 2^(5 - i) + 6·2^-53; so, with a precision above 2^(5 - N) + 7·2^-53,
--- the width test stops round N at the latest, after at most N evaluations in the rounds, and the limit is never told as spent if it is above N. For any function
+-- the width test stops round N at the latest, after at most N evaluations in the rounds, and the limit is never told as spent if it is above N. For any
+-- function
 -- of the local place. Assumes nothing.
 use mathlib.Core.Path.{_≡_, refl, sym, ap, _∙_, subst, subst₂}
 use mathlib.Core.Logic.{_⊎_, inl, inr}
@@ -54,19 +55,26 @@ halved-power x k small v =
     let D : 0 < d = mul-pos (pow-pos C) (pow-pos 1) in
     let e : a * 2 ^ C ≡ 1 * 2 ^ k * d = same (2 ^ k) (2 ^ C) (2 ^ suc k) (two-pow-succ k) in
     let s : Short f (1 * 2 ^ k) = record { q = 1; j = k; short = lit< tt; whole = refl } in
-    let g : grid f a d ≡ 2 ^ k = le-antisymm (grid-le f a d 1 k D (lit< tt) (le-of-eq e)) (grid-short-ge f a d (1 * 2 ^ k) D s (le-of-eq (sym e))) ∙ one-mul (2 ^ k) in
-    subst (λ (z : ℕ). HasValue (mul f x half) false z (2 ^ C)) g (rw (mul-at f x 1 (negsuc 0) (2 ^ suc k) v) (round-val f a d (subst (λ (z : ℕ). z < overflow f) (sym g) small)))
+    let g : grid f a d ≡ 2 ^ k =
+    le-antisymm (grid-le f a d 1 k D (lit< tt) (le-of-eq e)) (grid-short-ge f a d (1 * 2 ^ k) D s (le-of-eq (sym e))) ∙ one-mul (2 ^ k) in
+    subst (λ (z : ℕ). HasValue (mul f x half) false z (2 ^ C)) g
+    (rw (mul-at f x 1 (negsuc 0) (2 ^ suc k) v) (round-val f a d (subst (λ (z : ℕ). z < overflow f) (sym g) small)))
   where
     same : (p c q : ℕ) → q ≡ p + p → q * (1 * 1) * c ≡ 1 * p * (c * 2 ^ 1)
     same p c q e = rw e (go p c)
       where
         go : (p c : ℕ) → (p + p) * (1 * 1) * c ≡ 1 * p * (c * 2 ^ 1)
-        go p c = ap (λ (z : ℕ). z * c) (mul-one (p + p)) ∙ ap (λ (z : ℕ). z * c) (let h : p + p ≡ p * 2 = omega arith in h) ∙ mul-assoc p 2 c ∙ ap (λ (z : ℕ). p * z) (mul-comm 2 c) ∙ ap (λ (z : ℕ). z * (c * 2)) (sym (one-mul p))
+        go p c =
+            ap (λ (z : ℕ). z * c) (mul-one (p + p)) ∙ ap (λ (z : ℕ). z * c) (let h : p + p ≡ p * 2 = omega arith in h) ∙ mul-assoc p 2 c
+            ∙ ap (λ (z : ℕ). p * z) (mul-comm 2 c) ∙ ap (λ (z : ℕ). z * (c * 2)) (sym (one-mul p))
 
 pub allowed-at : (i k : ℕ) → i + k ≡ C + 4 → HasValue (allowed i) false (2 ^ k) (2 ^ C)
 unfolding allowed
 allowed-at zero k e = let q : C + 4 ≡ k = omega (arith, e) in subst (λ (z : ℕ). HasValue (allowed 0) false (2 ^ z) (2 ^ C)) q (refl, refl)
-allowed-at (suc i) k e = halved-power (allowed i) k (pow-lt {j = low binary64 + suc (emax binary64)} (lt-of-le-of-lt (le-of k e) (lit< {n = low binary64 + suc (emax binary64)} tt))) (allowed-at i (suc k) (omega (arith, e)))
+allowed-at (suc i) k e =
+    halved-power (allowed i) k
+    (pow-lt {j = low binary64 + suc (emax binary64)} (lt-of-le-of-lt (le-of k e) (lit< {n = low binary64 + suc (emax binary64)} tt)))
+    (allowed-at i (suc k) (omega (arith, e)))
   where
     le-of : (k : ℕ) → suc i + k ≡ C + 4 → k ≤ 1078
     le-of k e = omega (arith, e)
@@ -102,7 +110,19 @@ inside-splits b n m x S i h =
     let U = units-of binary64 x (i .held) (i .sign) in
     let a : S .L ≤ U .h = in-order binary64 (b .lower) x (S .L) (U .h) (S .lower-is) (U .is) (i .above) in
     let z : U .h ≤ S .H = in-order binary64 x (b .upper) (U .h) (S .H) (U .is) (S .upper-is) (i .below) in
-    record { at = U .h; x-is = U .is; L = S .L; H = S .H; lower-is = S .lower-is; upper-is = S .upper-is; above = a; below = z; top = S .top; left = le-trans z h; right = le-trans h (more (S .L) (U .h) m a) }
+    record {
+      at = U .h;
+      x-is = U .is;
+      L = S .L;
+      H = S .H;
+      lower-is = S .lower-is;
+      upper-is = S .upper-is;
+      above = a;
+      below = z;
+      top = S .top;
+      left = le-trans z h;
+      right = le-trans h (more (S .L) (U .h) m a);
+    }
   where
     more : (a b m : ℕ) → a ≤ b → a + m ≤ b + m
     more a b m h = omega arith
@@ -143,7 +163,8 @@ number-of (inf s) a c v = tt
 number-of (fin s m e) a c v = tt
 
 -- where the computed width is not above the allowed, so is the span, but for a rounding
-within-allowed : (b : Bracket) (i k n : ℕ) → i + k ≡ C + 4 → (S : Spans b n) → T (not (lt (allowed i) (sub binary64 (b .upper) (b .lower)))) → S .H ≤ S .L + (2 ^ k + 6 * 2 ^ J)
+within-allowed : (b : Bracket) (i k n : ℕ) → i + k ≡ C + 4 → (S : Spans b n) → T (not (lt (allowed i) (sub binary64 (b .upper) (b .lower))))
+    → S .H ≤ S .L + (2 ^ k + 6 * 2 ^ J)
 within-allowed b i k n e S h =
     let w = apart (b .lower) (b .upper) (S .L) (S .H) (S .order) (S .top) (S .lower-is) (S .upper-is) in
     let A = allowed-at i k e in
@@ -155,11 +176,13 @@ within-allowed b i k n e S h =
     close L H D a g o p q = omega arith
 
 -- so the place splits the bracket to the next round's bound
-paced-splits : (R : Rule) → Lawful R → (limit i k : ℕ) (y : Float) (st : State) → i + k ≡ C + 4 → Placing (st .bracket) → Spans (st .bracket) (2 ^ suc k + 6 * 2 ^ J) → Splits (st .bracket) (2 ^ k + 6 * 2 ^ J) (paced R limit i y st .place)
+paced-splits : (R : Rule) → Lawful R → (limit i k : ℕ) (y : Float) (st : State) → i + k ≡ C + 4 → Placing (st .bracket)
+    → Spans (st .bracket) (2 ^ suc k + 6 * 2 ^ J) → Splits (st .bracket) (2 ^ k + 6 * 2 ^ J) (paced R limit i y st .place)
 unfolding paced
 paced-splits R lawful limit i k y st e p S =
     let b = st .bracket in
-    branch (λ (c : Choice). Inside (b .lower) (b .upper) (c .place) → Splits b (2 ^ k + 6 * 2 ^ J) (c .place)) (lt (allowed i) (sub binary64 (b .upper) (b .lower)))
+    branch (λ (c : Choice). Inside (b .lower) (b .upper) (c .place) → Splits b (2 ^ k + 6 * 2 ^ J) (c .place))
+    (lt (allowed i) (sub binary64 (b .upper) (b .lower)))
     (λ h j. midpoint-splits b (2 ^ suc k + 6 * 2 ^ J) (2 ^ k + 6 * 2 ^ J) S j (twice (2 ^ k) (2 ^ suc k) (2 ^ J) (two-pow-succ k)))
     (λ h j. inside-splits b (2 ^ suc k + 6 * 2 ^ J) (2 ^ k + 6 * 2 ^ J) _ S j (within-allowed b i k (2 ^ suc k + 6 * 2 ^ J) e S h))
     (paced-lawful R lawful .between limit i y st p)
@@ -196,7 +219,9 @@ narrow-of ε b p h =
     let c : T (clear w) = sub-clear (b .lower) (b .upper) (l .held) (u .held) (l .sign) (u .sign) (p .order) in
     let t = mul binary64 w trillionth in
     let t-le : T (le t w) = trillionth-le w (sub-fits binary64 (b .upper) (b .lower)) c in
-    rw (magnitude-clear w c) (branch (λ (z : Float). T (lt w z)) (lt t ε) (λ _. h) (λ k. absurd (lt-le-absurd w ε h (le-trans-float ε t w (not-lt→le t ε (number-at-most t w t-le) (number-below w ε h) k) t-le))))
+    rw (magnitude-clear w c)
+    (branch (λ (z : Float). T (lt w z)) (lt t ε) (λ _. h)
+    (λ k. absurd (lt-le-absurd w ε h (le-trans-float ε t w (not-lt→le t ε (number-at-most t w t-le) (number-below w ε h) k) t-le))))
 
 -- a precision that stops the rounds in round N: it is at least some double of h units, which is above 2^(5 - N) + 7·2^-53
 pub record Enough (ε : Float) (N : ℕ) : Type 0 where
@@ -248,7 +273,8 @@ splits-as a b m x e d S = record {
 inside-in : (lower upper x : Float) → Inside lower upper x → InUnit upper → InUnit x
 inside-in lower upper x i u = record { sign = i .sign; held = i .held; top = le-trans-float x upper one (i .below) (u .top) }
 
-moved-tight : (p : Bool) (b : Bracket) (st : State) (x v : Float) (m : ℕ) → InUnit (b .lower) → InUnit (b .upper) → Inside (b .lower) (b .upper) x → Splits b m x
+moved-tight : (p : Bool) (b : Bracket) (st : State) (x v : Float) (m : ℕ) → InUnit (b .lower) → InUnit (b .upper) → Inside (b .lower) (b .upper) x
+    → Splits b m x
     → Placing (moved p b st x v .bracket) × Spans (moved p b st x v .bracket) m
 unfolding moved
 moved-tight true b st x v m l u i S = (
@@ -274,14 +300,16 @@ module _ (R : Rule) (lawful : Lawful R) (f : Float → Float) (s : ℕ) (y ε : 
   Tight k i (found g x b ev) = T (not (isSpent g)) × (length ev ≤ base + N)
   Tight k i (on st ev) = Placing (st .bracket) × Spans (st .bracket) (2 ^ k + 6 * 2 ^ J) × (length ev ≡ base + i)
 
-  settled-tight : (k i : ℕ) (b : Bracket) (st : State) (x v : Float) (ev : Evaluations) → i < N → InUnit (b .lower) → InUnit (b .upper) → Inside (b .lower) (b .upper) x → Splits b (2 ^ k + 6 * 2 ^ J) x
+  settled-tight : (k i : ℕ) (b : Bracket) (st : State) (x v : Float) (ev : Evaluations) → i < N → InUnit (b .lower) → InUnit (b .upper)
+      → Inside (b .lower) (b .upper) x → Splits b (2 ^ k + 6 * 2 ^ J) x
       → length ev ≡ base + suc i → Tight k (suc i) (settled y ε rising b st x v ev)
   unfolding settled
   settled-tight k i b st x v ev l p q j S c =
       let m = moved-tight (Bool·beq (lt v y) rising) b st x v (2 ^ k + 6 * 2 ^ J) p q j S in
       branch (Tight k (suc i)) (lt (magnitudeOf (sub binary64 v y)) ε) (λ _. (tt, omega (arith, l, c))) (λ _. (m .0, m .1, c))
 
-  turn-tight : (k i : ℕ) (st : State) (ev : Evaluations) → i + k ≡ C + 4 → i < N → Placing (st .bracket) → Spans (st .bracket) (2 ^ suc k + 6 * 2 ^ J) → length ev ≡ base + i
+  turn-tight : (k i : ℕ) (st : State) (ev : Evaluations) → i + k ≡ C + 4 → i < N → Placing (st .bracket) → Spans (st .bracket) (2 ^ suc k + 6 * 2 ^ J)
+      → length ev ≡ base + i
       → Tight k (suc i) (turn (paced R) f s y ε rising limit i st ev)
   unfolding turn probed
   turn-tight k i st ev e l p S c =
@@ -290,7 +318,8 @@ module _ (R : Rule) (lawful : Lawful R) (f : Float → Float) (s : ℕ) (y ε : 
       let r = paced R limit i y st in
       let e-l = paced-lawful R lawful .same-lower limit i y st in
       let e-u = paced-lawful R lawful .same-upper limit i y st in
-      let j : Inside (r .bracket .lower) (r .bracket .upper) (r .place) = subst₂ (λ (a b : Float). Inside a b (r .place)) (sym e-l) (sym e-u) (paced-lawful R lawful .between limit i y st p) in
+      let j : Inside (r .bracket .lower) (r .bracket .upper) (r .place) =
+      subst₂ (λ (a b : Float). Inside a b (r .place)) (sym e-l) (sym e-u) (paced-lawful R lawful .between limit i y st p) in
       settled-tight k i (r .bracket) st (r .place) (f (r .place)) _ l (subst InUnit (sym e-l) (p .lower-in)) (subst InUnit (sym e-u) (p .upper-in)) j
       (splits-as (r .bracket) (st .bracket) (2 ^ k + 6 * 2 ^ J) (r .place) e-l e-u (paced-splits R lawful limit i k y st e p S)) (omega (arith, c)))
 
@@ -311,9 +340,11 @@ module _ (R : Rule) (lawful : Lawful R) (f : Float → Float) (s : ℕ) (y ε : 
 
   module _ (E : Enough ε N) where
     -- round N is the last
-    turn-last : (st : State) (ev : Evaluations) → Placing (st .bracket) → Spans (st .bracket) (2 ^ E .K + 6 * 2 ^ J) → length ev ≡ base + N → Done (turn (paced R) f s y ε rising limit N st ev)
+    turn-last : (st : State) (ev : Evaluations) → Placing (st .bracket) → Spans (st .bracket) (2 ^ E .K + 6 * 2 ^ J) → length ev ≡ base + N
+        → Done (turn (paced R) f s y ε rising limit N st ev)
     unfolding turn
-    turn-last st ev p S c = branch Done (narrow ε (st .bracket)) (λ _. (tt, le-of-eq c)) (λ k. absurd (T-not (narrow ε (st .bracket)) k (spans-narrow ε N (st .bracket) E p S)))
+    turn-last st ev p S c =
+        branch Done (narrow ε (st .bracket)) (λ _. (tt, le-of-eq c)) (λ k. absurd (T-not (narrow ε (st .bracket)) k (spans-narrow ε N (st .bracket) E p S)))
 
     rounds-end : (n i k : ℕ) (t : Turn) → i + k ≡ C + 5 → i ≤ N → Tight k i t → Ended n i (rounds (paced R) f s y ε rising limit n i t)
     unfolding rounds
@@ -329,7 +360,9 @@ module _ (R : Rule) (lawful : Lawful R) (f : Float → Float) (s : ℕ) (y ε : 
           (turn-last st ev (h .0) (subst (λ (z : ℕ). Spans (st .bracket) (2 ^ z + 6 * 2 ^ J)) r (h .1)) (h .2 ∙ ap (λ (z : ℕ). base + z) (sym q))))
       | inr g ↦
           let q : suc (k - 1) ≡ k = omega (arith, g, e, E .last) in
-          let u = turn-tight (k - 1) i st ev (omega (arith, q, e)) g (h .0) (subst (λ (z : ℕ). Spans (st .bracket) (2 ^ z + 6 * 2 ^ J)) (sym q) (h .1)) (h .2) in
+          let u =
+          turn-tight (k - 1) i st ev (omega (arith, q, e)) g (h .0) (subst (λ (z : ℕ). Spans (st .bracket) (2 ^ z + 6 * 2 ^ J)) (sym q) (h .1)) (h .2)
+          in
           let r = rounds-end n (suc i) (k - 1) (turn (paced R) f s y ε rising limit i st ev) (omega (arith, q, e)) g u in
           record { in-time = λ z. r .in-time (omega (arith, z)); few = r .few }
     ]
@@ -354,5 +387,7 @@ module _ (R : Rule) (lawful : Lawful R) (f : Float → Float) (s : ℕ) (y ε : 
 
   pub paced-ends : (N : ℕ) → Enough ε N → EndsWithin N
   paced-ends N E =
-      let r = rounds-end R lawful f s y ε rising limit (length ev) N E limit 0 (C + 5) (on (start (opening v0 v1)) ev) (omega arith) (omega arith) (opening-placing v0 v1, opening-spans v0 v1, omega arith) in
+      let r =
+      rounds-end R lawful f s y ε rising limit (length ev) N E limit 0 (C + 5) (on (start (opening v0 v1)) ev) (omega arith) (omega arith)
+      (opening-placing v0 v1, opening-spans v0 v1, omega arith) in
       (r .few, λ l. r .in-time (omega (arith, l)))

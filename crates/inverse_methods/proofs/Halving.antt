@@ -112,7 +112,8 @@ module _ (lower upper : Float) (L H : ℕ) (o : L ≤ H) (top : H ≤ I) (lv : H
 
   -- a fraction up to one rounds to one at most
   capped : (a c : ℕ) → 0 < c → a * I ≤ I * c → grid binary64 a c ≤ I
-  capped a c C h = le-trans (grid-le binary64 a c 1 (low binary64) C (lit< tt) (le-trans h (mul-le-mul-right c (le-of-eq (sym (one-mul I)))))) (le-of-eq (one-mul I))
+  capped a c C h =
+      le-trans (grid-le binary64 a c 1 (low binary64) C (lit< tt) (le-trans h (mul-le-mul-right c (le-of-eq (sym (one-mul I)))))) (le-of-eq (one-mul I))
 
   abbrev D : ℕ
   D = grid binary64 (H - L) I
@@ -143,14 +144,18 @@ module _ (lower upper : Float) (L H : ℕ) (o : L ≤ H) (top : H ≤ I) (lv : H
   P-in = part binary64 (H - L) (1 * 1) (2 ^ 1) (pow-pos 1) (lit≤ tt)
 
   P-is : HasValue (mul binary64 (sub binary64 upper lower) half) false P I
-  P-is = rw (mul-at binary64 (sub binary64 upper lower) 1 (negsuc 0) D D-is) (round-val binary64 (D * (1 * 1)) (I * 2 ^ 1) (lt-of-le-of-lt (le-trans P-in (gap-in I L H o top)) I-fine))
+  P-is =
+      rw (mul-at binary64 (sub binary64 upper lower) 1 (negsuc 0) D D-is)
+      (round-val binary64 (D * (1 * 1)) (I * 2 ^ 1) (lt-of-le-of-lt (le-trans P-in (gap-in I L H o top)) I-fine))
 
   abbrev R : ℕ
   R = grid binary64 (L + P) I
 
   R-is : HasValue (lerpOf lower upper half) false R I
   unfolding lerpOf
-  R-is = rw (add-at binary64 lower (mul binary64 (sub binary64 upper lower) half) L P lv P-is) (round-val binary64 (L + P) I (lt-of-le-of-lt (capped (L + P) I C (mul-le-mul-right I (sum-in I L H o top P P-in))) I-fine))
+  R-is =
+      rw (add-at binary64 lower (mul binary64 (sub binary64 upper lower) half) L P lv P-is)
+      (round-val binary64 (L + P) I (lt-of-le-of-lt (capped (L + P) I C (mul-le-mul-right I (sum-in I L H o top P P-in))) I-fine))
 
   -- the midpoint: twice it is L + H, but for 6G
   pub middle : (R : ℕ) × HasValue (lerpOf lower upper half) false R I × (2 * R ≤ L + H + 6 * G) × (L + H ≤ 2 * R + 6 * G)

@@ -41,7 +41,12 @@ inner-inside b x f p =
     let l = lt (b .lower) x in
     let u = lt x (b .upper) in
     branch (λ (z : Float). Inside (b .lower) (b .upper) z) (l && u)
-    (λ h. record { sign = clear-above (b .lower) x (b .upper) (p .lower-in .sign) (p .upper-in .sign) (and-l l u h) (and-r l u h); held = f; above = lt→le (b .lower) x (and-l l u h); below = lt→le x (b .upper) (and-r l u h) })
+    (λ h. record {
+      sign = clear-above (b .lower) x (b .upper) (p .lower-in .sign) (p .upper-in .sign) (and-l l u h) (and-r l u h);
+      held = f;
+      above = lt→le (b .lower) x (and-l l u h);
+      below = lt→le x (b .upper) (and-r l u h);
+    })
     (λ _. half-inside b p)
 
 lerp-fits : (lower upper t : Float) → T (fits binary64 (lerpOf lower upper t))
@@ -62,21 +67,34 @@ module _ (limit i : ℕ) (y : Float) (st : State) where
   secant-between p =
       let b = weighed toward y true st in
       let t = div binary64 (sub binary64 y (b .v0)) (sub binary64 (b .v1) (b .v0)) in
-      subst₂ (λ (l u : Float). Inside l u (inner b (lerpOf (b .lower) (b .upper) t))) (weighed-lower toward toward-keeps y true st) (weighed-upper toward toward-keeps y true st)
+      subst₂ (λ (l u : Float). Inside l u (inner b (lerpOf (b .lower) (b .upper) t))) (weighed-lower toward toward-keeps y true st)
+      (weighed-upper toward toward-keeps y true st)
       (inner-inside b (lerpOf (b .lower) (b .upper) t) (lerp-fits (b .lower) (b .upper) t) (weighed-placing p))
 
 pub secant-lawful : Lawful secant
 unfolding secant
-secant-lawful = record { same-lower = λ limit i y st. weighed-lower toward toward-keeps y true st; same-upper = λ limit i y st. weighed-upper toward toward-keeps y true st; between = secant-between }
+secant-lawful =
+    record {
+      same-lower = λ limit i y st. weighed-lower toward toward-keeps y true st;
+      same-upper = λ limit i y st. weighed-upper toward toward-keeps y true st;
+      between = secant-between;
+    }
 
 -- ---- a rule kept to the pace
 module _ (R : Rule) (lawful : Lawful R) where
   pub paced-lawful : Lawful (paced R)
   unfolding paced
   paced-lawful = record {
-    same-lower = λ limit i y st. branch (λ (c : Choice). c .bracket .lower ≡ st .bracket .lower) (lt (allowed i) (sub binary64 (st .bracket .upper) (st .bracket .lower))) (λ _. refl) (λ _. lawful .same-lower limit i y st);
-    same-upper = λ limit i y st. branch (λ (c : Choice). c .bracket .upper ≡ st .bracket .upper) (lt (allowed i) (sub binary64 (st .bracket .upper) (st .bracket .lower))) (λ _. refl) (λ _. lawful .same-upper limit i y st);
-    between = λ limit i y st p. branch (λ (c : Choice). Inside (st .bracket .lower) (st .bracket .upper) (c .place)) (lt (allowed i) (sub binary64 (st .bracket .upper) (st .bracket .lower))) (λ _. half-inside (st .bracket) p) (λ _. lawful .between limit i y st p);
+    same-lower =
+        λ limit i y st. branch (λ (c : Choice). c .bracket .lower ≡ st .bracket .lower)
+        (lt (allowed i) (sub binary64 (st .bracket .upper) (st .bracket .lower))) (λ _. refl) (λ _. lawful .same-lower limit i y st);
+    same-upper =
+        λ limit i y st. branch (λ (c : Choice). c .bracket .upper ≡ st .bracket .upper)
+        (lt (allowed i) (sub binary64 (st .bracket .upper) (st .bracket .lower))) (λ _. refl) (λ _. lawful .same-upper limit i y st);
+    between =
+        λ limit i y st p. branch (λ (c : Choice). Inside (st .bracket .lower) (st .bracket .upper) (c .place))
+        (lt (allowed i) (sub binary64 (st .bracket .upper) (st .bracket .lower))) (λ _. half-inside (st .bracket) p)
+        (λ _. lawful .between limit i y st p);
   }
 
 pub steady-lawful : Lawful steady

@@ -56,7 +56,8 @@ module _ (limit : ℕ) where
     tried =
         let f = segmentOf b cv 0 in
         let q = entered-in-time secant secant-lawful y ε limit N E f 0 (both 0 []) (f nought) (f one) in
-        branch (λ (e : Entry). SegmentWithin N (answered alone (outcomeOf e))) (encloses (f nought) (f one) y) (λ _. (q .1, omega (arith, q .0))) (λ _. (λ _. tt, omega arith))
+        branch (λ (e : Entry). SegmentWithin N (answered alone (outcomeOf e))) (encloses (f nought) (f one) y) (λ _. (q .1, omega (arith, q .0)))
+        (λ _. (λ _. tt, omega arith))
 
     pub segment-timely : SegmentWithin N (inverseSegmentBy steady b y cv limit ε)
     unfolding inverseSegmentBy

@@ -16,7 +16,8 @@ use Rattle.inverse_methods.proofs.Ending.{Enough}
 -- the default precision, the double nearest to 1e-10
 pub default-enough : Enough defaultPrecision 39
 unfolding ofBits le lt eq
-default-enough = record { K = 1040; h = 0x1b_7cdf_d9d7_bdbb * 2 ^ 988; least = defaultPrecision; last = refl; least-is = (refl, refl); above = lit< tt; at-least = tt }
+default-enough =
+    record { K = 1040; h = 0x1b_7cdf_d9d7_bdbb * 2 ^ 988; least = defaultPrecision; last = refl; least-is = (refl, refl); above = lit< tt; at-least = tt }
 
 -- 2^-p
 abbrev pub twoToMinus : ℕ → Float

@@ -16,7 +16,8 @@ use Rattle.inverse_segment.specs.Round.{Rule, midpoint, narrow, moved, found, o
 use Rattle.inverse_segment.specs.Shown.{shown}
 
 module _ (y ε : Float) (rising : Bool) (b : Bracket) (st : State) (x v : Float) (ev : Evaluations) where
-  settled-value : lt (magnitudeOf (sub binary64 v y)) ε ≡ true → settled y ε rising b st x v ev ≡ found Value x (moved (Bool·beq (lt v y) rising) b st x v .bracket) ev
+  settled-value : lt (magnitudeOf (sub binary64 v y)) ε ≡ true
+      → settled y ε rising b st x v ev ≡ found Value x (moved (Bool·beq (lt v y) rising) b st x v .bracket) ev
   unfolding settled
   settled-value h = simp h
 
@@ -25,22 +26,29 @@ module _ (y ε : Float) (rising : Bool) (b : Bracket) (st : State) (x v : Float)
   settled-on h = simp h
 
 module _ (R : Rule) (f : Float → Float) (y ε : Float) (rising : Bool) (st : State) (n limit i s : ℕ) (ev : Evaluations) (k : length ev ≡ n) where
-  pub turn-width : {x : Float} → true ≡ narrow ε (st .bracket) → x ≡ midpoint (st .bracket) → Done Width x (st .bracket) n ≡ shown (turn R f s y ε rising limit i st ev)
+  pub turn-width : {x : Float} → true ≡ narrow ε (st .bracket) → x ≡ midpoint (st .bracket)
+      → Done Width x (st .bracket) n ≡ shown (turn R f s y ε rising limit i st ev)
   unfolding turn
   turn-width h e = simp (← h, e, k)
 
-  turn-probed : false ≡ narrow ε (st .bracket) → (a : Bracket) (x v : Float) → a ≡ R limit i y st .bracket → x ≡ R limit i y st .place → v ≡ f x → turn R f s y ε rising limit i st ev ≡ settled y ε rising a st x v ((s, x) ∷ ev)
+  turn-probed : false ≡ narrow ε (st .bracket) → (a : Bracket) (x v : Float) → a ≡ R limit i y st .bracket → x ≡ R limit i y st .place → v ≡ f x
+      → turn R f s y ε rising limit i st ev ≡ settled y ε rising a st x v ((s, x) ∷ ev)
   unfolding turn probed
   turn-probed h a x v e-a e-x e-v = simp (← h) (cc)
 
-  module _ {a : Bracket} {x v g : Float} {next : State} (h : false ≡ narrow ε (st .bracket)) (c : (a ≡ R limit i y st .bracket) × (x ≡ R limit i y st .place)) (e-v : v ≡ f x)
+  module _ {a : Bracket} {x v g : Float} {next : State} (h : false ≡ narrow ε (st .bracket))
+      (c : (a ≡ R limit i y st .bracket) × (x ≡ R limit i y st .place)) (e-v : v ≡ f x)
       (e-n : next ≡ moved (Bool·beq (lt v y) rising) a st x v) (e-g : g ≡ magnitudeOf (sub binary64 v y)) where
     pub turn-value : lt g ε ≡ true → Done Value x (next .bracket) (n + 1) ≡ shown (turn R f s y ε rising limit i st ev)
     turn-value l =
-        let r : turn R f s y ε rising limit i st ev ≡ found Value x (next .bracket) ((s, x) ∷ ev) = turn-probed h a x v (c .0) (c .1) e-v ∙ settled-value y ε rising a st x v ((s, x) ∷ ev) (rw (← e-g) l) ∙ ap (λ (z : State). found Value x (z .bracket) ((s, x) ∷ ev)) (sym e-n) in
+        let r : turn R f s y ε rising limit i st ev ≡ found Value x (next .bracket) ((s, x) ∷ ev) =
+        turn-probed h a x v (c .0) (c .1) e-v ∙ settled-value y ε rising a st x v ((s, x) ∷ ev) (rw (← e-g) l)
+        ∙ ap (λ (z : State). found Value x (z .bracket) ((s, x) ∷ ev)) (sym e-n) in
         rw r (rw (add-one, k))
 
     pub turn-next : lt g ε ≡ false → Next next (n + 1) ≡ shown (turn R f s y ε rising limit i st ev)
     turn-next l =
-        let r : turn R f s y ε rising limit i st ev ≡ on next ((s, x) ∷ ev) = turn-probed h a x v (c .0) (c .1) e-v ∙ settled-on y ε rising a st x v ((s, x) ∷ ev) (rw (← e-g) l) ∙ ap (λ (z : State). on z ((s, x) ∷ ev)) (sym e-n) in
+        let r : turn R f s y ε rising limit i st ev ≡ on next ((s, x) ∷ ev) =
+        turn-probed h a x v (c .0) (c .1) e-v ∙ settled-on y ε rising a st x v ((s, x) ∷ ev) (rw (← e-g) l)
+        ∙ ap (λ (z : State). on z ((s, x) ∷ ev)) (sym e-n) in
         rw r (rw (add-one, k))

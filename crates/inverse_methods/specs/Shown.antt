@@ -22,16 +22,21 @@ use Rattle.inverse_methods.specs.Steady.{allowed, steady}
 use Rattle.inverse_methods.specs.Method.{ruleOf}
 
 abbrev pub ChosenIs : Float → Float → State → Chosen → Type 0
-ChosenIs y width st r = (limit i : ℕ) → width ≡ allowed i → (r .bracket ≡ steady limit i y st .bracket) × (r .place ≡ steady limit i y st .place)
+ChosenIs y width st r = (limit i : ℕ) → width ≡ allowed i
+    → (r .bracket ≡ steady limit i y st .bracket) × (r .place ≡ steady limit i y st .place)
 
 abbrev pub TurnIs : Weights → Float → Float → Bool → Float → State → ℕ → Turned → Type 0
-TurnIs w y ε rising width st n r = (limit i : ℕ) → width ≡ allowed i → (s : ℕ) (ev : Evaluations) → length ev ≡ n → r ≡ shown (turn steady (hornerOf w) s y ε rising limit i st ev)
+TurnIs w y ε rising width st n r = (limit i : ℕ) → width ≡ allowed i → (s : ℕ) (ev : Evaluations) → length ev ≡ n
+    → r ≡ shown (turn steady (hornerOf w) s y ε rising limit i st ev)
 
 abbrev pub RoundsIs : Weights → ℕ → Float → Float → Bool → Bracket → ℕ → ℕ → Place → Type 0
-RoundsIs w s y ε rising b limit n r = (ev : Evaluations) → length ev ≡ n → r ≡ placeOf alone (rounds steady (hornerOf w) s y ε rising limit limit 0 (on (start b) ev))
+RoundsIs w s y ε rising b limit n r = (ev : Evaluations) → length ev ≡ n
+    → r ≡ placeOf alone (rounds steady (hornerOf w) s y ε rising limit limit 0 (on (start b) ev))
 
 abbrev pub EnteredIs : Weights → ℕ → Float → Float → ℕ → Float → Float → ℕ → Place → Type 0
-EnteredIs w s y ε limit v0 v1 n r = (ev : Evaluations) → length ev ≡ n → r ≡ placeOf alone (entered steady (hornerOf w) s y ε limit v0 v1 ev)
+EnteredIs w s y ε limit v0 v1 n r = (ev : Evaluations) → length ev ≡ n
+    → r ≡ placeOf alone (entered steady (hornerOf w) s y ε limit v0 v1 ev)
 
 abbrev pub EnteredBy : Method → Weights → ℕ → Float → Float → ℕ → Float → Float → ℕ → Place → Type 0
-EnteredBy how w s y ε limit v0 v1 n r = (ev : Evaluations) → length ev ≡ n → r ≡ placeOf alone (entered (ruleOf how) (hornerOf w) s y ε limit v0 v1 ev)
+EnteredBy how w s y ε limit v0 v1 n r = (ev : Evaluations) → length ev ≡ n
+    → r ≡ placeOf alone (entered (ruleOf how) (hornerOf w) s y ε limit v0 v1 ev)

@@ -48,18 +48,21 @@ not-before true y v p q h = not-lt→le y v p q h
 not-before false y v p q h = not-lt→le v y q p h
 
 -- from neighbours to any two in order
-far : (rising : Bool) (v : ℕ → Float) (k : ℕ) → ((i : ℕ) → suc i < k → Along rising (v i) (v (suc i))) → (i d j : ℕ) → j ≡ i + suc d → j < k → Along rising (v i) (v j)
+far : (rising : Bool) (v : ℕ → Float) (k : ℕ) → ((i : ℕ) → suc i < k → Along rising (v i) (v (suc i))) → (i d j : ℕ) → j ≡ i + suc d → j < k
+    → Along rising (v i) (v j)
 far rising v k h i zero j e l = let q : suc i ≡ j = omega arith in subst (λ (x : ℕ). Along rising (v i) (v x)) q (h i (omega arith))
 far rising v k h i (suc d) j e l =
     let m = i + suc d in
     let q : suc m ≡ j = omega arith in
     subst (λ (x : ℕ). Along rising (v i) (v x)) q (along-trans rising (v i) (v m) (v (suc m)) (far rising v k h i d m refl (omega arith)) (h m (omega arith)))
 
-pub ahead : (rising : Bool) (v : ℕ → Float) (k : ℕ) → ((i : ℕ) → suc i < k → Along rising (v i) (v (suc i))) → (i j : ℕ) → i < j → j < k → Along rising (v i) (v j)
+pub ahead : (rising : Bool) (v : ℕ → Float) (k : ℕ) → ((i : ℕ) → suc i < k → Along rising (v i) (v (suc i))) → (i j : ℕ) → i < j → j < k
+    → Along rising (v i) (v j)
 ahead rising v k h i j l m = far rising v k h i (j - suc i) j (omega arith) m
 
 -- a target at the start is enclosed, wherever the end lies
-pub at-start : (rising : Bool) (v0 v1 y : Float) → T (not (isNan y)) → T (not (isNan v0)) → T (not (isNan v1)) → Along rising v0 y → Along rising y v0 → T (encloses v0 v1 y)
+pub at-start : (rising : Bool) (v0 v1 y : Float) → T (not (isNan y)) → T (not (isNan v0)) → T (not (isNan v1)) → Along rising v0 y → Along rising y v0
+    → T (encloses v0 v1 y)
 at-start rising v0 v1 y o m n a b = go (before rising y v1) (λ h. h) (λ h. h)
   where
     go : (t : Bool) → (T t → T (before rising y v1)) → (T (not t) → T (not (before rising y v1))) → T (encloses v0 v1 y)

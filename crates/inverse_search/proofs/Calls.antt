@@ -39,11 +39,13 @@ pub fits-at : (s k step n : ℕ) → s < k → k * step + 4 ≤ n + step → s *
 fits-at s k step n h l = let q : suc s * step ≤ k * step = mul-le-mul-right step h in omega (arith, suc-mul s step)
 
 -- ---- the ends of a segment, from its row sums
-pub settled-by : (b d : Basis) (m : List (List Float)) (cv : List Float) {w : Weights} {e : List Float} {y : Float} {h : Bool} → b ≡ d → m ≡ matrixOf d → w ≡ weightsOf m cv → SettledIs w y e h → SettledIs (weightsOf (matrixOf b) cv) y e h
+pub settled-by : (b d : Basis) (m : List (List Float)) (cv : List Float) {w : Weights} {e : List Float} {y : Float} {h : Bool} → b ≡ d → m ≡ matrixOf d
+    → w ≡ weightsOf m cv → SettledIs w y e h → SettledIs (weightsOf (matrixOf b) cv) y e h
 settled-by b d m cv {e = e} {y = y} {h = h} p q r i =
     subst (λ (w : Weights). SettledIs w y e h) (r ∙ ap (λ (m : List (List Float)). weightsOf m cv) (q ∙ ap matrixOf (sym p))) i
 
-pub settled-at : (b : Basis) (p q : List Float) {e : List Float} {y : Float} {h : Bool} → p ≡ q → SettledIs (weightsOf (matrixOf b) p) y e h → SettledIs (weightsOf (matrixOf b) q) y e h
+pub settled-at : (b : Basis) (p q : List Float) {e : List Float} {y : Float} {h : Bool} → p ≡ q → SettledIs (weightsOf (matrixOf b) p) y e h
+    → SettledIs (weightsOf (matrixOf b) q) y e h
 settled-at b p q {e} {y} {h} r i = subst (λ (cv : List Float). SettledIs (weightsOf (matrixOf b) cv) y e h) r i
 
 -- ---- what a search comes to
@@ -56,7 +58,8 @@ module _ (g : ℕ → Float → Float) (y : Float) (k s : ℕ) (R : Rule) (ε : 
 
 -- segment s is entered, or passed over
 module _ (R : Rule) (g : ℕ → Float → Float) (y ε : Float) (limit s : ℕ) (ev : Evaluations) (f : Float → Evaluations → Outcome) where
-  into : encloses (g s nought) (g s one) y ≡ true → orElse (trial R g y ε limit s ev) f ≡ placed (entered R (g s) s y ε limit (g s nought) (g s one) (both s ev))
+  into : encloses (g s nought) (g s one) y ≡ true
+      → orElse (trial R g y ε limit s ev) f ≡ placed (entered R (g s) s y ε limit (g s nought) (g s one) (both s ev))
   unfolding enter
   into h = simp h
 
@@ -68,7 +71,9 @@ module _ (R : Rule) (g : ℕ → Float → Float) (y ε : Float) (limit s : ℕ)
 -- the segments from first up to below end are tried in order, and those below s are done
 pub record Carried (b : Basis) (ks : List Float) (y : Float) (first end count s made : ℕ) : Type 0 where
   pub so-far : (ev : Evaluations) → length ev ≡ count
-      → (t : Evaluations) × (length t ≡ made) × ((R : Rule) (ε : Float) (limit : ℕ) → tries (trial R (segmentOf b ks) y ε limit) (end - first) first ev ≡ tries (trial R (segmentOf b ks) y ε limit) (end - s) s t)
+      → (t : Evaluations) × (length t ≡ made)
+      × ((R : Rule) (ε : Float) (limit : ℕ)
+      → tries (trial R (segmentOf b ks) y ε limit) (end - first) first ev ≡ tries (trial R (segmentOf b ks) y ε limit) (end - s) s t)
 
 module _ (b : Basis) (ks : List Float) (y : Float) where
   abbrev E : Rule → Float → ℕ → Trial
@@ -77,8 +82,10 @@ module _ (b : Basis) (ks : List Float) (y : Float) where
   pub tries-start : (first end count : ℕ) → Carried b ks y first end count first count
   tries-start first end count = record { so-far = λ ev l. (ev, l, λ R ε limit. refl) }
 
-  module _ (s : ℕ) {e : List Float} {h : Bool} (is : TestedIs b ks s y e h) {first end count made : ℕ} (l : s < end) (carried : Carried b ks y first end count s made) where
-    one-more : (R : Rule) (ε : Float) (limit : ℕ) (ev : Evaluations) → tries (E R ε limit) (end - s) s ev ≡ orElse (E R ε limit s ev) (λ v t. tries (E R ε limit) (end - suc s) (suc s) t)
+  module _ (s : ℕ) {e : List Float} {h : Bool} (is : TestedIs b ks s y e h) {first end count made : ℕ} (l : s < end)
+      (carried : Carried b ks y first end count s made) where
+    one-more : (R : Rule) (ε : Float) (limit : ℕ) (ev : Evaluations)
+        → tries (E R ε limit) (end - s) s ev ≡ orElse (E R ε limit s ev) (λ v t. tries (E R ε limit) (end - suc s) (suc s) t)
     unfolding tries
     one-more R ε limit ev = let q : end - s ≡ suc (end - suc s) = omega arith in ap (λ (n : ℕ). tries (E R ε limit) n s ev) q
 
@@ -89,7 +96,8 @@ module _ (b : Basis) (ks : List Float) (y : Float) where
               let c = carried .so-far ev n in (
                 both s (c .0),
                 omega (arith, c .1),
-                λ R ε limit. c .2 R ε limit ∙ one-more R ε limit (c .0) ∙ into R (segmentOf b ks) y ε limit s (c .0) (λ v t. tries (E R ε limit) (end - suc s) (suc s) t) (sym (is .holds-is) ∙ i)
+                λ R ε limit. c .2 R ε limit ∙ one-more R ε limit (c .0)
+                    ∙ into R (segmentOf b ks) y ε limit s (c .0) (λ v t. tries (E R ε limit) (end - suc s) (suc s) t) (sym (is .holds-is) ∙ i)
                     ∙ sym (went-in (segmentOf b ks) y k s R ε limit (both s (c .0)) (omega arith)),
               );
           keeps = λ _. is .kept-is;
@@ -103,12 +111,14 @@ module _ (b : Basis) (ks : List Float) (y : Float) where
               let q : suc s ≡ s + 1 = omega arith in (
                 both s (c .0),
                 omega (arith, c .1),
-                λ R ε limit. c .2 R ε limit ∙ one-more R ε limit (c .0) ∙ past R (segmentOf b ks) y ε limit s (c .0) (λ v t. tries (E R ε limit) (end - suc s) (suc s) t) (sym (is .holds-is) ∙ i)
+                λ R ε limit. c .2 R ε limit ∙ one-more R ε limit (c .0)
+                    ∙ past R (segmentOf b ks) y ε limit s (c .0) (λ v t. tries (E R ε limit) (end - suc s) (suc s) t) (sym (is .holds-is) ∙ i)
                     ∙ ap (λ (i : ℕ). tries (E R ε limit) (end - i) i (both s (c .0))) q,
               );
         }
 
-  pub tries-end : {first end count s made : ℕ} (k : ℕ) {e : List Float} → end ≤ s → Carried b ks y first end count s made → TriesIs b ks y (end - first) first k count k made e
+  pub tries-end : {first end count s made : ℕ} (k : ℕ) {e : List Float} → end ≤ s → Carried b ks y first end count s made
+      → TriesIs b ks y (end - first) first k count k made e
   unfolding tries
   tries-end {end = end} {s = s} k l carried =
       record {
@@ -117,7 +127,8 @@ module _ (b : Basis) (ks : List Float) (y : Float) where
             let q : end - s ≡ 0 = omega arith in (
               c .0,
               c .1,
-              λ R ε limit. c .2 R ε limit ∙ ap (λ (n : ℕ). tries (E R ε limit) n s (c .0)) q ∙ none R ε limit s (c .0) ∙ sym (went-none (segmentOf b ks) y k k R ε limit (c .0) (omega arith)),
+              λ R ε limit. c .2 R ε limit ∙ ap (λ (n : ℕ). tries (E R ε limit) n s (c .0)) q ∙ none R ε limit s (c .0)
+                  ∙ sym (went-none (segmentOf b ks) y k k R ε limit (c .0) (omega arith)),
             );
         keeps = λ h. absurd (omega (arith, h));
       }
@@ -126,7 +137,8 @@ module _ (b : Basis) (ks : List Float) (y : Float) where
       none R ε limit s t = refl
 
   -- ---- the last tries
-  pub last-tried : (k left first end : ℕ) {count r made : ℕ} {e : List Float} → first ≡ left - 1 → end ≡ min (first + 2) k → TriesIs b ks y (end - first) first k count r made e → LastIs b ks y k left count r made e
+  pub last-tried : (k left first end : ℕ) {count r made : ℕ} {e : List Float} → first ≡ left - 1 → end ≡ min (first + 2) k
+      → TriesIs b ks y (end - first) first k count r made e → LastIs b ks y k left count r made e
   unfolding last
   last-tried k left first end p q i =
       record {
@@ -144,10 +156,12 @@ module _ (b : Basis) (ks : List Float) (y : Float) where
     none-open F zero ev = refl
     none-open F (suc n) ev = refl
 
-    pub halve-end : (wide : ℕ) {count r made : ℕ} {e : List Float} → wide ≡ 0 → LastIs b ks y k left count r made e → HalveIs b ks y rising k left wide count r made e
+    pub halve-end : (wide : ℕ) {count r made : ℕ} {e : List Float} → wide ≡ 0 → LastIs b ks y k left count r made e
+        → HalveIs b ks y rising k left wide count r made e
     halve-end wide q i h room =
         record {
-          comes-to = λ ev n. let c = i .comes-to ev n in (c .0, c .1, λ R ε limit. ap (λ (c : ℕ). halve (E R ε limit) y rising k h left c ev) q ∙ none-open (E R ε limit) h ev ∙ c .2 R ε limit);
+          comes-to = λ ev n. let c = i .comes-to ev n
+              in (c .0, c .1, λ R ε limit. ap (λ (c : ℕ). halve (E R ε limit) y rising k h left c ev) q ∙ none-open (E R ε limit) h ev ∙ c .2 R ε limit);
           keeps = i .keeps;
         }
 
@@ -162,8 +176,10 @@ module _ (b : Basis) (ks : List Float) (y : Float) where
           let q : wide ≡ suc (wide - 1) = omega arith in
           let s : suc (left + half) ≡ left + half + 1 = omega arith in
           ap (λ (c : ℕ). halve F y rising k (suc n) left c ev) q
-          ∙ ap (λ (h : ℕ). orElse (F (left + h) ev) (λ v t. cond (before rising y v) (halve F y rising k n left h t) (halve F y rising k n (suc (left + h)) (wide - 1 - h) t))) (sym p)
-          ∙ ap (λ (z : ℕ). orElse (F (left + half) ev) (λ v t. cond (before rising y v) (halve F y rising k n left half t) (halve F y rising k n z (wide - 1 - half) t))) s
+          ∙ ap (λ (h : ℕ). orElse (F (left + h) ev)
+          (λ v t. cond (before rising y v) (halve F y rising k n left h t) (halve F y rising k n (suc (left + h)) (wide - 1 - h) t))) (sym p)
+          ∙ ap (λ (z : ℕ). orElse (F (left + half) ev)
+          (λ v t. cond (before rising y v) (halve F y rising k n left half t) (halve F y rising k n z (wide - 1 - half) t))) s
 
       pub halve-hit : {count : ℕ} → left + half < k → h ≡ true → HalveIs b ks y rising k left wide count (left + half) (count + 2) e
       halve-hit w i zero room = absurd (omega arith)
@@ -172,44 +188,52 @@ module _ (b : Basis) (ks : List Float) (y : Float) where
             comes-to = λ ev l. (
               both (left + half) ev,
               omega arith,
-              λ R ε limit. opened (E R ε limit) n ev ∙ into R (segmentOf b ks) y ε limit (left + half) ev (on (E R ε limit) n wide half (left + half)) (sym (is .holds-is) ∙ i)
+              λ R ε limit. opened (E R ε limit) n ev
+                  ∙ into R (segmentOf b ks) y ε limit (left + half) ev (on (E R ε limit) n wide half (left + half)) (sym (is .holds-is) ∙ i)
                   ∙ sym (went-in (segmentOf b ks) y k (left + half) R ε limit (both (left + half) ev) w),
             );
             keeps = λ _. is .kept-is;
           }
 
       module _ {v : Float} (a : v ≡ segmentOf b ks (left + half) nought) (i : h ≡ false) where
-        went-past : (R : Rule) (ε : Float) (limit n : ℕ) (ev : Evaluations) → halve (E R ε limit) y rising k (suc n) left wide ev ≡ on (E R ε limit) n wide half (left + half) v (both (left + half) ev)
+        went-past : (R : Rule) (ε : Float) (limit n : ℕ) (ev : Evaluations)
+            → halve (E R ε limit) y rising k (suc n) left wide ev ≡ on (E R ε limit) n wide half (left + half) v (both (left + half) ev)
         went-past R ε limit n ev =
             opened (E R ε limit) n ev ∙ past R (segmentOf b ks) y ε limit (left + half) ev (on (E R ε limit) n wide half (left + half)) (sym (is .holds-is) ∙ i)
             ∙ ap (λ (v : Float). on (E R ε limit) n wide half (left + half) v (both (left + half) ev)) (sym a)
 
-        pub halve-left : {count r made : ℕ} {e' : List Float} → before rising y v ≡ true → HalveIs b ks y rising k left half (count + 2) r made e' → HalveIs b ks y rising k left wide count r made e'
+        pub halve-left : {count r made : ℕ} {e' : List Float} → before rising y v ≡ true → HalveIs b ks y rising k left half (count + 2) r made e'
+            → HalveIs b ks y rising k left wide count r made e'
         halve-left d u zero room = absurd (omega arith)
         halve-left d u (suc n) room =
             let s = u n (omega (arith, two-pow-succ n)) in
             record {
               comes-to = λ ev l.
                   let c = s .comes-to (both (left + half) ev) (omega arith) in
-                  let q : (F : Trial) → on F n wide half (left + half) v (both (left + half) ev) ≡ halve F y rising k n left half (both (left + half) ev) = λ F. simp d in
+                  let q : (F : Trial) → on F n wide half (left + half) v (both (left + half) ev) ≡ halve F y rising k n left half (both (left + half) ev) =
+                  λ F. simp d in
                   (c .0, c .1, λ R ε limit. went-past R ε limit n ev ∙ q (E R ε limit) ∙ c .2 R ε limit);
               keeps = s .keeps;
             }
 
-        pub halve-right : {count r made : ℕ} {e' : List Float} → before rising y v ≡ false → HalveIs b ks y rising k (left + half + 1) (wide - 1 - half) (count + 2) r made e' → HalveIs b ks y rising k left wide count r made e'
+        pub halve-right : {count r made : ℕ} {e' : List Float} → before rising y v ≡ false
+            → HalveIs b ks y rising k (left + half + 1) (wide - 1 - half) (count + 2) r made e' → HalveIs b ks y rising k left wide count r made e'
         halve-right d u zero room = absurd (omega arith)
         halve-right d u (suc n) room =
             let s = u n (omega (arith, two-pow-succ n)) in
             record {
               comes-to = λ ev l.
                   let c = s .comes-to (both (left + half) ev) (omega arith) in
-                  let q : (F : Trial) → on F n wide half (left + half) v (both (left + half) ev) ≡ halve F y rising k n (left + half + 1) (wide - 1 - half) (both (left + half) ev) = λ F. simp d in
+                  let q : (F : Trial)
+                  → on F n wide half (left + half) v (both (left + half) ev) ≡ halve F y rising k n (left + half + 1) (wide - 1 - half)
+                  (both (left + half) ev) = λ F. simp d in
                   (c .0, c .1, λ R ε limit. went-past R ε limit n ev ∙ q (E R ε limit) ∙ c .2 R ε limit);
               keeps = s .keeps;
             }
 
   -- ---- the whole search
-  pub sought-few : (rising : Bool) (k : ℕ) {count r made : ℕ} {e : List Float} → k ≤ 12 → TriesIs b ks y (k - 0) 0 k count r made e → SoughtIs b ks y rising k count r made e
+  pub sought-few : (rising : Bool) (k : ℕ) {count r made : ℕ} {e : List Float} → k ≤ 12 → TriesIs b ks y (k - 0) 0 k count r made e
+      → SoughtIs b ks y rising k count r made e
   unfolding find
   sought-few rising k h i =
       record {
@@ -220,7 +244,8 @@ module _ (b : Basis) (ks : List Float) (y : Float) where
       few : (F : Trial) (ev : Evaluations) → find F y rising k ev ≡ tries F (k - 0) 0 ev
       few F ev = let q : k - 0 ≡ k = omega arith in simp (le-leb k 12 h, q)
 
-  pub sought-many : (rising : Bool) (k : ℕ) {count r made : ℕ} {e : List Float} → 12 < k → k < 2 ^ 64 → HalveIs b ks y rising k 0 k count r made e → SoughtIs b ks y rising k count r made e
+  pub sought-many : (rising : Bool) (k : ℕ) {count r made : ℕ} {e : List Float} → 12 < k → k < 2 ^ 64 → HalveIs b ks y rising k 0 k count r made e
+      → SoughtIs b ks y rising k count r made e
   unfolding find
   sought-many rising k h w i =
       let s = i (bitsOf k) (bits-enough k w) in
@@ -233,12 +258,17 @@ module _ (b : Basis) (ks : List Float) (y : Float) where
       many F ev = simp (lt-leb k 12 h)
 
   -- ---- and the place in the segment that it comes to
-  module _ (how : Method) (ε : Float) (limit : ℕ) (rising : Bool) (k : ℕ) {count s made : ℕ} {e : List Float} (sought : SoughtIs b ks y rising k count s made e) where
-    pub found-in : {p : Place} → s < k → EnteredBy how (record { w0 = getD e 0 nan; w1 = getD e 1 nan; w2 = getD e 2 nan; w3 = getD e 3 nan }) s y ε limit (getD e 4 nan) (getD e 5 nan) made p → FindIs how b ks y ε limit rising k count (At p)
+  module _ (how : Method) (ε : Float) (limit : ℕ) (rising : Bool) (k : ℕ) {count s made : ℕ} {e : List Float}
+      (sought : SoughtIs b ks y rising k count s made e) where
+    pub found-in : {p : Place} → s < k
+        → EnteredBy how (record { w0 = getD e 0 nan; w1 = getD e 1 nan; w2 = getD e 2 nan; w3 = getD e 3 nan }) s y ε limit (getD e 4 nan) (getD e 5 nan)
+        made p → FindIs how b ks y ε limit rising k count (At p)
     found-in {p} h i ev l =
         let c = sought .comes-to ev l in
         ap At (i (c .0) (c .1)
-        ∙ ap (λ (e : List Float). placeOf alone (entered (ruleOf how) (hornerOf (record { w0 = getD e 0 nan; w1 = getD e 1 nan; w2 = getD e 2 nan; w3 = getD e 3 nan })) s y ε limit (getD e 4 nan) (getD e 5 nan) (c .0))) (sought .keeps h))
+        ∙ ap (λ (e : List Float). placeOf alone
+        (entered (ruleOf how) (hornerOf (record { w0 = getD e 0 nan; w1 = getD e 1 nan; w2 = getD e 2 nan; w3 = getD e 3 nan })) s y ε limit
+        (getD e 4 nan) (getD e 5 nan) (c .0))) (sought .keeps h))
         ∙ ap (answered alone) (sym (c .2 (ruleOf how) ε limit ∙ went-in (segmentOf b ks) y k s (ruleOf how) ε limit (c .0) h))
 
     pub found-none : k ≤ s → FindIs how b ks y ε limit rising k count (OffCurve made)

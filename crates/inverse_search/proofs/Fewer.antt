@@ -32,7 +32,8 @@ either : (n : ℕ) (t : Bool) {a b c d : Outcome} → Fewer n a c → Fewer n b 
 either n true p q = p
 either n false p q = q
 
-goes : (n : ℕ) {e d : Entry} {f q : Float → Evaluations → Outcome} → FewerIn n e d → ((v : Float) (t : Evaluations) → Fewer n (f v t) (q v t)) → Fewer n (orElse e f) (orElse d q)
+goes : (n : ℕ) {e d : Entry} {f q : Float → Evaluations → Outcome} → FewerIn n e d → ((v : Float) (t : Evaluations) → Fewer n (f v t) (q v t))
+    → Fewer n (orElse e f) (orElse d q)
 goes n same-out k = k _ _
 goes n (fewer-in m) k = fewer m
 
@@ -51,7 +52,8 @@ module _ (n : ℕ) (E D : Trial) (trials : (s : ℕ) (ev : Evaluations) → Fewe
     unfolding halve
     halve-fewer zero l c ev = last-fewer k l ev
     halve-fewer (suc m) l zero ev = last-fewer k l ev
-    halve-fewer (suc m) l (suc c) ev = goes n (trials (l + c / 2) ev) (λ v t. either n (before rising y v) (halve-fewer m l (c / 2) t) (halve-fewer m (suc (l + c / 2)) (c - c / 2) t))
+    halve-fewer (suc m) l (suc c) ev =
+        goes n (trials (l + c / 2) ev) (λ v t. either n (before rising y v) (halve-fewer m l (c / 2) t) (halve-fewer m (suc (l + c / 2)) (c - c / 2) t))
 
     find-less : (ev : Evaluations) → Fewer n (find E y rising k ev) (find D y rising k ev)
     unfolding find
@@ -71,5 +73,6 @@ module _ (R : Rule) (g : ℕ → Float → Float) (y ε : Float) (limit : ℕ) w
       go false = same-out
 
   -- the search with `trial` beside the search with the crate's
-  pub find-fewer : (rising : Bool) (k : ℕ) (ev : Evaluations) → Fewer 2 (find (trial R g y ε limit) y rising k ev) (find (trialTwice R g y ε limit) y rising k ev)
+  pub find-fewer : (rising : Bool) (k : ℕ) (ev : Evaluations)
+      → Fewer 2 (find (trial R g y ε limit) y rising k ev) (find (trialTwice R g y ε limit) y rising k ev)
   find-fewer rising k ev = find-less 2 (trial R g y ε limit) (trialTwice R g y ε limit) trial-fewer y rising k ev

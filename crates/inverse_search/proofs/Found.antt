@@ -37,7 +37,8 @@ module _ (g : ℕ → Float → Float) (y : Float) (k : ℕ) where
     pub starts : (i : ℕ) → suc i < k → Along rising (g i nought) (g (suc i) nought)
     pub ends : (i : ℕ) → suc i < k → Along rising (g i one) (g (suc i) one)
 
--- ---- what a search comes to. `Good s base p` stands for what the inversion of segment s tells of its place p, `base` evaluations having been made before its rounds
+-- ---- what a search comes to. `Good s base p` stands for what the inversion of segment s tells of its place p, `base` evaluations having been made before its
+-- rounds
 module _ (g : ℕ → Float → Float) (y : Float) (k : ℕ) (Good : ℕ → ℕ → Placed → Type 0) where
   -- what the trial of segment s comes to, after the evaluations ev
   pub data Tried (s : ℕ) (ev : Evaluations) : Entry → Type 0 where
@@ -72,7 +73,8 @@ module _ (g : ℕ → Float → Float) (y : Float) (k : ℕ) (Good : ℕ → ℕ
 abbrev pub probes : Bool → ℕ → ℕ
 probes few k = cond few 24 (2 * bitsOf k + 4)
 
-module _ (g : ℕ → Float → Float) (y : Float) (k : ℕ) (Good : ℕ → ℕ → Placed → Type 0) (E : Trial) (tried : (s : ℕ) (ev : Evaluations) → s < k → Tried g y k Good s ev (E s ev)) where
+module _ (g : ℕ → Float → Float) (y : Float) (k : ℕ) (Good : ℕ → ℕ → Placed → Type 0) (E : Trial)
+    (tried : (s : ℕ) (ev : Evaluations) → s < k → Tried g y k Good s ev (E s ev)) where
   more : (s n : ℕ) → T (not (Holds g y k s)) → Nothing g y k (suc s) n → Nothing g y k s (suc n)
   more s n h r j a b = elim (eq-or-lt-of-le a) [ inl e ↦ subst (λ (i : ℕ). T (not (Holds g y k i))) e h | inr l ↦ r j l (omega arith) ]
 
@@ -80,13 +82,15 @@ module _ (g : ℕ → Float → Float) (y : Float) (k : ℕ) (Good : ℕ → ℕ
   unfolding tries
   tries-says zero s ev l = missed {ev = ev} (λ j a b. absurd (omega arith)) (omega arith)
   tries-says (suc n) s ev l =
-      trying g y k Good s ev (length ev + 2 * suc n) (Nothing g y k s (suc n)) (λ v t. tries E n (suc s) t) (omega arith) (omega arith) (tried s ev (omega arith))
+      trying g y k Good s ev (length ev + 2 * suc n) (Nothing g y k s (suc n)) (λ v t. tries E n (suc s) t) (omega arith) (omega arith)
+      (tried s ev (omega arith))
       (λ h. weaken g y k Good (length ev + 2 * suc n) (length (both s ev) + 2 * n) (omega arith) (more s n h) (tries-says n (suc s) (both s ev) (omega arith)))
 
   -- the last tries are of two segments at most
   last-says : (l : ℕ) (ev : Evaluations) → l ≤ k → Result g y k Good (length ev + 4) Unit (last E k l ev)
   unfolding last
-  last-says l ev h = let n = min (l - 1 + 2) k - (l - 1) in weaken g y k Good (length ev + 4) (length ev + 2 * n) (omega arith) (λ _. tt) (tries-says n (l - 1) ev (omega arith))
+  last-says l ev h = let n = min (l - 1 + 2) k - (l - 1)
+      in weaken g y k Good (length ev + 4) (length ev + 2 * n) (omega arith) (λ _. tt) (tries-says n (l - 1) ev (omega arith))
 
   module _ (number : T (not (isNan y))) (numbers : (s : ℕ) → s < k → T (not (isNan (g s nought))) × T (not (isNan (g s one)))) where
     -- of c open segments from l on, n halvings being enough for them, none holds y
@@ -129,27 +133,35 @@ module _ (g : ℕ → Float → Float) (y : Float) (k : ℕ) (Good : ℕ → ℕ
                   let a : Along rising (g m nought) y = not-before rising y (g m nought) number (v .0) b in
                   T-not (Holds g y k m) h
                   (elim (held-by rising (g j nought) (g j one) y H) [
-                    | inl q ↦ encloses-of rising (g m nought) (g m one) y (v .0) (v .1) a (along-trans rising y (g j one) (g m one) (q .1) (ahead rising (λ i. g i one) k (S .ends) j m p M))
-                    | inr q ↦ at-start rising (g m nought) (g m one) y number (v .0) (v .1) a (along-trans rising y (g j nought) (g m nought) (q .1) (ahead rising (λ i. g i nought) k (S .starts) j m p M))
+                    | inl q ↦ encloses-of rising (g m nought) (g m one) y (v .0) (v .1) a
+                        (along-trans rising y (g j one) (g m one) (q .1) (ahead rising (λ i. g i one) k (S .ends) j m p M))
+                    | inr q ↦ at-start rising (g m nought) (g m one) y number (v .0) (v .1) a
+                        (along-trans rising y (g j nought) (g m nought) (q .1) (ahead rising (λ i. g i nought) k (S .starts) j m p M))
                   ]))
             ]
             | inr q ↦ r S (omega (arith, two-pow-succ n)) j q (omega arith)
           ]
 
-    halve-says : (rising : Bool) (n l c : ℕ) (ev : Evaluations) → l + c ≤ k → Result g y k Good (length ev + 2 * n + 4) (Missed rising n l c) (halve E y rising k n l c ev)
+    halve-says : (rising : Bool) (n l c : ℕ) (ev : Evaluations) → l + c ≤ k
+        → Result g y k Good (length ev + 2 * n + 4) (Missed rising n l c) (halve E y rising k n l c ev)
     unfolding halve
-    halve-says rising zero l c ev f = weaken g y k Good (length ev + 0 + 4) (length ev + 4) (omega arith) (λ _ S e j a b. absurd (omega arith)) (last-says l ev (omega arith))
-    halve-says rising (suc n) l zero ev f = weaken g y k Good (length ev + 2 * suc n + 4) (length ev + 4) (omega arith) (λ _ S e j a b. absurd (omega arith)) (last-says l ev (omega arith))
+    halve-says rising zero l c ev f =
+        weaken g y k Good (length ev + 0 + 4) (length ev + 4) (omega arith) (λ _ S e j a b. absurd (omega arith)) (last-says l ev (omega arith))
+    halve-says rising (suc n) l zero ev f =
+        weaken g y k Good (length ev + 2 * suc n + 4) (length ev + 4) (omega arith) (λ _ S e j a b. absurd (omega arith)) (last-says l ev (omega arith))
     halve-says rising (suc n) l (suc c) ev f =
         let m = l + c / 2 in
         let M : m < k = omega arith in
         let t = length ev + 2 * suc n + 4 in
         let N = Missed rising (suc n) l (suc c) in
-        trying g y k Good m ev t N (λ v t. cond (before rising y v) (halve E y rising k n l (c / 2) t) (halve E y rising k n (suc m) (c - c / 2) t)) M (omega arith) (tried m ev M)
+        trying g y k Good m ev t N (λ v t. cond (before rising y v) (halve E y rising k n l (c / 2) t) (halve E y rising k n (suc m) (c - c / 2) t)) M
+        (omega arith) (tried m ev M)
         (λ h.
         branch (Result g y k Good t N) (before rising y (g m nought))
-        (λ b. weaken g y k Good t (length (both m ev) + 2 * n + 4) (omega arith) (to-left rising l c n f h b) (halve-says rising n l (c / 2) (both m ev) (omega arith)))
-        (λ b. weaken g y k Good t (length (both m ev) + 2 * n + 4) (omega arith) (to-right rising l c n f h b) (halve-says rising n (suc m) (c - c / 2) (both m ev) (omega arith))))
+        (λ b. weaken g y k Good t (length (both m ev) + 2 * n + 4) (omega arith) (to-left rising l c n f h b)
+        (halve-says rising n l (c / 2) (both m ev) (omega arith)))
+        (λ b. weaken g y k Good t (length (both m ev) + 2 * n + 4) (omega arith) (to-right rising l c n f h b)
+        (halve-says rising n (suc m) (c - c / 2) (both m ev) (omega arith))))
 
     -- the whole search, after the evaluations ev
     pub find-says : (rising : Bool) (ev : Evaluations) → k < 2 ^ 64
@@ -158,6 +170,9 @@ module _ (g : ℕ → Float → Float) (y : Float) (k : ℕ) (Good : ℕ → ℕ
     find-says rising ev w = go (leb k 12) (leb→le k 12)
       where
         go : (b : Bool) → (T b → k ≤ 12)
-            → Result g y k Good (length ev + probes b k) ((T (not b) → Straight g y k rising) → Nothing g y k 0 k) (cond b (tries E k 0 ev) (halve E y rising k (bitsOf k) 0 k ev))
+            → Result g y k Good (length ev + probes b k) ((T (not b) → Straight g y k rising) → Nothing g y k 0 k)
+            (cond b (tries E k 0 ev) (halve E y rising k (bitsOf k) 0 k ev))
         go true h = weaken g y k Good (length ev + 24) (length ev + 2 * k) (omega (arith, h tt)) (λ r _. r) (tries-says k 0 ev (omega arith))
-        go false h = weaken g y k Good (length ev + (2 * bitsOf k + 4)) (length ev + 2 * bitsOf k + 4) (omega arith) (λ r s. r (s tt) (bits-enough k w)) (halve-says rising (bitsOf k) 0 k ev (omega arith))
+        go false h =
+            weaken g y k Good (length ev + (2 * bitsOf k + 4)) (length ev + 2 * bitsOf k + 4) (omega arith) (λ r s. r (s tt) (bits-enough k w))
+            (halve-says rising (bitsOf k) 0 k ev (omega arith))

@@ -34,6 +34,8 @@ module _ (g : ℕ → Float → Float) (y ε : Float) (limit : ℕ) where
 
     -- the whole search, after the evaluations ev
     pub find-sound : (k : ℕ) → 0 < k → k < 2 ^ 64 → ((s : ℕ) → s < k → Numbers (g s) y) → (rising : Bool) (ev : Evaluations)
-        → Result g y k SoundIn (length ev + probes (leb k 12) k) ((T (not (leb k 12)) → Straight g y k rising) → Nothing g y k 0 k) (find (trial R g y ε limit) y rising k ev)
+        → Result g y k SoundIn (length ev + probes (leb k 12) k) ((T (not (leb k 12)) → Straight g y k rising) → Nothing g y k 0 k)
+        (find (trial R g y ε limit) y rising k ev)
     find-sound k some fits numbers rising ev =
-        find-says g y k SoundIn (trial R g y ε limit) (trial-tried k numbers) (numbers 0 some .target) (λ s l. (numbers s l .values nought nought-in, numbers s l .values one one-in)) rising ev fits
+        find-says g y k SoundIn (trial R g y ε limit) (trial-tried k numbers) (numbers 0 some .target)
+        (λ s l. (numbers s l .values nought nought-in, numbers s l .values one one-in)) rising ev fits

@@ -40,7 +40,9 @@ module _ (b : Basis) (ks : List Float) (y : Float) where
   -- a search that comes to segment r of k, whatever the n evaluations before it were: m have been made by then, and e is what it keeps of
   -- segment r
   pub record Seeks (o : Trial → Evaluations → Outcome) (k n r m : ℕ) (e : List Float) : Type 0 where
-    pub comes-to : (ev : Evaluations) → length ev ≡ n → (t : Evaluations) × (length t ≡ m) × ((R : Rule) (ε : Float) (limit : ℕ) → o (trial R (segmentOf b ks) y ε limit) ev ≡ went (segmentOf b ks) y k r R ε limit t)
+    pub comes-to : (ev : Evaluations) → length ev ≡ n
+        → (t : Evaluations) × (length t ≡ m)
+        × ((R : Rule) (ε : Float) (limit : ℕ) → o (trial R (segmentOf b ks) y ε limit) ev ≡ went (segmentOf b ks) y k r R ε limit t)
     pub keeps : r < k → e ≡ keptOf (weightsAt b ks r)
 
   abbrev pub TriesIs : ℕ → ℕ → ℕ → ℕ → ℕ → ℕ → List Float → Type 0

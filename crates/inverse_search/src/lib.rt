@@ -99,8 +99,10 @@ pub fn tries(
     made: &mut u32,
     ends: &mut [f64; 6],
 ) -> usize
-    requires { ⌜ (end * stepOf b + 4 ≤ length (now knots) + stepOf b) × (length (now knots) ≤ 4096) × (end ≤ k) × (k ≤ 4096) × (first ≤ end) × (now made ≤ 100000) ⌝ }
-    ensures { λ r. ⌜ (TriesIs b (now (knots .entry)) y (end - first) first k (now (made .entry)) r (now (made .exit)) (now (ends .exit))) × (now (made .exit) ≤ now (made .entry) + 2 * (end - first)) ⌝ }
+    requires { ⌜ (end * stepOf b + 4 ≤ length (now knots) + stepOf b) × (length (now knots) ≤ 4096) × (end ≤ k) × (k ≤ 4096)
+        × (first ≤ end) × (now made ≤ 100000) ⌝ }
+    ensures { λ r. ⌜ (TriesIs b (now (knots .entry)) y (end - first) first k (now (made .entry)) r (now (made .exit))
+        (now (ends .exit))) × (now (made .exit) ≤ now (made .entry) + 2 * (end - first)) ⌝ }
 {
     let mut s = first;
     while s < end {
@@ -130,8 +132,10 @@ pub fn last_tries(
     made: &mut u32,
     ends: &mut [f64; 6],
 ) -> usize
-    requires { ⌜ (k * stepOf b + 4 ≤ length (now knots) + stepOf b) × (length (now knots) ≤ 4096) × (0 < k) × (k ≤ 4096) × (left ≤ k) × (now made ≤ 90000) ⌝ }
-    ensures { λ r. ⌜ (LastIs b (now (knots .entry)) y k left (now (made .entry)) r (now (made .exit)) (now (ends .exit))) × (now (made .exit) ≤ now (made .entry) + 4) ⌝ }
+    requires { ⌜ (k * stepOf b + 4 ≤ length (now knots) + stepOf b) × (length (now knots) ≤ 4096) × (0 < k) × (k ≤ 4096) × (left ≤ k)
+        × (now made ≤ 90000) ⌝ }
+    ensures { λ r. ⌜ (LastIs b (now (knots .entry)) y k left (now (made .entry)) r (now (made .exit)) (now (ends .exit)))
+        × (now (made .exit) ≤ now (made .entry) + 4) ⌝ }
 {
     let first = one_less(left);
     let end = doubles::whole::lesser(first + 2, k);
@@ -158,8 +162,10 @@ pub fn halve(
     made: &mut u32,
     ends: &mut [f64; 6],
 ) -> usize
-    requires { ⌜ (k * stepOf b + 4 ≤ length (now (now knots)) + stepOf b) × (length (now (now knots)) ≤ 4096) × (0 < k) × (k ≤ 4096) × (left + wide ≤ k) × (now made + 2 * wide ≤ 90000) ⌝ }
-    ensures { λ r. ⌜ (HalveIs b (now (now (knots .entry))) y rising k left wide (now (made .entry)) r (now (made .exit)) (now (ends .exit))) × (now (made .exit) ≤ now (made .entry) + 2 * wide + 4) ⌝ }
+    requires { ⌜ (k * stepOf b + 4 ≤ length (now (now knots)) + stepOf b) × (length (now (now knots)) ≤ 4096) × (0 < k) × (k ≤ 4096)
+        × (left + wide ≤ k) × (now made + 2 * wide ≤ 90000) ⌝ }
+    ensures { λ r. ⌜ (HalveIs b (now (now (knots .entry))) y rising k left wide (now (made .entry)) r (now (made .exit))
+        (now (ends .exit))) × (now (made .exit) ≤ now (made .entry) + 2 * wide + 4) ⌝ }
 {
     if wide == 0 {
         return last_tries(b, *knots, y, k, left, made, ends);
@@ -188,8 +194,10 @@ fn sought(
     made: &mut u32,
     ends: &mut [f64; 6],
 ) -> usize
-    requires { ⌜ (k * stepOf b + 4 ≤ length (now knots) + stepOf b) × (length (now knots) ≤ 4096) × (0 < k) × (k ≤ 4096) × (now made ≤ 1000) ⌝ }
-    ensures { λ r. ⌜ (SoughtIs b (now (knots .entry)) y rising k (now (made .entry)) r (now (made .exit)) (now (ends .exit))) × (now (made .exit) ≤ 10000) ⌝ }
+    requires { ⌜ (k * stepOf b + 4 ≤ length (now knots) + stepOf b) × (length (now knots) ≤ 4096) × (0 < k) × (k ≤ 4096)
+        × (now made ≤ 1000) ⌝ }
+    ensures { λ r. ⌜ (SoughtIs b (now (knots .entry)) y rising k (now (made .entry)) r (now (made .exit)) (now (ends .exit)))
+        × (now (made .exit) ≤ 10000) ⌝ }
 {
     if k <= 12 {
         return tries(b, knots, y, k, 0, k, made, ends);
@@ -210,7 +218,8 @@ pub fn find(
     k: usize,
     count: u32,
 ) -> Inverted
-    requires { ⌜ (k * stepOf b + 4 ≤ length (now knots) + stepOf b) × (length (now knots) ≤ 4096) × (0 < k) × (k ≤ 4096) × (count ≤ 1000) ⌝ }
+    requires { ⌜ (k * stepOf b + 4 ≤ length (now knots) + stepOf b) × (length (now knots) ≤ 4096) × (0 < k) × (k ≤ 4096)
+        × (count ≤ 1000) ⌝ }
     ensures { λ r. ⌜ FindIs how b (now (knots .entry)) y precision limit rising k count r ⌝ }
 {
     let mut made = count;

@@ -25,7 +25,17 @@ use Rattle.inverse_segment.specs.declared.Inverted.the-variants.{Refused
 use Rattle.inverse_segment.specs.Agreed.{Agreed}
 use Rattle.inverse_segment.specs.Round.{Rule}
 use Rattle.inverse_segment.specs.Segment.{encloses, Entry, outside, inside, enter, evaluationsOf, Outcome, off, placed, outcomeOf}
-use Rattle.inverse_segment.specs.Answer.{numberTold, countTold, answered, alone, inverted, unlessRefused, inverseSegmentUses, inverseSegmentBy, segmentEvaluationsBy}
+use Rattle.inverse_segment.specs.Answer.{
+  numberTold,
+  countTold,
+  answered,
+  alone,
+  inverted,
+  unlessRefused,
+  inverseSegmentUses,
+  inverseSegmentBy,
+  segmentEvaluationsBy,
+}
 use Rattle.inverse_segment.proofs.Rules.{Lawful}
 use Rattle.inverse_segment.proofs.Enclosing.{Numbers, Sound}
 use Rattle.inverse_segment.proofs.Places.{Tells, missed, hit, enter-tells}
@@ -33,7 +43,8 @@ use Rattle.inverse_segment.proofs.Complete.{seenIn, enter-same}
 use Rattle.inverse_segment.proofs.Verdicts.{passes}
 
 -- each segment of knots in range is a number on 0 to 1
-pub segment-numbers : (b : Basis) (ks : List Float) (s : ℕ) (y : Float) → T (allInRange ks) → s * stepOf b + 4 ≤ length ks → T (not (isNan y)) → Numbers (segmentOf b ks s) y
+pub segment-numbers : (b : Basis) (ks : List Float) (s : ℕ) (y : Float) → T (allInRange ks) → s * stepOf b + 4 ≤ length ks → T (not (isNan y))
+    → Numbers (segmentOf b ks s) y
 segment-numbers b ks s y good long n =
     record { target = n; values = λ x u. within-number (segment-finite b _ x (knots-within ks (s * stepOf b) good long) (nought-le x (u .sign)) (u .top) .0) }
 
@@ -43,7 +54,8 @@ module _ (f : Float → Float) (y ε : Float) (limit : ℕ) where
   Owed (Refused r) = ⊥
   Owed (OffCurve n) = T (not (encloses (f nought) (f one) y)) × (n ≡ 2)
   Owed (At p) =
-      T (encloses (f nought) (f one) y) × Sound f y ε (lt (f nought) (f one)) limit 2 (p .ground) (p .local) (p .lower) (p .upper) (p .count) × (p .segment ≡ 0) × (p .parameter ≡ p .local)
+      T (encloses (f nought) (f one) y) × Sound f y ε (lt (f nought) (f one)) limit 2 (p .ground) (p .local) (p .lower) (p .upper) (p .count)
+      × (p .segment ≡ 0) × (p .parameter ≡ p .local)
 
   owed : (o : Entry) → Tells f 0 y ε limit [] o → Owed (answered alone (outcomeOf o))
   owed _ (missed h) = (h, refl)
@@ -56,7 +68,8 @@ module _ (f : Float → Float) (y ε : Float) (limit : ℕ) where
 
   owed-number : (a : Inverted) → Owed a → numberTold a ≡ cond (encloses (f nought) (f one) y) 0 11
   owed-number (Refused r) h = absurd h
-  owed-number (OffCurve n) h = branch (λ (k : ℕ). 11 ≡ k) (encloses (f nought) (f one) y) (λ t. absurd (T-not (encloses (f nought) (f one) y) (h .0) t)) (λ _. refl)
+  owed-number (OffCurve n) h =
+      branch (λ (k : ℕ). 11 ≡ k) (encloses (f nought) (f one) y) (λ t. absurd (T-not (encloses (f nought) (f one) y) (h .0) t)) (λ _. refl)
   owed-number (At p) h = branch (λ (k : ℕ). 0 ≡ k) (encloses (f nought) (f one) y) (λ _. refl) (λ t. absurd (T-not (encloses (f nought) (f one) y) t (h .0)))
 
 count-any : (limit : ℕ) (v : Verdict) (a : Inverted) → (v ≡ Passed → countTold a ≤ limit + 2) → countTold (inverted v a) ≤ limit + 2
@@ -87,17 +100,21 @@ module _ (R : Rule) (lawful : Lawful R) (b : Basis) (y : Float) (cv : List Float
   answers e = ap (λ (v : Verdict). inverted v (answered alone (outcomeOf (enter R (segmentOf b cv 0) 0 y ε limit [])))) e
 
   pub inverse-segment-owed : Passed-all → Owed (segmentOf b cv 0) y ε limit (inverseSegmentBy R b y cv limit ε)
-  inverse-segment-owed e = subst (λ (a : Inverted). Owed (segmentOf b cv 0) y ε limit a) (sym (answers e)) (owed (segmentOf b cv 0) y ε limit (enter R (segmentOf b cv 0) 0 y ε limit []) (said e))
+  inverse-segment-owed e =
+      subst (λ (a : Inverted). Owed (segmentOf b cv 0) y ε limit a) (sym (answers e))
+      (owed (segmentOf b cv 0) y ε limit (enter R (segmentOf b cv 0) 0 y ε limit []) (said e))
 
   -- at most limit + 2 evaluations, whatever is asked
   pub inverse-segment-count : countTold (inverseSegmentBy R b y cv limit ε) ≤ limit + 2
   unfolding inverseSegmentBy
   inverse-segment-count =
       let o = enter R (segmentOf b cv 0) 0 y ε limit [] in
-      count-any limit (first (inverseSegmentUses y cv limit ε)) (answered alone (outcomeOf o)) (λ e. owed-count (segmentOf b cv 0) y ε limit (answered alone (outcomeOf o)) (owed (segmentOf b cv 0) y ε limit o (said e)))
+      count-any limit (first (inverseSegmentUses y cv limit ε)) (answered alone (outcomeOf o))
+      (λ e. owed-count (segmentOf b cv 0) y ε limit (answered alone (outcomeOf o)) (owed (segmentOf b cv 0) y ε limit o (said e)))
 
   -- 11 where no row applies and the end values do not enclose the target; and nowhere else
-  pub inverse-segment-number : Passed-all → numberTold (inverseSegmentBy R b y cv limit ε) ≡ cond (encloses (segmentOf b cv 0 nought) (segmentOf b cv 0 one) y) 0 11
+  pub inverse-segment-number : Passed-all
+      → numberTold (inverseSegmentBy R b y cv limit ε) ≡ cond (encloses (segmentOf b cv 0 nought) (segmentOf b cv 0 one) y) 0 11
   inverse-segment-number e = owed-number (segmentOf b cv 0) y ε limit (inverseSegmentBy R b y cv limit ε) (inverse-segment-owed e)
 
   pub inverse-segment-eleven : numberTold (inverseSegmentBy R b y cv limit ε) ≡ 11 → Passed-all
@@ -124,7 +141,8 @@ module _ (R : Rule) (lawful : Lawful R) (b : Basis) (y : Float) (cv : List Float
   inverse-segment-unlisted h = go (first (inverseSegmentUses y cv limit ε))
     where
       go : (v : Verdict) → Agreed (segmentOf b cv) h (unlessRefused v (evaluationsOf (outcomeOf (enter R (segmentOf b cv 0) 0 y ε limit []))))
-          → inverted v (answered alone (outcomeOf (enter R (segmentOf b cv 0) 0 y ε limit []))) ≡ inverted v (answered alone (outcomeOf (enter R (h 0) 0 y ε limit [])))
+          → inverted v (answered alone (outcomeOf (enter R (segmentOf b cv 0) 0 y ε limit []))) ≡ inverted v
+          (answered alone (outcomeOf (enter R (h 0) 0 y ε limit [])))
       go Passed a =
           let e = enter R (segmentOf b cv 0) 0 y ε limit [] in
           ap (λ (z : Entry). answered alone (outcomeOf z)) (enter-same (segmentOf b cv) h R 0 y ε limit [] (subst (Agreed (segmentOf b cv) h) (seen-is e) a))

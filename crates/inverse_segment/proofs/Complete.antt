@@ -35,19 +35,25 @@ module _ (g h : ℕ → Float → Float) (R : Rule) (s : ℕ) (y ε : Float) whe
   abbrev Same : Turn → Type 0
   Same t = Agreed g h (seenBy t)
 
-  probed-agreed : (rising : Bool) (limit i : ℕ) (st : State) (ev : Evaluations) → Same (probed R (g s) s y ε rising limit i st ev) → Agreed g h ((s, R limit i y st .place) ∷ ev)
+  probed-agreed : (rising : Bool) (limit i : ℕ) (st : State) (ev : Evaluations) → Same (probed R (g s) s y ε rising limit i st ev)
+      → Agreed g h ((s, R limit i y st .place) ∷ ev)
   unfolding probed
-  probed-agreed rising limit i st ev a = let c = R limit i y st in rw (settled-sees y ε rising (c .bracket) st (c .place) (g s (c .place)) ((s, c .place) ∷ ev)) at a
+  probed-agreed rising limit i st ev a = let c = R limit i y st
+      in rw (settled-sees y ε rising (c .bracket) st (c .place) (g s (c .place)) ((s, c .place) ∷ ev)) at a
 
-  probed-same : (rising : Bool) (limit i : ℕ) (st : State) (ev : Evaluations) → Same (probed R (g s) s y ε rising limit i st ev) → probed R (g s) s y ε rising limit i st ev ≡ probed R (h s) s y ε rising limit i st ev
+  probed-same : (rising : Bool) (limit i : ℕ) (st : State) (ev : Evaluations) → Same (probed R (g s) s y ε rising limit i st ev)
+      → probed R (g s) s y ε rising limit i st ev ≡ probed R (h s) s y ε rising limit i st ev
   unfolding probed
-  probed-same rising limit i st ev a = let c = R limit i y st in ap (λ (v : Float). settled y ε rising (c .bracket) st (c .place) v ((s, c .place) ∷ ev)) (probed-agreed rising limit i st ev a .0)
+  probed-same rising limit i st ev a = let c = R limit i y st
+      in ap (λ (v : Float). settled y ε rising (c .bracket) st (c .place) v ((s, c .place) ∷ ev)) (probed-agreed rising limit i st ev a .0)
 
   turn-grows : (rising : Bool) (limit i : ℕ) (st : State) (ev : Evaluations) → Same (turn R (g s) s y ε rising limit i st ev) → Agreed g h ev
   unfolding turn
-  turn-grows rising limit i st ev = branch (λ (t : Turn). Same t → Agreed g h ev) (narrow ε (st .bracket)) (λ _ a. a) (λ _ a. probed-agreed rising limit i st ev a .1)
+  turn-grows rising limit i st ev =
+      branch (λ (t : Turn). Same t → Agreed g h ev) (narrow ε (st .bracket)) (λ _ a. a) (λ _ a. probed-agreed rising limit i st ev a .1)
 
-  turn-same : (rising : Bool) (limit i : ℕ) (st : State) (ev : Evaluations) → Same (turn R (g s) s y ε rising limit i st ev) → turn R (g s) s y ε rising limit i st ev ≡ turn R (h s) s y ε rising limit i st ev
+  turn-same : (rising : Bool) (limit i : ℕ) (st : State) (ev : Evaluations) → Same (turn R (g s) s y ε rising limit i st ev)
+      → turn R (g s) s y ε rising limit i st ev ≡ turn R (h s) s y ε rising limit i st ev
   unfolding turn
   turn-same rising limit i st ev a = alike Same (narrow ε (st .bracket)) (λ _. refl) (probed-same rising limit i st ev) a
 
@@ -60,14 +66,16 @@ module _ (g h : ℕ → Float → Float) (R : Rule) (s : ℕ) (y ε : Float) whe
     rounds-grows (suc n) i (found k x b ev) a = a
     rounds-grows (suc n) i (on st ev) a = turn-grows rising limit i st ev (rounds-grows n (suc i) (turn R (g s) s y ε rising limit i st ev) a)
 
-    rounds-same : (n i : ℕ) (t : Turn) → Agreed g h (rounds R (g s) s y ε rising limit n i t .made) → rounds R (g s) s y ε rising limit n i t ≡ rounds R (h s) s y ε rising limit n i t
+    rounds-same : (n i : ℕ) (t : Turn) → Agreed g h (rounds R (g s) s y ε rising limit n i t .made)
+        → rounds R (g s) s y ε rising limit n i t ≡ rounds R (h s) s y ε rising limit n i t
     unfolding rounds
     rounds-same zero i (found k x b ev) a = refl
     rounds-same zero i (on st ev) a = refl
     rounds-same (suc n) i (found k x b ev) a = refl
     rounds-same (suc n) i (on st ev) a =
         let t = turn R (g s) s y ε rising limit i st ev in
-        rounds-same n (suc i) t a ∙ ap (λ (z : Turn). rounds R (h s) s y ε rising limit n (suc i) z) (turn-same rising limit i st ev (rounds-grows n (suc i) t a))
+        rounds-same n (suc i) t a
+        ∙ ap (λ (z : Turn). rounds R (h s) s y ε rising limit n (suc i) z) (turn-same rising limit i st ev (rounds-grows n (suc i) t a))
 
   -- ---- the segment
   module _ (limit : ℕ) where
@@ -78,15 +86,21 @@ module _ (g h : ℕ → Float → Float) (R : Rule) (s : ℕ) (y ε : Float) whe
     unfolding entered
     entered-grows v0 v1 ev =
         let P : Placed → Type 0 = λ p. Alike p → Agreed g h ev in
-        branch P (near y v0 ε) (λ _ a. a) (λ _. branch P (near y v1 ε) (λ _ a. a) (λ _ a. rounds-grows (lt v0 v1) limit limit 0 (on (start (opening v0 v1)) ev) a))
+        branch P (near y v0 ε) (λ _ a. a)
+        (λ _. branch P (near y v1 ε) (λ _ a. a) (λ _ a. rounds-grows (lt v0 v1) limit limit 0 (on (start (opening v0 v1)) ev) a))
 
-    entered-same : (v0 v1 : Float) (ev : Evaluations) → Alike (entered R (g s) s y ε limit v0 v1 ev) → entered R (g s) s y ε limit v0 v1 ev ≡ entered R (h s) s y ε limit v0 v1 ev
+    entered-same : (v0 v1 : Float) (ev : Evaluations) → Alike (entered R (g s) s y ε limit v0 v1 ev)
+        → entered R (g s) s y ε limit v0 v1 ev ≡ entered R (h s) s y ε limit v0 v1 ev
     unfolding entered
-    entered-same v0 v1 ev a = alike Alike (near y v0 ε) (λ _. refl) (alike Alike (near y v1 ε) (λ _. refl) (rounds-same (lt v0 v1) limit limit 0 (on (start (opening v0 v1)) ev))) a
+    entered-same v0 v1 ev a =
+        alike Alike (near y v0 ε) (λ _. refl) (alike Alike (near y v1 ε) (λ _. refl) (rounds-same (lt v0 v1) limit limit 0 (on (start (opening v0 v1)) ev)))
+        a
 
     ends-agreed : (ev : Evaluations) → Agreed g h (seenIn (enter R (g s) s y ε limit ev)) → Agreed g h (both s ev)
     unfolding enter
-    ends-agreed ev = branch (λ (e : Entry). Agreed g h (seenIn e) → Agreed g h (both s ev)) (encloses (g s nought) (g s one) y) (λ _ a. entered-grows (g s nought) (g s one) (both s ev) a) (λ _ a. a)
+    ends-agreed ev =
+        branch (λ (e : Entry). Agreed g h (seenIn e) → Agreed g h (both s ev)) (encloses (g s nought) (g s one) y)
+        (λ _ a. entered-grows (g s nought) (g s one) (both s ev) a) (λ _ a. a)
 
     pub enter-grows : (ev : Evaluations) → Agreed g h (seenIn (enter R (g s) s y ε limit ev)) → Agreed g h ev
     enter-grows ev a = ends-agreed ev a .1 .1
@@ -95,4 +109,6 @@ module _ (g h : ℕ → Float → Float) (R : Rule) (s : ℕ) (y ε : Float) whe
     unfolding enter
     enter-same ev a =
         let e = ends-agreed ev a in
-        rw (← (e .0), ← (e .1 .0)) (alike (λ (e : Entry). Agreed g h (seenIn e)) (encloses (g s nought) (g s one) y) (λ b. ap inside (entered-same (g s nought) (g s one) (both s ev) b)) (λ _. refl) a)
+        rw (← (e .0), ← (e .1 .0))
+        (alike (λ (e : Entry). Agreed g h (seenIn e)) (encloses (g s nought) (g s one) y)
+        (λ b. ap inside (entered-same (g s nought) (g s one) (both s ev) b)) (λ _. refl) a)

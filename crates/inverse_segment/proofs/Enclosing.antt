@@ -44,7 +44,8 @@ inside-in {lower} {upper} {x} i u = record { sign = i .sign; held = i .held; top
 under-greater : (w t ε : Float) → T (le t w) → T (lt w (greater ε t)) → T (lt w ε)
 under-greater w t ε h = branch (λ (z : Float). T (lt w z) → T (lt w ε)) (lt t ε) (λ _ k. k) (λ _ k. absurd (lt-le-absurd w t k h))
 
-narrow-width : (ε : Float) (b : Bracket) → InUnit (b .lower) → InUnit (b .upper) → T (le (b .lower) (b .upper)) → T (narrow ε b) → T (lt (sub binary64 (b .upper) (b .lower)) ε)
+narrow-width : (ε : Float) (b : Bracket) → InUnit (b .lower) → InUnit (b .upper) → T (le (b .lower) (b .upper)) → T (narrow ε b)
+    → T (lt (sub binary64 (b .upper) (b .lower)) ε)
 unfolding narrow
 narrow-width ε b l u o n =
     let w = sub binary64 (b .upper) (b .lower) in
@@ -102,20 +103,29 @@ module _ (R : Rule) (lawful : Lawful R) (f : Float → Float) (s : ℕ) (y ε : 
   -- the bracket after a move, and the place that it moved to
   moved-bracketed : (p : Bool) (b : Bracket) (st : State) (x : Float) → Bracketed f y rising (b .lower) (b .upper) → Inside (b .lower) (b .upper) x
       → (T p → T (cond rising (le (f x) y) (le y (f x)))) → (T (not p) → T (cond rising (le y (f x)) (le (f x) y)))
-      → Bracketed f y rising (moved p b st x (f x) .bracket .lower) (moved p b st x (f x) .bracket .upper) × Inside (moved p b st x (f x) .bracket .lower) (moved p b st x (f x) .bracket .upper) x
+      → Bracketed f y rising (moved p b st x (f x) .bracket .lower) (moved p b st x (f x) .bracket .upper)
+      × Inside (moved p b st x (f x) .bracket .lower) (moved p b st x (f x) .bracket .upper) x
   unfolding moved
-  moved-bracketed true b st x h i l u =
-      (record { lower-in = inside-in i (h .upper-in); upper-in = h .upper-in; order = i .below; at-lower = l tt; at-upper = h .at-upper }, record { sign = i .sign; held = i .held; above = le-refl-clear x (i .held) (i .sign); below = i .below })
-  moved-bracketed false b st x h i l u =
-      (record { lower-in = h .lower-in; upper-in = inside-in i (h .upper-in); order = i .above; at-lower = h .at-lower; at-upper = u tt }, record { sign = i .sign; held = i .held; above = i .above; below = le-refl-clear x (i .held) (i .sign) })
+  moved-bracketed true b st x h i l u = (
+    record { lower-in = inside-in i (h .upper-in); upper-in = h .upper-in; order = i .below; at-lower = l tt; at-upper = h .at-upper },
+    record { sign = i .sign; held = i .held; above = le-refl-clear x (i .held) (i .sign); below = i .below },
+  )
+  moved-bracketed false b st x h i l u = (
+    record { lower-in = h .lower-in; upper-in = inside-in i (h .upper-in); order = i .above; at-lower = h .at-lower; at-upper = u tt },
+    record { sign = i .sign; held = i .held; above = i .above; below = le-refl-clear x (i .held) (i .sign) },
+  )
 
-  settled-fine : (i : ℕ) (b : Bracket) (st : State) (x : Float) (ev : Evaluations) → suc i ≤ limit → Bracketed f y rising (b .lower) (b .upper) → Inside (b .lower) (b .upper) x → length ev ≡ base + suc i
+  settled-fine : (i : ℕ) (b : Bracket) (st : State) (x : Float) (ev : Evaluations) → suc i ≤ limit → Bracketed f y rising (b .lower) (b .upper)
+      → Inside (b .lower) (b .upper) x → length ev ≡ base + suc i
       → Fine (suc i) (settled y ε rising b st x (f x) ev)
   unfolding settled
   settled-fine i b st x ev I h n c =
       let v : T (not (isNan (f x))) = numbers .values x (inside-in n (h .upper-in)) in
-      let m = moved-bracketed (Bool·beq (lt (f x) y) rising) b st x h n (lower-says rising (f x) y v (numbers .target)) (upper-says rising (f x) y v (numbers .target)) in
-      branch (Fine (suc i)) (lt (magnitudeOf (sub binary64 (f x) y)) ε) (λ k. record { bracketed = m .0; inside = m .1; says = k; count = omega arith }) (λ _. (m .0, c))
+      let m =
+      moved-bracketed (Bool·beq (lt (f x) y) rising) b st x h n (lower-says rising (f x) y v (numbers .target))
+      (upper-says rising (f x) y v (numbers .target)) in
+      branch (Fine (suc i)) (lt (magnitudeOf (sub binary64 (f x) y)) ε) (λ k. record { bracketed = m .0; inside = m .1; says = k; count = omega arith })
+      (λ _. (m .0, c))
 
   placing : (b : Bracket) → Bracketed f y rising (b .lower) (b .upper) → Placing b
   placing b h = record { lower-in = h .lower-in; upper-in = h .upper-in; order = h .order }
@@ -123,12 +133,18 @@ module _ (R : Rule) (lawful : Lawful R) (f : Float → Float) (s : ℕ) (y ε : 
   pub midpoint-inside : (b : Bracket) → Bracketed f y rising (b .lower) (b .upper) → Inside (b .lower) (b .upper) (midpoint b)
   midpoint-inside b h = half-inside b (placing b h)
 
-  pub turn-fine : (i : ℕ) (st : State) (ev : Evaluations) → suc i ≤ limit → Bracketed f y rising (st .bracket .lower) (st .bracket .upper) → length ev ≡ base + i
+  pub turn-fine : (i : ℕ) (st : State) (ev : Evaluations) → suc i ≤ limit → Bracketed f y rising (st .bracket .lower) (st .bracket .upper)
+      → length ev ≡ base + i
       → Fine (suc i) (turn R f s y ε rising limit i st ev)
   unfolding turn probed
   turn-fine i st ev I h c =
       branch (Fine (suc i)) (narrow ε (st .bracket))
-      (λ k. record { bracketed = h; inside = midpoint-inside (st .bracket) h; says = narrow-width ε (st .bracket) (h .lower-in) (h .upper-in) (h .order) k; count = omega arith })
+      (λ k. record {
+        bracketed = h;
+        inside = midpoint-inside (st .bracket) h;
+        says = narrow-width ε (st .bracket) (h .lower-in) (h .upper-in) (h .order) k;
+        count = omega arith;
+      })
       (λ _.
       let r = R limit i y st in
       let e = lawful .same-lower limit i y st in

@@ -14,9 +14,12 @@ use Rattle.inverse_segment.specs.Shown.{SettledIs}
 abbrev pub both : ℕ → Evaluations → Evaluations
 both s ev = (s, one) ∷ ((s, nought) ∷ ev)
 
-pub settled : {y : Float} (w : Weights) {v0 v1 : Float} {h : Bool} → v0 ≡ hornerOf w nought → v1 ≡ hornerOf w one → h ≡ encloses v0 v1 y → SettledIs w y (w .w0 ∷ w .w1 ∷ w .w2 ∷ w .w3 ∷ v0 ∷ v1 ∷ []) h
+pub settled : {y : Float} (w : Weights) {v0 v1 : Float} {h : Bool} → v0 ≡ hornerOf w nought → v1 ≡ hornerOf w one → h ≡ encloses v0 v1 y
+    → SettledIs w y (w .w0 ∷ w .w1 ∷ w .w2 ∷ w .w3 ∷ v0 ∷ v1 ∷ []) h
 settled {y} w {v0} {v1} e0 e1 eh =
     record {
-      kept-is = ap (λ (v : Float). w .w0 ∷ w .w1 ∷ w .w2 ∷ w .w3 ∷ v ∷ v1 ∷ []) e0 ∙ ap (λ (v : Float). w .w0 ∷ w .w1 ∷ w .w2 ∷ w .w3 ∷ hornerOf w nought ∷ v ∷ []) e1;
+      kept-is =
+          ap (λ (v : Float). w .w0 ∷ w .w1 ∷ w .w2 ∷ w .w3 ∷ v ∷ v1 ∷ []) e0
+          ∙ ap (λ (v : Float). w .w0 ∷ w .w1 ∷ w .w2 ∷ w .w3 ∷ hornerOf w nought ∷ v ∷ []) e1;
       holds-is = eh ∙ ap (λ (v : Float). encloses v v1 y) e0 ∙ ap (λ (v : Float). encloses (hornerOf w nought) v y) e1;
     }

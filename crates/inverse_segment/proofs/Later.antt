@@ -33,7 +33,8 @@ pub record More (n : ℕ) (p q : Placed) : Type 0 where
   pub count : length (q .made) ≡ length (p .made) + n
 
 data Turned (n : ℕ) : Turn → Turn → Type 0 where
-  founds : {g : Ground} {x : Float} {b : Bracket} {ev et : Evaluations} → isEnd g ≡ false → length et ≡ length ev + n → Turned n (found g x b ev) (found g x b et)
+  founds : {g : Ground} {x : Float} {b : Bracket} {ev et : Evaluations} → isEnd g ≡ false → length et ≡ length ev + n
+      → Turned n (found g x b ev) (found g x b et)
   ons : {st : State} {ev et : Evaluations} → length et ≡ length ev + n → Turned n (on st ev) (on st et)
 
 either : (n : ℕ) (t : Bool) {a b c d : Turn} → Turned n a c → Turned n b d → Turned n (cond t a b) (cond t c d)
@@ -45,7 +46,8 @@ choice n true p q = p
 choice n false p q = q
 
 module _ (R : Rule) (f : Float → Float) (s : ℕ) (y ε : Float) (n : ℕ) where
-  turn-more : (rising : Bool) (limit i : ℕ) (st : State) (ev et : Evaluations) → length et ≡ length ev + n → Turned n (turn R f s y ε rising limit i st ev) (turn R f s y ε rising limit i st et)
+  turn-more : (rising : Bool) (limit i : ℕ) (st : State) (ev et : Evaluations) → length et ≡ length ev + n
+      → Turned n (turn R f s y ε rising limit i st ev) (turn R f s y ε rising limit i st et)
   unfolding turn probed settled
   turn-more rising limit i st ev et e =
       let x = R limit i y st .place in
@@ -55,11 +57,13 @@ module _ (R : Rule) (f : Float → Float) (s : ℕ) (y ε : Float) (n : ℕ) whe
   unfolding rounds
   rounds-more rising limit zero i _ _ (founds h e) = record { searched = h; ground = refl; segment = refl; local = refl; lower = refl; upper = refl; count = e }
   rounds-more rising limit zero i _ _ (ons e) = record { searched = refl; ground = refl; segment = refl; local = refl; lower = refl; upper = refl; count = e }
-  rounds-more rising limit (suc m) i _ _ (founds h e) = record { searched = h; ground = refl; segment = refl; local = refl; lower = refl; upper = refl; count = e }
+  rounds-more rising limit (suc m) i _ _ (founds h e) =
+      record { searched = h; ground = refl; segment = refl; local = refl; lower = refl; upper = refl; count = e }
   rounds-more rising limit (suc m) i _ _ (ons {st} {ev} {et} e) =
       rounds-more rising limit m (suc i) (turn R f s y ε rising limit i st ev) (turn R f s y ε rising limit i st et) (turn-more rising limit i st ev et e)
 
-  pub entered-more : (limit : ℕ) (v0 v1 : Float) (ev et : Evaluations) → length et ≡ length ev + n → More n (entered R f s y ε limit v0 v1 ev) (entered R f s y ε limit v0 v1 et)
+  pub entered-more : (limit : ℕ) (v0 v1 : Float) (ev et : Evaluations) → length et ≡ length ev + n
+      → More n (entered R f s y ε limit v0 v1 ev) (entered R f s y ε limit v0 v1 et)
   unfolding entered
   entered-more limit v0 v1 ev et e =
       choice n (near y v0 ε) (record { searched = refl; ground = refl; segment = refl; local = refl; lower = refl; upper = refl; count = e })

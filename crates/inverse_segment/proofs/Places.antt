@@ -27,13 +27,21 @@ abbrev pub SoundAt : (Float → Float) → Float → Float → Bool → ℕ → 
 SoundAt f y ε rising limit base p = Sound f y ε rising limit base (p .ground) (p .local) (p .lower) (p .upper) (length (p .made))
 
 module _ (R : Rule) (lawful : Lawful R) (f : Float → Float) (s : ℕ) (y ε : Float) (rising : Bool) (limit : ℕ) (numbers : Numbers f y) (base : ℕ) where
-  rounds-sound : (n i : ℕ) (t : Turn) → i + n ≡ limit → Fine R lawful f s y ε rising limit numbers base i t → SoundAt f y ε rising limit base (rounds R f s y ε rising limit n i t)
+  rounds-sound : (n i : ℕ) (t : Turn) → i + n ≡ limit → Fine R lawful f s y ε rising limit numbers base i t
+      → SoundAt f y ε rising limit base (rounds R f s y ε rising limit n i t)
   unfolding rounds
   rounds-sound zero i (found g x b ev) e h = h
-  rounds-sound zero i (on st ev) e h = record { bracketed = h .0; inside = midpoint-inside R lawful f s y ε rising limit numbers base (st .bracket) (h .0); says = omega arith; count = omega arith }
+  rounds-sound zero i (on st ev) e h =
+      record {
+        bracketed = h .0;
+        inside = midpoint-inside R lawful f s y ε rising limit numbers base (st .bracket) (h .0);
+        says = omega arith;
+        count = omega arith;
+      }
   rounds-sound (suc n) i (found g x b ev) e h = h
   rounds-sound (suc n) i (on st ev) e h =
-      rounds-sound n (suc i) (turn R f s y ε rising limit i st ev) (omega arith) (turn-fine R lawful f s y ε rising limit numbers base i st ev (omega arith) (h .0) (h .1))
+      rounds-sound n (suc i) (turn R f s y ε rising limit i st ev) (omega arith)
+      (turn-fine R lawful f s y ε rising limit numbers base i st ev (omega arith) (h .0) (h .1))
 
 module _ (R : Rule) (f : Float → Float) (s : ℕ) (y ε : Float) (rising : Bool) (limit : ℕ) where
   segment-of : (n i : ℕ) (t : Turn) → rounds R f s y ε rising limit n i t .segment ≡ s
@@ -63,7 +71,8 @@ unfolding le lt fits
 one-inside = record { sign = tt; held = tt; above = tt; below = tt }
 
 -- a value not past the target and one not before it enclose it, as the test of a segment's ends has it
-pub encloses-of : (rising : Bool) (v0 v1 y : Float) → T (not (isNan v0)) → T (not (isNan v1)) → T (cond rising (le v0 y) (le y v0)) → T (cond rising (le y v1) (le v1 y)) → T (encloses v0 v1 y)
+pub encloses-of : (rising : Bool) (v0 v1 y : Float) → T (not (isNan v0)) → T (not (isNan v1)) → T (cond rising (le v0 y) (le y v0))
+    → T (cond rising (le y v1) (le v1 y)) → T (encloses v0 v1 y)
 encloses-of true v0 v1 y m n a b =
     branch (λ (t : Bool). T t) (lt v0 v1) (λ _. and-i (le v0 y) (le y v1) a b)
     (λ k. let o = not-lt→le v0 v1 m n k in and-i (le v1 y) (le y v0) (le-trans-float v1 v0 y o a) (le-trans-float y v1 v0 b o))
@@ -72,17 +81,21 @@ encloses-of false v0 v1 y m n a b =
     (λ k. let o = lt→le v0 v1 k in and-i (le v0 y) (le y v1) (le-trans-float v0 v1 y o b) (le-trans-float y v0 v1 a o))
     (λ _. and-i (le v1 y) (le y v0) b a)
 
-pub bracket-encloses : (f : Float → Float) (y : Float) (rising : Bool) {lower upper : Float} → Numbers f y → Bracketed f y rising lower upper → T (encloses (f lower) (f upper) y)
-bracket-encloses f y rising {lower} {upper} n h = encloses-of rising (f lower) (f upper) y (n .values lower (h .lower-in)) (n .values upper (h .upper-in)) (h .at-lower) (h .at-upper)
+pub bracket-encloses : (f : Float → Float) (y : Float) (rising : Bool) {lower upper : Float} → Numbers f y → Bracketed f y rising lower upper
+    → T (encloses (f lower) (f upper) y)
+bracket-encloses f y rising {lower} {upper} n h =
+    encloses-of rising (f lower) (f upper) y (n .values lower (h .lower-in)) (n .values upper (h .upper-in)) (h .at-lower) (h .at-upper)
 
 -- ---- the segment
 -- what the trial of segment s tells, ev being the evaluations before it
 pub data Tells (f : Float → Float) (s : ℕ) (y ε : Float) (limit : ℕ) (ev : Evaluations) : Entry → Type 0 where
   missed : T (not (encloses (f nought) (f one) y)) → Tells f s y ε limit ev (outside (f nought) (both s ev))
-  hit : {p : Placed} → T (encloses (f nought) (f one) y) → SoundAt f y ε (lt (f nought) (f one)) limit (length ev + 2) p → p .segment ≡ s → Tells f s y ε limit ev (inside p)
+  hit : {p : Placed} → T (encloses (f nought) (f one) y) → SoundAt f y ε (lt (f nought) (f one)) limit (length ev + 2) p → p .segment ≡ s
+      → Tells f s y ε limit ev (inside p)
 
 module _ (R : Rule) (lawful : Lawful R) (f : Float → Float) (s : ℕ) (y ε : Float) (limit : ℕ) (ev : Evaluations) (numbers : Numbers f y) where
-  entered-sound : T (encloses (f nought) (f one) y) → let p = entered R f s y ε limit (f nought) (f one) (both s ev) in SoundAt f y ε (lt (f nought) (f one)) limit (length ev + 2) p × (p .segment ≡ s)
+  entered-sound : T (encloses (f nought) (f one) y) → let p = entered R f s y ε limit (f nought) (f one) (both s ev)
+      in SoundAt f y ε (lt (f nought) (f one)) limit (length ev + 2) p × (p .segment ≡ s)
   unfolding entered
   entered-sound h =
       let rising = lt (f nought) (f one) in
@@ -91,7 +104,10 @@ module _ (R : Rule) (lawful : Lawful R) (f : Float → Float) (s : ℕ) (y ε : 
       let P : Placed → Type 0 = λ p. SoundAt f y ε rising limit (length ev + 2) p × (p .segment ≡ s) in
       branch P (near y (f nought) ε) (λ k. (record { bracketed = w; inside = nought-inside; says = inl (refl, k); count = omega arith }, refl))
       (λ far. branch P (near y (f one) ε) (λ k. (record { bracketed = w; inside = one-inside; says = inr (refl, far, k); count = omega arith }, refl))
-      (λ _. (rounds-sound R lawful f s y ε rising limit numbers (length ev + 2) limit 0 t (omega arith) (w, omega arith), segment-of R f s y ε rising limit limit 0 t)))
+      (λ _. (
+        rounds-sound R lawful f s y ε rising limit numbers (length ev + 2) limit 0 t (omega arith) (w, omega arith),
+        segment-of R f s y ε rising limit limit 0 t,
+      )))
 
   pub enter-tells : Tells f s y ε limit ev (enter R f s y ε limit ev)
   unfolding enter

@@ -46,11 +46,15 @@ clear-between (fin false m e) h k = tt
 module _ (W : Weighting) (keeps : Keeps W) (y : Float) (regula : Bool) (st : State) where
   pub weighed-lower : weighed W y regula st .lower ≡ st .bracket .lower
   unfolding weighed
-  weighed-lower = branch (λ (b : Bracket). b .lower ≡ st .bracket .lower) (regula && ltb 0 (st .repeats)) (λ _. keeps .keeps-lower y (eqb (st .side) 1) (st .bracket)) (λ _. refl)
+  weighed-lower =
+      branch (λ (b : Bracket). b .lower ≡ st .bracket .lower) (regula && ltb 0 (st .repeats)) (λ _. keeps .keeps-lower y (eqb (st .side) 1) (st .bracket))
+      (λ _. refl)
 
   pub weighed-upper : weighed W y regula st .upper ≡ st .bracket .upper
   unfolding weighed
-  weighed-upper = branch (λ (b : Bracket). b .upper ≡ st .bracket .upper) (regula && ltb 0 (st .repeats)) (λ _. keeps .keeps-upper y (eqb (st .side) 1) (st .bracket)) (λ _. refl)
+  weighed-upper =
+      branch (λ (b : Bracket). b .upper ≡ st .bracket .upper) (regula && ltb 0 (st .repeats)) (λ _. keeps .keeps-upper y (eqb (st .side) 1) (st .bracket))
+      (λ _. refl)
 
 -- ---- the crate's rule
 record Part (t : Float) : Type 0 where
@@ -75,17 +79,24 @@ fraction-part y regula b = branch Part regula (λ _. kept-part _) (λ _. half-pa
 part-inside : (lower upper t : Float) → InUnit lower → InUnit upper → T (le lower upper) → Part t → Inside lower upper (lerpOf lower upper t)
 part-inside lower upper t l u o p = lerp-inside lower upper t (l .held) (u .held) (l .sign) (u .sign) (p .sign) o (p .under)
 
-chord-between : (W : Weighting) → Keeps W → (limit i : ℕ) (y : Float) (st : State) → Placing (st .bracket) → Inside (st .bracket .lower) (st .bracket .upper) (chord W limit i y st .place)
+chord-between : (W : Weighting) → Keeps W → (limit i : ℕ) (y : Float) (st : State) → Placing (st .bracket)
+    → Inside (st .bracket .lower) (st .bracket .upper) (chord W limit i y st .place)
 unfolding chord
 chord-between W keeps limit i y st p =
     let regula = falsi limit i st in
     let b = weighed W y regula st in
-    subst₂ (λ (l u : Float). Inside (st .bracket .lower) (st .bracket .upper) (lerpOf l u (fraction y regula b))) (sym (weighed-lower W keeps y regula st)) (sym (weighed-upper W keeps y regula st))
+    subst₂ (λ (l u : Float). Inside (st .bracket .lower) (st .bracket .upper) (lerpOf l u (fraction y regula b))) (sym (weighed-lower W keeps y regula st))
+    (sym (weighed-upper W keeps y regula st))
     (part-inside (st .bracket .lower) (st .bracket .upper) (fraction y regula b) (p .lower-in) (p .upper-in) (p .order) (fraction-part y regula b))
 
 pub chord-lawful : (W : Weighting) → Keeps W → Lawful (chord W)
 unfolding chord
-chord-lawful W keeps = record { same-lower = λ limit i y st. weighed-lower W keeps y (falsi limit i st) st; same-upper = λ limit i y st. weighed-upper W keeps y (falsi limit i st) st; between = chord-between W keeps }
+chord-lawful W keeps =
+    record {
+      same-lower = λ limit i y st. weighed-lower W keeps y (falsi limit i st) st;
+      same-upper = λ limit i y st. weighed-upper W keeps y (falsi limit i st) st;
+      between = chord-between W keeps;
+    }
 
 pub asCrate-lawful : Lawful asCrate
 asCrate-lawful = chord-lawful halving halving-keeps

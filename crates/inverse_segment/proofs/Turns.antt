@@ -27,7 +27,8 @@ use Rattle.inverse_segment.specs.Shown.{shown, toldAt}
 
 -- ---- a round
 module _ (y ε : Float) (rising : Bool) (b : Bracket) (st : State) (x v : Float) (ev : Evaluations) where
-  settled-value : lt (magnitudeOf (sub binary64 v y)) ε ≡ true → settled y ε rising b st x v ev ≡ found Value x (moved (Bool·beq (lt v y) rising) b st x v .bracket) ev
+  settled-value : lt (magnitudeOf (sub binary64 v y)) ε ≡ true
+      → settled y ε rising b st x v ev ≡ found Value x (moved (Bool·beq (lt v y) rising) b st x v .bracket) ev
   unfolding settled
   settled-value h = simp h
 
@@ -35,30 +36,39 @@ module _ (y ε : Float) (rising : Bool) (b : Bracket) (st : State) (x v : Float)
   unfolding settled
   settled-on h = simp h
 
-module _ (W : Weighting) (f : Float → Float) (y ε : Float) (rising regula : Bool) (st : State) (n limit i : ℕ) (e-r : regula ≡ falsi limit i st) (s : ℕ) (ev : Evaluations) (k : length ev ≡ n) where
-  pub turn-width : {x : Float} → true ≡ narrow ε (st .bracket) → x ≡ midpoint (st .bracket) → Done Width x (st .bracket) n ≡ shown (turn (chord W) f s y ε rising limit i st ev)
+module _ (W : Weighting) (f : Float → Float) (y ε : Float) (rising regula : Bool) (st : State) (n limit i : ℕ) (e-r : regula ≡ falsi limit i st) (s : ℕ)
+    (ev : Evaluations) (k : length ev ≡ n) where
+  pub turn-width : {x : Float} → true ≡ narrow ε (st .bracket) → x ≡ midpoint (st .bracket)
+      → Done Width x (st .bracket) n ≡ shown (turn (chord W) f s y ε rising limit i st ev)
   unfolding turn
   turn-width h e = simp (← h, e, k)
 
-  turn-probed : false ≡ narrow ε (st .bracket) → (a : Bracket) (t x v : Float) → a ≡ weighed W y regula st → t ≡ fraction y regula a → x ≡ lerpOf (a .lower) (a .upper) t → v ≡ f x
+  turn-probed : false ≡ narrow ε (st .bracket) → (a : Bracket) (t x v : Float) → a ≡ weighed W y regula st → t ≡ fraction y regula a
+      → x ≡ lerpOf (a .lower) (a .upper) t → v ≡ f x
       → turn (chord W) f s y ε rising limit i st ev ≡ settled y ε rising a st x v ((s, x) ∷ ev)
   unfolding turn probed chord
   turn-probed h a t x v e-a e-t e-x e-v = simp (← h, ← e-r) (cc)
 
-  module _ {a : Bracket} {t x v g : Float} {next : State} (h : false ≡ narrow ε (st .bracket)) (e-a : a ≡ weighed W y regula st) (e-t : t ≡ fraction y regula a) (e-x : x ≡ lerpOf (a .lower) (a .upper) t) (e-v : v ≡ f x)
+  module _ {a : Bracket} {t x v g : Float} {next : State} (h : false ≡ narrow ε (st .bracket)) (e-a : a ≡ weighed W y regula st)
+      (e-t : t ≡ fraction y regula a) (e-x : x ≡ lerpOf (a .lower) (a .upper) t) (e-v : v ≡ f x)
       (e-n : next ≡ moved (Bool·beq (lt v y) rising) a st x v) (e-g : g ≡ magnitudeOf (sub binary64 v y)) where
     pub turn-value : lt g ε ≡ true → Done Value x (next .bracket) (n + 1) ≡ shown (turn (chord W) f s y ε rising limit i st ev)
     turn-value l =
-        let r : turn (chord W) f s y ε rising limit i st ev ≡ found Value x (next .bracket) ((s, x) ∷ ev) = turn-probed h a t x v e-a e-t e-x e-v ∙ settled-value y ε rising a st x v ((s, x) ∷ ev) (rw (← e-g) l) ∙ ap (λ (z : State). found Value x (z .bracket) ((s, x) ∷ ev)) (sym e-n) in
+        let r : turn (chord W) f s y ε rising limit i st ev ≡ found Value x (next .bracket) ((s, x) ∷ ev) =
+        turn-probed h a t x v e-a e-t e-x e-v ∙ settled-value y ε rising a st x v ((s, x) ∷ ev) (rw (← e-g) l)
+        ∙ ap (λ (z : State). found Value x (z .bracket) ((s, x) ∷ ev)) (sym e-n) in
         rw r (rw (add-one, k))
 
     pub turn-next : lt g ε ≡ false → Next next (n + 1) ≡ shown (turn (chord W) f s y ε rising limit i st ev)
     turn-next l =
-        let r : turn (chord W) f s y ε rising limit i st ev ≡ on next ((s, x) ∷ ev) = turn-probed h a t x v e-a e-t e-x e-v ∙ settled-on y ε rising a st x v ((s, x) ∷ ev) (rw (← e-g) l) ∙ ap (λ (z : State). on z ((s, x) ∷ ev)) (sym e-n) in
+        let r : turn (chord W) f s y ε rising limit i st ev ≡ on next ((s, x) ∷ ev) =
+        turn-probed h a t x v e-a e-t e-x e-v ∙ settled-on y ε rising a st x v ((s, x) ∷ ev) (rw (← e-g) l)
+        ∙ ap (λ (z : State). on z ((s, x) ∷ ev)) (sym e-n) in
         rw r (rw (add-one, k))
 
 -- whether a round goes by regula falsi, as the code has it
-pub regula-is : (limit i : ℕ) (st : State) {regula : Bool} {early : ℕ} → regula ≡ (ltb i early && ltb (st .repeats) 3) → early ≡ 3 * limit / 4 → regula ≡ falsi limit i st
+pub regula-is : (limit i : ℕ) (st : State) {regula : Bool} {early : ℕ} → regula ≡ (ltb i early && ltb (st .repeats) 3) → early ≡ 3 * limit / 4
+    → regula ≡ falsi limit i st
 regula-is limit i st e d = e ∙ ap (λ (z : ℕ). ltb i z && ltb (st .repeats) 3) d
 
 -- ---- the rounds
@@ -69,7 +79,8 @@ Told R f s y ε rising limit n i t = placeOf alone (rounds R f s y ε rising lim
 -- i rounds have led from the state `first`, after n evaluations, to the state st, after m
 abbrev pub Led : Rule → (Float → Float) → ℕ → Float → Float → Bool → ℕ → State → ℕ → ℕ → State → ℕ → Type 0
 Led R f s y ε rising limit first n i st m =
-    (ev : Evaluations) → length ev ≡ n → (t : Evaluations) × (length t ≡ m) × (Told R f s y ε rising limit limit 0 (on first ev) ≡ Told R f s y ε rising limit (limit - i) i (on st t))
+    (ev : Evaluations) → length ev ≡ n
+    → (t : Evaluations) × (length t ≡ m) × (Told R f s y ε rising limit limit 0 (on first ev) ≡ Told R f s y ε rising limit (limit - i) i (on st t))
 
 next-of : (t : Turn) (st : State) (k : ℕ) → Next st k ≡ shown t → (ev : Evaluations) × (t ≡ on st ev) × (length ev ≡ k)
 next-of (found g x b ev) st k e = never (cc)
@@ -78,16 +89,20 @@ next-of (on st' ev) st k e = let p : st ≡ st' = cc in let q : length ev ≡ k 
 module _ (R : Rule) (f : Float → Float) (s : ℕ) (y ε : Float) (rising : Bool) (limit : ℕ) where
   stop-of : (n i : ℕ) (t : Turn) {g : Ground} {x : Float} {b : Bracket} {k : ℕ} → Done g x b k ≡ shown t → toldAt s g x b k ≡ Told R f s y ε rising limit n i t
   unfolding rounds
-  stop-of zero i (found g' x' b' ev) {g} {x} {b} {k} e = let p : g ≡ g' = cc in let q : x ≡ x' = cc in let r : b ≡ b' = cc in let w : k ≡ length ev = cc in rw (p, q, r, w)
-  stop-of (suc n) i (found g' x' b' ev) {g} {x} {b} {k} e = let p : g ≡ g' = cc in let q : x ≡ x' = cc in let r : b ≡ b' = cc in let w : k ≡ length ev = cc in rw (p, q, r, w)
+  stop-of zero i (found g' x' b' ev) {g} {x} {b} {k} e = let p : g ≡ g' = cc in let q : x ≡ x' = cc in let r : b ≡ b' = cc in let w : k ≡ length ev = cc
+      in rw (p, q, r, w)
+  stop-of (suc n) i (found g' x' b' ev) {g} {x} {b} {k} e = let p : g ≡ g' = cc in let q : x ≡ x' = cc in let r : b ≡ b' = cc in let w : k ≡ length ev = cc
+      in rw (p, q, r, w)
   stop-of zero i (on st ev) e = never (cc)
   stop-of (suc n) i (on st ev) e = never (cc)
 
-  open-round : (n i : ℕ) (st : State) (ev : Evaluations) → Told R f s y ε rising limit (suc n) i (on st ev) ≡ Told R f s y ε rising limit n (suc i) (turn R f s y ε rising limit i st ev)
+  open-round : (n i : ℕ) (st : State) (ev : Evaluations)
+      → Told R f s y ε rising limit (suc n) i (on st ev) ≡ Told R f s y ε rising limit n (suc i) (turn R f s y ε rising limit i st ev)
   unfolding rounds
   open-round n i st ev = refl
 
-  one-more : (n i : ℕ) (st : State) (ev : Evaluations) → i < limit → n ≡ limit - (i + 1) → Told R f s y ε rising limit (limit - i) i (on st ev) ≡ Told R f s y ε rising limit n (i + 1) (turn R f s y ε rising limit i st ev)
+  one-more : (n i : ℕ) (st : State) (ev : Evaluations) → i < limit → n ≡ limit - (i + 1)
+      → Told R f s y ε rising limit (limit - i) i (on st ev) ≡ Told R f s y ε rising limit n (i + 1) (turn R f s y ε rising limit i st ev)
   one-more n i st ev h e = let q : limit - i ≡ suc n = omega arith in rw (q, add-one) (open-round n i st ev)
 
   module _ (first : State) (n : ℕ) where
@@ -100,7 +115,8 @@ module _ (R : Rule) (f : Float → Float) (s : ℕ) (y ε : Float) (rising : Boo
     led-spent i m st h e l ev k = let r = l ev k in let q : limit - i ≡ 0 = omega arith in rw (r .2, q, e, ← (r .1))
 
     -- the round i
-    module _ (i m : ℕ) (st : State) {res : Turned} (h : i < limit) (l : Led R f s y ε rising limit first n i st m) (e : (s : ℕ) (ev : Evaluations) → length ev ≡ m → res ≡ shown (turn R f s y ε rising limit i st ev)) where
+    module _ (i m : ℕ) (st : State) {res : Turned} (h : i < limit) (l : Led R f s y ε rising limit first n i st m)
+        (e : (s : ℕ) (ev : Evaluations) → length ev ≡ m → res ≡ shown (turn R f s y ε rising limit i st ev)) where
       pub led-on : {st' : State} {m' : ℕ} → res ≡ Next st' m' → Led R f s y ε rising limit first n (i + 1) st' m'
       led-on {st'} {m'} d ev k =
           let r = l ev k in
@@ -126,6 +142,7 @@ module _ (R : Rule) (f : Float → Float) (s : ℕ) (y ε : Float) (limit n : �
     unfolding entered
     right-edge q = simp (← p, ← q, k)
 
-    pub by-rounds : (r : Place) → false ≡ near y v1 ε → r ≡ placeOf alone (rounds R f s y ε (lt v0 v1) limit limit 0 (on (start (opening v0 v1)) ev)) → r ≡ placeOf alone (entered R f s y ε limit v0 v1 ev)
+    pub by-rounds : (r : Place) → false ≡ near y v1 ε → r ≡ placeOf alone (rounds R f s y ε (lt v0 v1) limit limit 0 (on (start (opening v0 v1)) ev))
+        → r ≡ placeOf alone (entered R f s y ε limit v0 v1 ev)
     unfolding entered
     by-rounds r q u = simp (← p, ← q) u

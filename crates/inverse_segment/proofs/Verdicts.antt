@@ -92,7 +92,8 @@ module _ (R : Rule) (b : Basis) (y : Float) (cv : List Float) (limit : ℕ) (ε 
   refused-is d = rw (← e, d)
 
   -- its trial, over the row sums
-  told : v ≡ Passed → (w : Weights) → w ≡ weightsOf (matrixOf b) cv → answered alone (outcomeOf (enter R (hornerOf w) 0 y ε limit [])) ≡ inverseSegmentBy R b y cv limit ε
+  told : v ≡ Passed → (w : Weights) → w ≡ weightsOf (matrixOf b) cv
+      → answered alone (outcomeOf (enter R (hornerOf w) 0 y ε limit [])) ≡ inverseSegmentBy R b y cv limit ε
   unfolding inverseSegmentBy
   told d w e-w =
       let told : Weights → Inverted = λ z. answered alone (outcomeOf (enter R (hornerOf z) 0 y ε limit [])) in
@@ -100,7 +101,9 @@ module _ (R : Rule) (b : Basis) (y : Float) (cv : List Float) (limit : ℕ) (ε 
 
   -- by whether its two ends, which are kept, enclose the target
   module _ (d : v ≡ Passed) (w : Weights) (e-w : w ≡ weightsOf (matrixOf b) cv) {k : List Float} {h : Bool} (s : SettledIs w y k h) where
-    pub place-is : {p : Place} → h ≡ true → ((ev : Evaluations) → length ev ≡ 2 → p ≡ placeOf alone (entered R (hornerOf w) 0 y ε limit (getD k 4 nan) (getD k 5 nan) ev)) → At p ≡ inverseSegmentBy R b y cv limit ε
+    pub place-is : {p : Place} → h ≡ true
+        → ((ev : Evaluations) → length ev ≡ 2 → p ≡ placeOf alone (entered R (hornerOf w) 0 y ε limit (getD k 4 nan) (getD k 5 nan) ev))
+        → At p ≡ inverseSegmentBy R b y cv limit ε
     unfolding enter
     place-is {p} i u =
         let held : encloses (hornerOf w nought) (hornerOf w one) y ≡ true = sym (s .holds-is) ∙ i in

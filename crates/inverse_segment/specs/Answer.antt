@@ -34,7 +34,15 @@ countTold (At p) = p .count
 -- the count is the length of the list of evaluations; the parameter is found from the segment and the local place
 abbrev pub placeOf : (ℕ → Float → Float) → Placed → Place
 placeOf parameter p =
-    record { parameter = parameter (p .segment) (p .local); ground = p .ground; segment = p .segment; local = p .local; lower = p .lower; upper = p .upper; count = length (p .made) }
+    record {
+      parameter = parameter (p .segment) (p .local);
+      ground = p .ground;
+      segment = p .segment;
+      local = p .local;
+      lower = p .lower;
+      upper = p .upper;
+      count = length (p .made);
+    }
 
 abbrev pub answered : (ℕ → Float → Float) → Outcome → Inverted
 answered parameter (off ev) = OffCurve (length ev)
@@ -61,7 +69,8 @@ abbrev pub defaultPrecision : Float
 defaultPrecision = ofBits binary64 0x3ddb_7cdf_d9d7_bdbb
 
 unfoldable pub inverseSegmentBy : Rule → Basis → Float → List Float → ℕ → Float → Inverted
-inverseSegmentBy R b y cv limit ε = inverted (first (inverseSegmentUses y cv limit ε)) (answered alone (outcomeOf (enter R (segmentOf b cv 0) 0 y ε limit [])))
+inverseSegmentBy R b y cv limit ε =
+    inverted (first (inverseSegmentUses y cv limit ε)) (answered alone (outcomeOf (enter R (segmentOf b cv 0) 0 y ε limit [])))
 
 -- the evaluations that it makes, the latest first: none where it refuses by a row
 abbrev pub unlessRefused : Verdict → Evaluations → Evaluations
@@ -69,7 +78,8 @@ unlessRefused Passed ev = ev
 unlessRefused (Failed r) ev = []
 
 unfoldable pub segmentEvaluationsBy : Rule → Basis → Float → List Float → ℕ → Float → Evaluations
-segmentEvaluationsBy R b y cv limit ε = unlessRefused (first (inverseSegmentUses y cv limit ε)) (evaluationsOf (outcomeOf (enter R (segmentOf b cv 0) 0 y ε limit [])))
+segmentEvaluationsBy R b y cv limit ε =
+    unlessRefused (first (inverseSegmentUses y cv limit ε)) (evaluationsOf (outcomeOf (enter R (segmentOf b cv 0) 0 y ε limit [])))
 
 -- as the crate inverts
 abbrev pub inverseSegmentOf : Basis → Float → List Float → ℕ → Float → Inverted

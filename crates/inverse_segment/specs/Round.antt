@@ -93,8 +93,18 @@ chordOf m = chord (weightingOf m)
 -- ---- the move
 -- the lower end moves to x, whose value is v, or else the upper; the count grows on a repeated side and is 0 otherwise
 unfoldable pub moved : Bool → Bracket → State → Float → Float → State
-moved true b st x v = record { bracket = record { lower = x; upper = b .upper; v0 = v; v1 = b .v1 }; side = 1; repeats = cond (eqb (st .side) 1) (suc (st .repeats)) 0 }
-moved false b st x v = record { bracket = record { lower = b .lower; upper = x; v0 = b .v0; v1 = v }; side = 2; repeats = cond (eqb (st .side) 2) (suc (st .repeats)) 0 }
+moved true b st x v =
+    record {
+      bracket = record { lower = x; upper = b .upper; v0 = v; v1 = b .v1 };
+      side = 1;
+      repeats = cond (eqb (st .side) 1) (suc (st .repeats)) 0;
+    }
+moved false b st x v =
+    record {
+      bracket = record { lower = b .lower; upper = x; v0 = b .v0; v1 = v };
+      side = 2;
+      repeats = cond (eqb (st .side) 2) (suc (st .repeats)) 0;
+    }
 
 -- ---- the round
 -- what it leaves: a ground, a local place and the bracket; or the next round's state

@@ -48,10 +48,13 @@ pub record SettledIs (w : Weights) (y : Float) (e : List Float) (r : Bool) : Typ
 
 -- r is what the definition gives, whatever the n evaluations before it were
 abbrev pub TurnIs : Weighing → Weights → Float → Float → Bool → Bool → State → ℕ → Turned → Type 0
-TurnIs m w y ε rising regula st n r = (limit i : ℕ) → regula ≡ falsi limit i st → (s : ℕ) (ev : Evaluations) → length ev ≡ n → r ≡ shown (turn (chordOf m) (hornerOf w) s y ε rising limit i st ev)
+TurnIs m w y ε rising regula st n r = (limit i : ℕ) → regula ≡ falsi limit i st → (s : ℕ) (ev : Evaluations) → length ev ≡ n
+    → r ≡ shown (turn (chordOf m) (hornerOf w) s y ε rising limit i st ev)
 
 abbrev pub RoundsIs : Weighing → Weights → ℕ → Float → Float → Bool → Bracket → ℕ → ℕ → Place → Type 0
-RoundsIs m w s y ε rising b limit n r = (ev : Evaluations) → length ev ≡ n → r ≡ placeOf alone (rounds (chordOf m) (hornerOf w) s y ε rising limit limit 0 (on (start b) ev))
+RoundsIs m w s y ε rising b limit n r = (ev : Evaluations) → length ev ≡ n
+    → r ≡ placeOf alone (rounds (chordOf m) (hornerOf w) s y ε rising limit limit 0 (on (start b) ev))
 
 abbrev pub EnteredIs : Weighing → Weights → ℕ → Float → Float → ℕ → Float → Float → ℕ → Place → Type 0
-EnteredIs m w s y ε limit v0 v1 n r = (ev : Evaluations) → length ev ≡ n → r ≡ placeOf alone (entered (chordOf m) (hornerOf w) s y ε limit v0 v1 ev)
+EnteredIs m w s y ε limit v0 v1 n r = (ev : Evaluations) → length ev ≡ n
+    → r ≡ placeOf alone (entered (chordOf m) (hornerOf w) s y ε limit v0 v1 ev)

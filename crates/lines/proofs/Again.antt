@@ -69,7 +69,8 @@ unfolding says recordOf fieldsOf onto ofFields wordOf same meaningOf
 says-knot x h =
     let n : length (doubleText x) ≡ 16 = length-hex 16 (toBits binary64 x) in
     let short : length (bytes "knot\t" ++ doubleText x) ≤ widest = omega arith in
-    let one : fieldsOf (doubleText x) ≡ doubleText x ∷ [] = fields-one (doubleText x) (free-tab (doubleText x) (free-hex TAB 16 (toBits binary64 x) (omega arith))) in
+    let one : fieldsOf (doubleText x) ≡ doubleText x ∷ [] =
+    fields-one (doubleText x) (free-tab (doubleText x) (free-hex TAB 16 (toBits binary64 x) (omega arith))) in
     let back = hex-out-in x h in
     rw (le-leb (length (bytes "knot\t" ++ doubleText x)) widest short, one, back .0, back .1) refl
 
@@ -144,7 +145,8 @@ span-again : (b : Basis) (m : EndsBy) (s : ℕ) (l : List Float) → s ≤ day �
 unfolding curveAfter
 span-again b m s l small p h = go (goodSpan s) refl
   where
-    go : (g : Bool) → goodSpan s ≡ g → curveAfter (on (bare b) m []) (linesOf (spansText (cond g (s ∷ []) []) ++ knotsText l)) ≡ on (record { basis = b; span = s }) m l
+    go : (g : Bool) → goodSpan s ≡ g
+        → curveAfter (on (bare b) m []) (linesOf (spansText (cond g (s ∷ []) []) ++ knotsText l)) ≡ on (record { basis = b; span = s }) m l
     go true e =
         ap (λ (t : List ℕ). curveAfter (on (bare b) m []) (linesOf (t ++ knotsText l))) (append-nil (spanLine s ++ (LF ∷ [])))
         ∙ ap (curveAfter (on (bare b) m [])) (broken (spanLine s) (knotsText l) (span-plain s))

@@ -28,7 +28,8 @@ unfolding says
 said-over n line h = rw (lt-leb n widest h) refl
 
 -- ---- a record's answer: what is written is its reply
-pub reply-wrote : {c : Curve} {r : Record} {a : Answered} {table turned : List Float} → Answers c r a table turned → {out : List ℕ} {at : ℕ} {out′ : List ℕ} {next : ℕ}
+pub reply-wrote : {c : Curve} {r : Record} {a : Answered} {table turned : List Float} → Answers c r a table turned
+    → {out : List ℕ} {at : ℕ} {out′ : List ℕ} {next : ℕ}
     → Wrote out at (textOf (replyOf (a .told) turned)) out′ next → Wrote out at (textOf (replyTo c r)) out′ next
 reply-wrote h {out} {at} {out′} {next} w = subst (λ (t : Reply). Wrote out at (textOf t) out′ next) (h .told) w
 
@@ -37,5 +38,6 @@ module _ (c : Curve) {r : Record} (o : Line) (e : r ≡ says o) where
   pub line-state : {d : Curve} → d ≡ afterOf c r → d ≡ lineProgram .after c o
   line-state h = h ∙ ap (afterOf c) e
 
-  pub line-wrote : {out : List ℕ} {at : ℕ} {out′ : List ℕ} {next : ℕ} → Wrote out at (textOf (replyTo c r)) out′ next → Wrote out at (lineProgram .tells c o) out′ next
+  pub line-wrote : {out : List ℕ} {at : ℕ} {out′ : List ℕ} {next : ℕ} → Wrote out at (textOf (replyTo c r)) out′ next
+      → Wrote out at (lineProgram .tells c o) out′ next
   line-wrote {out} {at} {out′} {next} w = subst (λ (q : Record). Wrote out at (textOf (replyTo c q)) out′ next) e w

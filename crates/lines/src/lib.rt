@@ -43,7 +43,8 @@ pub fn answered(
     requires room { ⌜ at + longest ≤ length (now out) ⌝ }
     ensures state { λ r. ⌜ curveOf (r .held) (now (table .exit)) ≡ afterOf (curveOf held (now (table .entry))) said ⌝ }
     ensures few { λ r. ⌜ countOf (r .held) ≤ places ⌝ }
-    ensures wrote { λ r. ⌜ Wrote (now (out .entry)) at (textOf (replyTo (curveOf held (now (table .entry))) said)) (now (out .exit)) (r .at) ⌝ }
+    ensures wrote { λ r. ⌜ Wrote (now (out .entry)) at (textOf (replyTo (curveOf held (now (table .entry))) said)) (now (out .exit))
+        (r .at) ⌝ }
     ensures short { λ r. ⌜ r .at ≤ at + longest ⌝ }
 {
     let a = lines_answer::answer(held, said, table, &mut *turned);
@@ -69,9 +70,11 @@ pub fn line(
     requires line { ⌜ length (now line) ≡ widest ⌝ }
     requires table { ⌜ (countOf held ≤ places) × (length (now table) ≡ places) × (length (now turned) ≡ places) ⌝ }
     requires room { ⌜ at + longest ≤ length (now out) ⌝ }
-    ensures state { λ r. ⌜ curveOf (r .held) (now (table .exit)) ≡ lineProgram .after (curveOf held (now (table .entry))) (openOf len (now (line .entry))) ⌝ }
+    ensures state { λ r. ⌜ curveOf (r .held) (now (table .exit)) ≡ lineProgram .after (curveOf held (now (table .entry)))
+        (openOf len (now (line .entry))) ⌝ }
     ensures few { λ r. ⌜ countOf (r .held) ≤ places ⌝ }
-    ensures wrote { λ r. ⌜ Wrote (now (out .entry)) at (lineProgram .tells (curveOf held (now (table .entry))) (openOf len (now (line .entry)))) (now (out .exit)) (r .at) ⌝ }
+    ensures wrote { λ r. ⌜ Wrote (now (out .entry)) at
+        (lineProgram .tells (curveOf held (now (table .entry))) (openOf len (now (line .entry)))) (now (out .exit)) (r .at) ⌝ }
     ensures short { λ r. ⌜ r .at ≤ at + longest ⌝ }
 {
     let r = said(len, line);

@@ -48,7 +48,8 @@ fn value_at(b: Basis, x: f64, knots: &[f64]) -> Told
 
 // The place of y, with the order check.
 fn place_of(t: Table, m: EndsBy, y: f64, knots: &[f64]) -> Told
-    ensures { λ r. ⌜ ((l : List Float) → replyOf r l ≡ placeReply (t .span) (foundOf m (t .basis) y (now (knots .entry)))) × (lentOf r ≡ 0) ⌝ }
+    ensures { λ r. ⌜ ((l : List Float) → replyOf r l ≡ placeReply (t .span) (foundOf m (t .basis) y (now (knots .entry))))
+        × (lentOf r ≡ 0) ⌝ }
 {
     let b = t.basis;
     let o = Options {
@@ -73,7 +74,8 @@ fn place_of(t: Table, m: EndsBy, y: f64, knots: &[f64]) -> Told
 // The curve over another basis, into the lent places.
 fn turned_to(t: Table, c: Basis, knots: &[f64], turned: &mut [f64]) -> Told
     requires { ⌜ length (now turned) ≡ places ⌝ }
-    ensures { λ r. ⌜ (replyOf r (now (turned .exit)) ≡ curveReply (t .span) c (convertedOf (t .basis) c (now (knots .entry)) places)) × (lentOf r ≤ places) ⌝ }
+    ensures { λ r. ⌜ (replyOf r (now (turned .exit)) ≡ curveReply (t .span) c (convertedOf (t .basis) c (now (knots .entry)) places))
+        × (lentOf r ≤ places) ⌝ }
 {
     let b = t.basis;
     let i = convert::convert_spline(b, c, knots, &mut *turned);

@@ -50,8 +50,11 @@ fn feed_all(
     new: &mut [u64],
     out: &mut [u8],
 ) -> Ran
-    requires { ⌜ Good st (now line) (now table) (now old) (now new) × (length (now turned) ≡ places) × (longest + lastRoom ≤ length (now out)) ⌝ }
-    ensures { λ r. ⌜ Good (r .st) (now (line .exit)) (now (table .exit)) (now (old .exit)) (now (new .exit)) × (stateOf (r .st) (now (line .exit)) (now (table .exit)) (now (old .exit)) (now (new .exit)) ≡ ranOf running (stateOf st (now (line .entry)) (now (table .entry)) (now (old .entry)) (now (new .entry))) (now (chunk .entry))) ⌝ }
+    requires { ⌜ Good st (now line) (now table) (now old) (now new) × (length (now turned) ≡ places)
+        × (longest + lastRoom ≤ length (now out)) ⌝ }
+    ensures { λ r. ⌜ Good (r .st) (now (line .exit)) (now (table .exit)) (now (old .exit)) (now (new .exit))
+        × (stateOf (r .st) (now (line .exit)) (now (table .exit)) (now (old .exit)) (now (new .exit)) ≡ ranOf running
+        (stateOf st (now (line .entry)) (now (table .entry)) (now (old .entry)) (now (new .entry))) (now (chunk .entry))) ⌝ }
 {
     let mut s = st;
     let mut from = 0;
@@ -93,7 +96,8 @@ fn read_once(
     new: &mut [u64],
     out: &mut [u8],
 ) -> Ran
-    requires { ⌜ Good st (now line) (now table) (now old) (now new) × (length (now turned) ≡ places) × (longest + lastRoom ≤ length (now out)) ⌝ }
+    requires { ⌜ Good st (now line) (now table) (now old) (now new) × (length (now turned) ≡ places)
+        × (longest + lastRoom ≤ length (now out)) ⌝ }
     ensures { λ r. ⌜ Good (r .st) (now (line .exit)) (now (table .exit)) (now (old .exit)) (now (new .exit)) ⌝ }
 {
     let got = libc::read(STDIN_FILENO, &mut *chunk);
@@ -119,7 +123,9 @@ fn read_all(
     new: &mut [u64],
     out: &mut [u8],
 ) -> Ran
-    requires { ⌜ (countOf (first .job) ≡ 0) × (length (now line) ≡ widest) × (length (now table) ≡ places) × (length (now turned) ≡ places) × (length (now old) ≡ places) × (length (now new) ≡ places) × (longest + lastRoom ≤ length (now out)) ⌝ }
+    requires { ⌜ (countOf (first .job) ≡ 0) × (length (now line) ≡ widest) × (length (now table) ≡ places)
+        × (length (now turned) ≡ places) × (length (now old) ≡ places) × (length (now new) ≡ places)
+        × (longest + lastRoom ≤ length (now out)) ⌝ }
     ensures { λ r. ⌜ Good (r .st) (now (line .exit)) (now (table .exit)) (now (old .exit)) (now (new .exit)) ⌝ }
 {
     let mut st = first;
@@ -157,7 +163,8 @@ pub fn close(
     new: &mut [u64],
     out: &mut [u8],
 )
-    requires { ⌜ Good st (now line) (now table) (now old) (now new) × (length (now turned) ≡ places) × (longest + lastRoom ≤ length (now out)) ⌝ }
+    requires { ⌜ Good st (now line) (now table) (now old) (now new) × (length (now turned) ≡ places)
+        × (longest + lastRoom ≤ length (now out)) ⌝ }
 {
     let at = lines_programs::finish(st, line, table, turned, old, new, &mut *out, 0);
     written(&out[0..at]);
@@ -174,7 +181,9 @@ fn whole(
     new: &mut [u64],
     out: &mut [u8],
 )
-    requires { ⌜ (countOf (first .job) ≡ 0) × (length (now line) ≡ widest) × (length (now table) ≡ places) × (length (now turned) ≡ places) × (length (now old) ≡ places) × (length (now new) ≡ places) × (longest + lastRoom ≤ length (now out)) ⌝ }
+    requires { ⌜ (countOf (first .job) ≡ 0) × (length (now line) ≡ widest) × (length (now table) ≡ places)
+        × (length (now turned) ≡ places) × (length (now old) ≡ places) × (length (now new) ≡ places)
+        × (longest + lastRoom ≤ length (now out)) ⌝ }
 {
     let r = read_all(
         first,

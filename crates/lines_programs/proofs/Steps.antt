@@ -68,13 +68,16 @@ line-went P f w s o {out = out} {out′ = out′} {at = at} {next = next} e t g 
 
 -- ---- a byte
 pub step-end : (s : State Running) (byte : ℕ) {st : Reader} {line : List ℕ} {table : List Float} {old new out : List ℕ} {at : ℕ} {out′ : List ℕ} {r : ℕ}
-    → byte ≡ LF → Went (closed running s) (closeText running s) st line table old new out at out′ r → Went (nextOf running s byte) (tellOf running s byte) st line table old new out at out′ r
+    → byte ≡ LF → Went (closed running s) (closeText running s) st line table old new out at out′ r
+    → Went (nextOf running s byte) (tellOf running s byte) st line table old new out at out′ r
 unfolding nextOf tellOf
 step-end s byte e w = rw (eq-eqb byte LF e) w
 
-pub step-push : (st : Reader) (byte next : ℕ) (line line′ : List ℕ) (table : List Float) (old new out : List ℕ) (at : ℕ) → (byte ≡ LF → ⊥) → Good st line table old new
+pub step-push : (st : Reader) (byte next : ℕ) (line line′ : List ℕ) (table : List Float) (old new out : List ℕ) (at : ℕ) → (byte ≡ LF → ⊥)
+    → Good st line table old new
     → openOf next line′ ≡ push (openOf (st .len) line) byte → length line′ ≡ length line
-    → Went (nextOf running (stateOf st line table old new) byte) (tellOf running (stateOf st line table old new) byte) (record { len = next; job = st .job }) line′ table old new out at out at
+    → Went (nextOf running (stateOf st line table old new) byte) (tellOf running (stateOf st line table old new) byte)
+    (record { len = next; job = st .job }) line′ table old new out at out at
 unfolding nextOf tellOf
 step-push st byte next line line′ table old new out at other g e l = rw (ne-eqb byte LF other) (record {
   state = ap (λ (o : Line). stateAt o (runningOf (st .job) table old new)) e;
@@ -93,7 +96,8 @@ unfolding lastText
 last-some [] h k = absurd (omega arith)
 last-some (b ∷ l) h k = refl
 
-last-full : (n : ℕ) (line : List ℕ) (h : Running) → 0 < n → length line ≡ widest → lastText running (openOf n line) h ≡ tellsOf h (openOf n line) ++ endsOf (afterOf h (openOf n line))
+last-full : (n : ℕ) (line : List ℕ) (h : Running) → 0 < n → length line ≡ widest
+    → lastText running (openOf n line) h ≡ tellsOf h (openOf n line) ++ endsOf (afterOf h (openOf n line))
 unfolding lastText
 last-full n line h k f = go (leb n widest) refl
   where
@@ -104,7 +108,8 @@ last-full n line h k f = go (leb n widest) refl
         rw e (last-some (take n line) h z)
     go false e = rw e refl
 
-pub finish-some : (st : Reader) (line : List ℕ) (table table′ : List Float) (old new old′ new′ : List ℕ) {st′ : Reader} {out out₁ out₂ : List ℕ} {at a r : ℕ} → (st .len ≡ 0 → ⊥) → Good st line table old new
+pub finish-some : (st : Reader) (line : List ℕ) (table table′ : List Float) (old new old′ new′ : List ℕ) {st′ : Reader} {out out₁ out₂ : List ℕ}
+    {at a r : ℕ} → (st .len ≡ 0 → ⊥) → Good st line table old new
     → Went (closed running (stateOf st line table old new)) (closeText running (stateOf st line table old new)) st′ line table′ old′ new′ out at out₁ a
     → Wrote out₁ a (endsOf (runningOf (st′ .job) table′ old′ new′)) out₂ r
     → Wrote out at (endOf running (stateOf st line table old new)) out₂ r
@@ -128,10 +133,12 @@ told-snoc : (s : State Running) (x : List ℕ) (b : ℕ) → toldOf running s (x
 unfolding toldOf
 told-snoc s x b = told-append running s x (b ∷ []) ∙ ap (λ (t : List ℕ). toldOf running s x ++ t) (append-nil (tellOf running (ranOf running s x) b))
 
-pub feed-more : (s : State Running) (chunk : List ℕ) (i : ℕ) {st st′ : Reader} {line line′ : List ℕ} {table table′ : List Float} {old old′ new new′ out out₁ out₂ : List ℕ} {at₁ at₂ : ℕ}
+pub feed-more : (s : State Running) (chunk : List ℕ) (i : ℕ) {st st′ : Reader} {line line′ : List ℕ} {table table′ : List Float}
+    {old old′ new new′ out out₁ out₂ : List ℕ} {at₁ at₂ : ℕ}
     → i < length chunk
     → Went (ranOf running s (take i chunk)) (toldOf running s (take i chunk)) st line table old new out 0 out₁ at₁
-    → Went (nextOf running (stateOf st line table old new) (getD chunk i 0)) (tellOf running (stateOf st line table old new) (getD chunk i 0)) st′ line′ table′ old′ new′ out₁ at₁ out₂ at₂
+    → Went (nextOf running (stateOf st line table old new) (getD chunk i 0)) (tellOf running (stateOf st line table old new) (getD chunk i 0)) st′ line′
+    table′ old′ new′ out₁ at₁ out₂ at₂
     → Went (ranOf running s (take (i + 1) chunk)) (toldOf running s (take (i + 1) chunk)) st′ line′ table′ old′ new′ out 0 out₂ at₂
 feed-more s chunk i {st} {st′} {line} {line′} {table} {table′} {old} {old′} {new} {new′} {out} {out₁} {out₂} {at₁} {at₂} h u v =
     let b : ℕ = getD chunk i 0 in

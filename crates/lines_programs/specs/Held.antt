@@ -60,7 +60,8 @@ pub record Good (st : Reader) (line : List ℕ) (table : List Float) (old new : 
   pub wide : length line ≡ widest
 
 -- the code went over to the state s and wrote t
-pub record Went (s : State Running) (t : List ℕ) (st : Reader) (line : List ℕ) (table : List Float) (old new out : List ℕ) (at : ℕ) (out′ : List ℕ) (r : ℕ) : Type 0 where
+pub record Went (s : State Running) (t : List ℕ) (st : Reader) (line : List ℕ) (table : List Float) (old new out : List ℕ) (at : ℕ)
+    (out′ : List ℕ) (r : ℕ) : Type 0 where
   pub state : stateOf st line table old new ≡ s
   pub wrote : Wrote out at t out′ r
   pub good : Good st line table old new

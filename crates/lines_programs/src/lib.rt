@@ -105,7 +105,10 @@ fn ended(
     at: usize,
 ) -> Stepped
     requires { ⌜ Good st (now line) (now table) (now old) (now new) × (length (now turned) ≡ places) × (at + longest ≤ length (now out)) ⌝ }
-    ensures { λ s. ⌜ Went (closed running (stateOf st (now (line .entry)) (now (table .entry)) (now (old .entry)) (now (new .entry)))) (closeText running (stateOf st (now (line .entry)) (now (table .entry)) (now (old .entry)) (now (new .entry)))) (s .st) (now (line .entry)) (now (table .exit)) (now (old .exit)) (now (new .exit)) (now (out .entry)) at (now (out .exit)) (s .at) × (s .at ≤ at + longest) ⌝ }
+    ensures { λ s. ⌜ Went (closed running (stateOf st (now (line .entry)) (now (table .entry)) (now (old .entry)) (now (new .entry))))
+        (closeText running (stateOf st (now (line .entry)) (now (table .entry)) (now (old .entry)) (now (new .entry)))) (s .st)
+        (now (line .entry)) (now (table .exit)) (now (old .exit)) (now (new .exit)) (now (out .entry)) at (now (out .exit)) (s .at)
+        × (s .at ≤ at + longest) ⌝ }
 {
     let len = st.len;
     let job = st.job;
@@ -178,8 +181,10 @@ fn ended(
 
 // What the end prints.
 fn ends(job: Job, table: &[f64], old: &[u64], new: &[u64], out: &mut [u8], at: usize) -> usize
-    requires { ⌜ (countOf job ≤ places) × (length (now table) ≡ places) × (length (now old) ≡ places) × (length (now new) ≡ places) × (at + lastRoom ≤ length (now out)) ⌝ }
-    ensures { λ r. ⌜ Wrote (now (out .entry)) at (endsOf (runningOf job (now (table .entry)) (now (old .entry)) (now (new .entry)))) (now (out .exit)) r × (r ≤ at + lastRoom) ⌝ }
+    requires { ⌜ (countOf job ≤ places) × (length (now table) ≡ places) × (length (now old) ≡ places) × (length (now new) ≡ places)
+        × (at + lastRoom ≤ length (now out)) ⌝ }
+    ensures { λ r. ⌜ Wrote (now (out .entry)) at (endsOf (runningOf job (now (table .entry)) (now (old .entry)) (now (new .entry))))
+        (now (out .exit)) r × (r ≤ at + lastRoom) ⌝ }
 {
     match job {
         Job::Asking(_) => at,
@@ -204,7 +209,10 @@ pub fn step(
     at: usize,
 ) -> Stepped
     requires { ⌜ Good st (now line) (now table) (now old) (now new) × (length (now turned) ≡ places) × (at + longest ≤ length (now out)) ⌝ }
-    ensures { λ s. ⌜ Went (nextOf running (stateOf st (now (line .entry)) (now (table .entry)) (now (old .entry)) (now (new .entry))) byte) (tellOf running (stateOf st (now (line .entry)) (now (table .entry)) (now (old .entry)) (now (new .entry))) byte) (s .st) (now (line .exit)) (now (table .exit)) (now (old .exit)) (now (new .exit)) (now (out .entry)) at (now (out .exit)) (s .at) × (s .at ≤ at + longest) ⌝ }
+    ensures { λ s. ⌜ Went (nextOf running (stateOf st (now (line .entry)) (now (table .entry)) (now (old .entry)) (now (new .entry)))
+        byte) (tellOf running (stateOf st (now (line .entry)) (now (table .entry)) (now (old .entry)) (now (new .entry))) byte) (s .st)
+        (now (line .exit)) (now (table .exit)) (now (old .exit)) (now (new .exit)) (now (out .entry)) at (now (out .exit)) (s .at)
+        × (s .at ≤ at + longest) ⌝ }
 {
     if byte == b'\n' {
         return ended(st, &line[..], table, turned, old, new, out, at);
@@ -232,8 +240,11 @@ pub fn finish(
     out: &mut [u8],
     at: usize,
 ) -> usize
-    requires { ⌜ Good st (now line) (now table) (now old) (now new) × (length (now turned) ≡ places) × (at + longest + lastRoom ≤ length (now out)) ⌝ }
-    ensures { λ r. ⌜ Wrote (now (out .entry)) at (endOf running (stateOf st (now (line .entry)) (now (table .entry)) (now (old .entry)) (now (new .entry)))) (now (out .exit)) r × (r ≤ at + longest + lastRoom) ⌝ }
+    requires { ⌜ Good st (now line) (now table) (now old) (now new) × (length (now turned) ≡ places)
+        × (at + longest + lastRoom ≤ length (now out)) ⌝ }
+    ensures { λ r. ⌜ Wrote (now (out .entry)) at
+        (endOf running (stateOf st (now (line .entry)) (now (table .entry)) (now (old .entry)) (now (new .entry)))) (now (out .exit)) r
+        × (r ≤ at + longest + lastRoom) ⌝ }
 {
     let len = st.len;
     if len == 0 {
@@ -274,7 +285,13 @@ pub fn feed(
     out: &mut [u8],
 ) -> Fed
     requires { ⌜ Good st (now line) (now table) (now old) (now new) × (length (now turned) ≡ places) ⌝ }
-    ensures { λ r. ⌜ Went (ranOf running (stateOf st (now (line .entry)) (now (table .entry)) (now (old .entry)) (now (new .entry))) (take (r .next) (now (chunk .entry)))) (toldOf running (stateOf st (now (line .entry)) (now (table .entry)) (now (old .entry)) (now (new .entry))) (take (r .next) (now (chunk .entry)))) (r .st) (now (line .exit)) (now (table .exit)) (now (old .exit)) (now (new .exit)) (now (out .entry)) 0 (now (out .exit)) (r .at) × (r .next ≤ length (now (chunk .entry))) × (r .at ≤ length (now (out .exit))) × (0 < length (now (chunk .entry)) → longest ≤ length (now (out .entry)) → 0 < r .next) ⌝ }
+    ensures { λ r. ⌜ Went (ranOf running (stateOf st (now (line .entry)) (now (table .entry)) (now (old .entry)) (now (new .entry)))
+        (take (r .next) (now (chunk .entry))))
+        (toldOf running (stateOf st (now (line .entry)) (now (table .entry)) (now (old .entry)) (now (new .entry)))
+        (take (r .next) (now (chunk .entry)))) (r .st) (now (line .exit)) (now (table .exit)) (now (old .exit))
+        (now (new .exit)) (now (out .entry)) 0 (now (out .exit)) (r .at) × (r .next ≤ length (now (chunk .entry)))
+        × (r .at ≤ length (now (out .exit)))
+        × (0 < length (now (chunk .entry)) → longest ≤ length (now (out .entry)) → 0 < r .next) ⌝ }
 {
     let mut s = st;
     let mut at = 0;

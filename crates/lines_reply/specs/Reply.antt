@@ -44,7 +44,8 @@ secondsText (s ∷ ss) = (TAB ∷ []) ++ decText 9 s ++ secondsText ss
 
 -- `place` tells parameter, ground, decimal count, and the second where the table has a span
 abbrev pub placeText : Float → Ground → ℕ → List ℕ → List ℕ
-placeText x g n ss = bytes "place\t" ++ doubleText x ++ (TAB ∷ []) ++ groundName g ++ (TAB ∷ []) ++ decText 9 n ++ secondsText ss ++ (LF ∷ [])
+placeText x g n ss =
+    bytes "place\t" ++ doubleText x ++ (TAB ∷ []) ++ groundName g ++ (TAB ∷ []) ++ decText 9 n ++ secondsText ss ++ (LF ∷ [])
 
 -- a converted curve is told in the records that would enter it: its basis, its span where it has one, its knots
 abbrev pub spansText : List ℕ → List ℕ

@@ -7,7 +7,18 @@ ghost use Rattle.error.specs.Refusals.{placesOf};
 ghost use Rattle.text.specs.Wrote.{Wrote};
 ghost use Rattle.lines_record.specs.Record.{nameOf};
 ghost use Rattle.table.specs.Second.{secondsIn, spansOf};
-ghost use Rattle.lines_reply.specs.Reply.{groundName, placesText, refusedText, lineText, secondsText, placeText, spansText, knotsText, curveText, textOf};
+ghost use Rattle.lines_reply.specs.Reply.{
+  groundName,
+  placesText,
+  refusedText,
+  lineText,
+  secondsText,
+  placeText,
+  spansText,
+  knotsText,
+  curveText,
+  textOf,
+};
 ghost use Rattle.lines_reply.specs.Told.{longest, lentOf, replyOf, placesIn};
 use basis::Basis;
 use error::Refusal;
@@ -92,7 +103,8 @@ pub fn put_refused(out: &mut [u8], at: usize, r: Refusal) -> usize
 // A word and a double.
 fn put_line(out: &mut [u8], at: usize, w: &[u8], x: f64) -> usize
     requires { ⌜ at + length (now w) + 17 ≤ length (now out) ⌝ }
-    ensures { λ r. ⌜ Wrote (now (out .entry)) at (lineText (now (w .entry)) x) (now (out .exit)) r × (r ≡ at + length (now (w .entry)) + 17) ⌝ }
+    ensures { λ r. ⌜ Wrote (now (out .entry)) at (lineText (now (w .entry)) x) (now (out .exit)) r
+        × (r ≡ at + length (now (w .entry)) + 17) ⌝ }
 {
     let a = text::put_word(&mut *out, at, w);
     let b = text::put_double(&mut *out, a, x);
@@ -161,7 +173,8 @@ pub fn put_basis(out: &mut [u8], at: usize, b: Basis) -> usize
 
 fn put_knots(out: &mut [u8], at: usize, knots: &[f64]) -> usize
     requires { ⌜ at + 22 * length (now knots) ≤ length (now out) ⌝ }
-    ensures { λ r. ⌜ Wrote (now (out .entry)) at (knotsText (now (knots .entry))) (now (out .exit)) r × (r ≡ at + 22 * length (now (knots .entry))) ⌝ }
+    ensures { λ r. ⌜ Wrote (now (out .entry)) at (knotsText (now (knots .entry))) (now (out .exit)) r
+        × (r ≡ at + 22 * length (now (knots .entry))) ⌝ }
 {
     let mut i = 0;
     let mut p = at;
@@ -187,7 +200,8 @@ fn put_span(out: &mut [u8], at: usize, span: u32) -> usize
 
 fn put_curve(out: &mut [u8], at: usize, t: Table, knots: &[f64]) -> usize
     requires { ⌜ (length (now knots) ≤ 4096) × (at + longest ≤ length (now out)) ⌝ }
-    ensures { λ r. ⌜ Wrote (now (out .entry)) at (curveText (t .basis) (spansOf (t .span)) (now (knots .entry))) (now (out .exit)) r × (r ≤ at + longest) ⌝ }
+    ensures { λ r. ⌜ Wrote (now (out .entry)) at (curveText (t .basis) (spansOf (t .span)) (now (knots .entry))) (now (out .exit)) r
+        × (r ≤ at + longest) ⌝ }
 {
     let b = t.basis;
     let span = t.span;

@@ -130,12 +130,14 @@ localColumn k s x = placeColumn (div binary64 (add binary64 (double (min s 4096)
 abbrev pub markText : ℕ → ℕ → ℕ → ℕ → List ℕ
 markText x y l u =
     numbered (bytes "<path class=\"f\" d=\"M1000,") y ++ numbered (bytes "H") x ++ numbered (bytes "V5400M") l
-    ++ numbered (bytes ",5300v160H") u ++ numbered (bytes "v-160\"/><path class=\"p\" d=\"M") x ++ numbered (bytes ",") y ++ bytes "h0\"/>\n"
+    ++ numbered (bytes ",5300v160H") u ++ numbered (bytes "v-160\"/><path class=\"p\" d=\"M") x ++ numbered (bytes ",") y ++ bytes
+    "h0\"/>\n"
 
 -- a place on a curve of k segments
 abbrev pub placeText : ℕ → Extent → Float → Place → List ℕ
 placeText k e y p =
-    markText (placeColumn (p .parameter)) (rowOf e (heightOf y)) (localColumn k (p .segment) (p .lower)) (localColumn k (p .segment) (p .upper))
+    markText (placeColumn (p .parameter)) (rowOf e (heightOf y)) (localColumn k (p .segment) (p .lower))
+    (localColumn k (p .segment) (p .upper))
 
 abbrev pub findIn : Basis → ℕ → Extent → ℕ → Float → Inverted → List ℕ
 findIn b n e slot y (I.Refused r) = noteText b n slot (bytes "find") r
@@ -175,9 +177,11 @@ faultText b n (F.Is r) = noteText b n 1 (bytes "line") r
 unfoldable pub headText : List ℕ
 headText =
     bytes "<svg xmlns=\"http://www.w3.org/2000/svg\" viewBox=\"0 0 10000 7000\" font-family=\"sans-serif\" font-size=\"160\">\n"
-    ++ bytes "<style>text{fill:#7a7a7a}path,polyline{fill:none;stroke:#7a7a7a;stroke-width:15}.g{opacity:.3}.e{text-anchor:end}.t{text-anchor:middle}"
+    ++ bytes
+    "<style>text{fill:#7a7a7a}path,polyline{fill:none;stroke:#7a7a7a;stroke-width:15}.g{opacity:.3}.e{text-anchor:end}.t{text-anchor:middle}"
     ++ bytes ".c{stroke:#3b82d6;stroke-width:25}.k{stroke:#d9730d;stroke-width:100;stroke-linecap:round}.f{stroke:#2e9e5b;stroke-width:20}"
-    ++ bytes ".p{stroke:#2e9e5b;stroke-width:120;stroke-linecap:round}.r{stroke:#e5484d;stroke-dasharray:60 40}text.r{fill:#e5484d;stroke:none}</style>\n"
+    ++ bytes
+    ".p{stroke:#2e9e5b;stroke-width:120;stroke-linecap:round}.r{stroke:#e5484d;stroke-dasharray:60 40}text.r{fill:#e5484d;stroke:none}</style>\n"
     ++ bytes "<path d=\"M1000,400V5400H9600\"/><text x=\"1000\" y=\"300\">depth</text><text class=\"e\" x=\"9600\" y=\"5850\">"
 
 unfoldable pub pictureText : Table → EndsBy → List Float → Finds → Fault → List ℕ

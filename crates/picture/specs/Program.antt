@@ -70,7 +70,8 @@ faultAfter f (Turn c) a = faultIn f a
 faultAfter f Bad a = faultIn f a
 
 abbrev pub drawn : Drawing → Record → Drawing
-drawn d r = record { curve = curveAfter (d .curve) r; finds = findsAfter (d .finds) r; fault = faultAfter (d .fault) r (replyTo (d .curve) r) }
+drawn d r =
+    record { curve = curveAfter (d .curve) r; finds = findsAfter (d .finds) r; fault = faultAfter (d .fault) r (replyTo (d .curve) r) }
 
 -- no curve at all is drawn as an empty one
 unfoldable pub endsWith : Curve → Finds → Fault → List ℕ

@@ -4,7 +4,18 @@ ghost use Prim.Native.Nat.{_≤_, _+_};
 ghost use lib.ListN.{length};
 ghost use Rattle.text.specs.Wrote.{Wrote};
 ghost use Rattle.picture_scale.specs.Bounds.{highest, Open};
-ghost use Rattle.picture.specs.Picture.{labelText, depthText, depthLabel, depthsText, stretchOf, timeColumn, timeText, timeLabel, timesText, timeName};
+ghost use Rattle.picture.specs.Picture.{
+  labelText,
+  depthText,
+  depthLabel,
+  depthsText,
+  stretchOf,
+  timeColumn,
+  timeText,
+  timeLabel,
+  timesText,
+  timeName,
+};
 use crate::words::put_number;
 use picture_scale::Extent;
 

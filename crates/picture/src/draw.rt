@@ -44,7 +44,8 @@ fn put_knot(out: &mut [u8], at: usize, b: Basis, n: usize, e: Extent, j: usize, 
 
 fn put_knots(out: &mut [u8], at: usize, b: Basis, knots: &[f64], e: Extent) -> usize
     requires { ⌜ (length (now knots) ≤ 4096) × Open e × (at + 49152 ≤ length (now out)) ⌝ }
-    ensures { λ r. ⌜ Wrote (now (out .entry)) at (knotsText b (now (knots .entry)) e (length (now (knots .entry)))) (now (out .exit)) r × (r ≤ at + 49152) ⌝ }
+    ensures { λ r. ⌜ Wrote (now (out .entry)) at (knotsText b (now (knots .entry)) e (length (now (knots .entry)))) (now (out .exit)) r
+        × (r ≤ at + 49152) ⌝ }
 {
     let mut j = 0;
     let mut a = at;

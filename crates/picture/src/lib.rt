@@ -156,7 +156,8 @@ fn fault_after(f: Fault, r: Record, t: Told) -> Fault
 pub fn line(h: Held, len: usize, line: &[u8], table: &mut [f64], turned: &mut [f64]) -> Held
     requires line { ⌜ length (now line) ≡ widest ⌝ }
     requires table { ⌜ (countOf h ≤ places) × (length (now table) ≡ places) × (length (now turned) ≡ places) ⌝ }
-    ensures state { λ r. ⌜ drawingOf r (now (table .exit)) ≡ pictureProgram .after (drawingOf h (now (table .entry))) (openOf len (now (line .entry))) ⌝ }
+    ensures state { λ r. ⌜ drawingOf r (now (table .exit)) ≡ pictureProgram .after (drawingOf h (now (table .entry)))
+        (openOf len (now (line .entry))) ⌝ }
     ensures few { λ r. ⌜ countOf r ≤ places ⌝ }
 {
     let c = h.curve;
@@ -176,7 +177,8 @@ pub fn line(h: Held, len: usize, line: &[u8], table: &mut [f64], turned: &mut [f
 // The end of the listing: the picture.
 pub fn end(h: Held, table: &[f64], out: &mut [u8], at: usize) -> usize
     requires { ⌜ (countOf h ≤ places) × (length (now table) ≡ places) × (at + longest ≤ length (now out)) ⌝ }
-    ensures { λ r. ⌜ Wrote (now (out .entry)) at (pictureProgram .ends (drawingOf h (now (table .entry)))) (now (out .exit)) r × (r ≤ at + longest) ⌝ }
+    ensures { λ r. ⌜ Wrote (now (out .entry)) at (pictureProgram .ends (drawingOf h (now (table .entry)))) (now (out .exit)) r
+        × (r ≤ at + longest) ⌝ }
 {
     let c = h.curve;
     let finds = h.finds;

@@ -69,7 +69,8 @@ fn put_found(
     i: Inverted,
 ) -> usize
     requires { ⌜ (length (now knots) ≤ 4096) × Open e × (slot ≤ 9) × (at + 160 ≤ length (now out)) ⌝ }
-    ensures { λ r. ⌜ Wrote (now (out .entry)) at (findIn b (length (now (knots .entry))) e slot y i) (now (out .exit)) r × (r ≤ at + 160) ⌝ }
+    ensures { λ r. ⌜ Wrote (now (out .entry)) at (findIn b (length (now (knots .entry))) e slot y i) (now (out .exit)) r
+        × (r ≤ at + 160) ⌝ }
 {
     let n = knots.len();
     match i {

@@ -10,7 +10,8 @@ use picture_scale::Extent;
 // A word, and a number of at most four digits.
 pub fn put_number(out: &mut [u8], at: usize, w: &[u8], n: u64) -> usize
     requires { ⌜ at + length (now w) + 4 ≤ length (now out) ⌝ }
-    ensures { λ r. ⌜ Wrote (now (out .entry)) at (numbered (now (w .entry)) n) (now (out .exit)) r × (r ≤ at + length (now (w .entry)) + 4) ⌝ }
+    ensures { λ r. ⌜ Wrote (now (out .entry)) at (numbered (now (w .entry)) n) (now (out .exit)) r
+        × (r ≤ at + length (now (w .entry)) + 4) ⌝ }
 {
     let a = text::put_word(&mut *out, at, w);
     text::put_decimal(out, a, picture_scale::lesser(n, 9999) as u32, 3)

@@ -93,7 +93,8 @@ module _ (b : Basis) (y : Float) (s : ℕ) (x ε : Float) (ks : List Float) wher
         differs = (λ h. differs-only b y s x ε ks (sym e ∙ h), λ n. e ∙ differs-where b y s x ε ks (n .0) (n .1));
       }
 
-pub check-claim-checked : Keeps check_claim.Learnt (λ κs a z e. Checked (a .0) (a .1 .0) (a .1 .1 .0) (a .1 .1 .1 .0) (a .1 .1 .1 .1 .0) (now (a .1 .1 .1 .1 .1 .0)) z)
+pub check-claim-checked : Keeps check_claim.Learnt
+    (λ κs a z e. Checked (a .0) (a .1 .0) (a .1 .1 .0) (a .1 .1 .1 .0) (a .1 .1 .1 .1 .0) (now (a .1 .1 .1 .1 .1 .0)) z)
 check-claim-checked κs a z e p = checked (a .0) (a .1 .0) (a .1 .1 .0) (a .1 .1 .1 .0) (a .1 .1 .1 .1 .0) (now (a .1 .1 .1 .1 .1 .0)) z p
 
 -- ---- our own answers: the call, asked with these, answers that the claim holds
@@ -109,14 +110,16 @@ accepting b y s x ε ks h κs a z e p q0 q1 q2 q3 q4 q5 = p ∙ rw (q0, q1, q2, 
 abbrev pub OwnHolds : Basis → Float → Float → List Float → Inverted → Type 0
 OwnHolds b y ε ks r = AtPlace (λ (p : Place). Settled (p .ground) → Accepts b y (p .segment) (p .local) ε ks) r
 
-own-holds : (b : Basis) (y ε : Float) (ks : List Float) (r : Inverted) → ((p : Place) → r ≡ I.At p → Settled (p .ground) → claimOf b y (p .segment) (p .local) ε ks ≡ Holds)
+own-holds : (b : Basis) (y ε : Float) (ks : List Float) (r : Inverted)
+    → ((p : Place) → r ≡ I.At p → Settled (p .ground) → claimOf b y (p .segment) (p .local) ε ks ≡ Holds)
     → OwnHolds b y ε ks r
 own-holds b y ε ks (I.At p) h = λ t. accepting b y (p .segment) (p .local) ε ks (h p refl t)
 own-holds b y ε ks (I.OffCurve n) h = tt
 own-holds b y ε ks (I.Refused r) h = tt
 
 -- the precision is a double, as every caller's is
-curve-own : (m : EndsBy) (how : Method) (b : Basis) (y : Float) (ks : List Float) (check : Bool) (limit : ℕ) (ε : Float) (r : Inverted) → r ≡ inverseBy m how b y ks check limit ε
+curve-own : (m : EndsBy) (how : Method) (b : Basis) (y : Float) (ks : List Float) (check : Bool) (limit : ℕ) (ε : Float) (r : Inverted)
+    → r ≡ inverseBy m how b y ks check limit ε
     → T (fits binary64 ε) → OwnHolds b y ε ks r
 curve-own m how b y ks check limit ε r e f = own-holds b y ε ks r (λ p h t. own-accepted m how b y ks check limit ε f p (sym e ∙ h) t)
 
@@ -129,20 +132,25 @@ unfolding fits ofBits
 default-fits = tt
 
 -- a curve, by either rule of the ends, any method, with the order check or without
-pub spline-inverse-by-own : Keeps spline_inverse_by.Learnt (λ κs a z e. T (fits binary64 (a .0 .precision)) → OwnHolds (a .1 .0) (a .1 .1 .0) (a .0 .precision) (now (a .1 .1 .1 .0)) z)
-spline-inverse-by-own κs a z e p = curve-own (a .0 .ends) (a .0 .method) (a .1 .0) (a .1 .1 .0) (now (a .1 .1 .1 .0)) (a .0 .check) (a .0 .limit) (a .0 .precision) z p
+pub spline-inverse-by-own : Keeps spline_inverse_by.Learnt
+    (λ κs a z e. T (fits binary64 (a .0 .precision)) → OwnHolds (a .1 .0) (a .1 .1 .0) (a .0 .precision) (now (a .1 .1 .1 .0)) z)
+spline-inverse-by-own κs a z e p =
+    curve-own (a .0 .ends) (a .0 .method) (a .1 .0) (a .1 .1 .0) (now (a .1 .1 .1 .0)) (a .0 .check) (a .0 .limit) (a .0 .precision) z p
 
-pub spline-inverse-with-own : Keeps spline_inverse_with.Learnt (λ κs a z e. T (fits binary64 (a .1 .1 .1 .1 .1 .0)) → OwnHolds (a .0) (a .1 .0) (a .1 .1 .1 .1 .1 .0) (now (a .1 .1 .0)) z)
+pub spline-inverse-with-own : Keeps spline_inverse_with.Learnt
+    (λ κs a z e. T (fits binary64 (a .1 .1 .1 .1 .1 .0)) → OwnHolds (a .0) (a .1 .0) (a .1 .1 .1 .1 .1 .0) (now (a .1 .1 .0)) z)
 spline-inverse-with-own κs a z e p = curve-own Knots AsCrate (a .0) (a .1 .0) (now (a .1 .1 .0)) (a .1 .1 .1 .0) (a .1 .1 .1 .1 .0) (a .1 .1 .1 .1 .1 .0) z p
 
 pub spline-inverse-own : Keeps spline_inverse.Learnt (λ κs a z e. OwnHolds (a .0) (a .1 .0) defaultPrecision (now (a .1 .1 .0)) z)
 spline-inverse-own κs a z e p = curve-own Knots AsCrate (a .0) (a .1 .0) (now (a .1 .1 .0)) (a .1 .1 .1 .0) defaultLimit defaultPrecision z p default-fits
 
 -- one segment, whose four knots are a curve of one segment
-pub spline-inverse-segment-by-own : Keeps spline_inverse_segment_by.Learnt (λ κs a z e. T (fits binary64 (a .1 .1 .1 .1 .0)) → OwnHolds (a .0) (a .1 .0) (a .1 .1 .1 .1 .0) (now (a .1 .1 .0)) z)
+pub spline-inverse-segment-by-own : Keeps spline_inverse_segment_by.Learnt
+    (λ κs a z e. T (fits binary64 (a .1 .1 .1 .1 .0)) → OwnHolds (a .0) (a .1 .0) (a .1 .1 .1 .1 .0) (now (a .1 .1 .0)) z)
 spline-inverse-segment-by-own κs a z e p = segment-own (a .1 .1 .1 .1 .1 .0) (a .0) (a .1 .0) (now (a .1 .1 .0)) (a .1 .1 .1 .0) (a .1 .1 .1 .1 .0) z p
 
-pub spline-inverse-segment-with-own : Keeps spline_inverse_segment_with.Learnt (λ κs a z e. T (fits binary64 (a .1 .1 .1 .1 .0)) → OwnHolds (a .0) (a .1 .0) (a .1 .1 .1 .1 .0) (now (a .1 .1 .0)) z)
+pub spline-inverse-segment-with-own : Keeps spline_inverse_segment_with.Learnt
+    (λ κs a z e. T (fits binary64 (a .1 .1 .1 .1 .0)) → OwnHolds (a .0) (a .1 .0) (a .1 .1 .1 .1 .0) (now (a .1 .1 .0)) z)
 spline-inverse-segment-with-own κs a z e p = segment-own AsCrate (a .0) (a .1 .0) (now (a .1 .1 .0)) (a .1 .1 .1 .0) (a .1 .1 .1 .1 .0) z p
 
 pub spline-inverse-segment-own : Keeps spline_inverse_segment.Learnt (λ κs a z e. OwnHolds (a .0) (a .1 .0) defaultPrecision (now (a .1 .1 .0)) z)
@@ -160,8 +168,11 @@ pub claim-line-holds : (t : Table) (m : EndsBy) (ks : List Float) (o : Line) (y 
     → Exactly (claimsProgram .tells (on t m ks) o ≡ bytes "holds\n") (Accepted (t .basis) y s x ε ks)
 unfolding tellsOf checkText
 claim-line-holds t m ks o y s x ε e =
-    let told : claimsProgram .tells (on t m ks) o ≡ claimText (claimOf (t .basis) y s x ε ks) = ap (tellsOf (on t m ks)) e in
-    (λ h. holds-only (t .basis) y s x ε ks (holds-text (claimOf (t .basis) y s x ε ks) (sym told ∙ h)), λ a. told ∙ ap claimText (holds-where (t .basis) y s x ε ks a))
+    let told : claimsProgram .tells (on t m ks) o ≡ claimText (claimOf (t .basis) y s x ε ks) = ap (tellsOf (on t m ks)) e in (
+      λ h. holds-only (t .basis) y s x ε ks (holds-text (claimOf (t .basis) y s x ε ks) (sym told ∙ h)),
+      λ a. told
+          ∙ ap claimText (holds-where (t .basis) y s x ε ks a),
+    )
 
 -- ---- what others link
 pub c-check-claim-asks-nothing : AsksNothing c_check_claim.Asked
@@ -170,7 +181,8 @@ c-check-claim-asks-nothing κs a = tt
 pub c-check-claim-one-reply : OneReply c_check_claim.Learnt (λ κs z e z′ e′. (z ≡ z′) × (now (e .1 .1 .1 .1 .1 .1 .0) ≡ now (e′ .1 .1 .1 .1 .1 .1 .0)))
 c-check-claim-one-reply κs a z z′ e e′ p q = (p .0 ∙ sym (q .0), p .1 ∙ sym (q .1))
 
-holds-kept : (c : Chosen) (f : Basis → Claimed) (old : Bool) → NotZero (chosen c noBasis (λ b. claimedReply (f b))) → chosen c old (λ b. holdsLeft (f b) old) ≡ old
+holds-kept : (c : Chosen) (f : Basis → Claimed) (old : Bool) → NotZero (chosen c noBasis (λ b. claimedReply (f b)))
+    → chosen c old (λ b. holdsLeft (f b) old) ≡ old
 holds-kept Unknown f old h = refl
 holds-kept (Known b) f old h = go (f b) h
   where
@@ -182,4 +194,5 @@ holds-kept (Known b) f old h = go (f b) h
 pub c-check-claim-writes-nothing : Keeps c_check_claim.Learnt (λ κs a z e. NotZero z → now (e .1 .1 .1 .1 .1 .1 .0) ≡ now (a .1 .1 .1 .1 .1 .1 .0))
 c-check-claim-writes-nothing κs a z e p h =
     p .1
-    ∙ holds-kept (chosenOf (a .0)) (λ b. claimOf b (a .1 .0) (a .1 .1 .0) (a .1 .1 .1 .0) (a .1 .1 .1 .1 .0) (now (a .1 .1 .1 .1 .1 .0))) (now (a .1 .1 .1 .1 .1 .1 .0)) (λ w. h (p .0 ∙ w))
+    ∙ holds-kept (chosenOf (a .0)) (λ b. claimOf b (a .1 .0) (a .1 .1 .0) (a .1 .1 .1 .0) (a .1 .1 .1 .1 .0) (now (a .1 .1 .1 .1 .1 .0)))
+    (now (a .1 .1 .1 .1 .1 .1 .0)) (λ w. h (p .0 ∙ w))

@@ -26,7 +26,8 @@ use Rattle.promises.proofs.Numbers.{InverseNumber, spline-inverse-by-nu
 
 module _ (m : EndsBy) (how : Method) (b : Basis) (y : Float) (ks : List Float) (check : Bool) (limit : ℕ) (ε : Float) where
   pub record Eleven (z : Inverted) : Type 0 where
-    pub only : numberTold z ≡ 11 → Pass m how b y ks check limit ε × Quiet m how b y ks check limit ε × (Premise m how b y ks check limit ε → Nowhere m how b y ks check limit ε)
+    pub only : numberTold z ≡ 11
+        → Pass m how b y ks check limit ε × Quiet m how b y ks check limit ε × (Premise m how b y ks check limit ε → Nowhere m how b y ks check limit ε)
     pub where-off : Pass m how b y ks check limit ε → Quiet m how b y ks check limit ε → Nowhere m how b y ks check limit ε → numberTold z ≡ 11
 
   pub by-eleven : (z : Inverted) → InverseNumber (inverseUses b y ks check limit ε) z → Promised m how b y ks check limit ε z → Eleven z
@@ -36,14 +37,20 @@ module _ (m : EndsBy) (how : Method) (b : Basis) (y : Float) (ks : List Float) (
         where-off = λ f q w. ap numberTold (p .off-where f q w .1);
       }
 
-pub spline-inverse-by-eleven : Keeps spline_inverse_by.Learnt (λ κs a z e. Eleven (a .0 .ends) (a .0 .method) (a .1 .0) (a .1 .1 .0) (now (a .1 .1 .1 .0)) (a .0 .check) (a .0 .limit) (a .0 .precision) z)
+pub spline-inverse-by-eleven : Keeps spline_inverse_by.Learnt
+    (λ κs a z e. Eleven (a .0 .ends) (a .0 .method) (a .1 .0) (a .1 .1 .0) (now (a .1 .1 .1 .0)) (a .0 .check) (a .0 .limit) (a .0 .precision) z)
 spline-inverse-by-eleven κs a z e p =
-    by-eleven (a .0 .ends) (a .0 .method) (a .1 .0) (a .1 .1 .0) (now (a .1 .1 .1 .0)) (a .0 .check) (a .0 .limit) (a .0 .precision) z (spline-inverse-by-number κs a z e p) (spline-inverse-by-promised κs a z e p)
+    by-eleven (a .0 .ends) (a .0 .method) (a .1 .0) (a .1 .1 .0) (now (a .1 .1 .1 .0)) (a .0 .check) (a .0 .limit) (a .0 .precision) z
+    (spline-inverse-by-number κs a z e p) (spline-inverse-by-promised κs a z e p)
 
-pub spline-inverse-with-eleven : Keeps spline_inverse_with.Learnt (λ κs a z e. Eleven Knots AsCrate (a .0) (a .1 .0) (now (a .1 .1 .0)) (a .1 .1 .1 .0) (a .1 .1 .1 .1 .0) (a .1 .1 .1 .1 .1 .0) z)
+pub spline-inverse-with-eleven : Keeps spline_inverse_with.Learnt
+    (λ κs a z e. Eleven Knots AsCrate (a .0) (a .1 .0) (now (a .1 .1 .0)) (a .1 .1 .1 .0) (a .1 .1 .1 .1 .0) (a .1 .1 .1 .1 .1 .0) z)
 spline-inverse-with-eleven κs a z e p =
-    by-eleven Knots AsCrate (a .0) (a .1 .0) (now (a .1 .1 .0)) (a .1 .1 .1 .0) (a .1 .1 .1 .1 .0) (a .1 .1 .1 .1 .1 .0) z (spline-inverse-with-number κs a z e p) (spline-inverse-with-promised κs a z e p)
+    by-eleven Knots AsCrate (a .0) (a .1 .0) (now (a .1 .1 .0)) (a .1 .1 .1 .0) (a .1 .1 .1 .1 .0) (a .1 .1 .1 .1 .1 .0) z
+    (spline-inverse-with-number κs a z e p) (spline-inverse-with-promised κs a z e p)
 
-pub spline-inverse-eleven : Keeps spline_inverse.Learnt (λ κs a z e. Eleven Knots AsCrate (a .0) (a .1 .0) (now (a .1 .1 .0)) (a .1 .1 .1 .0) defaultLimit defaultPrecision z)
+pub spline-inverse-eleven : Keeps spline_inverse.Learnt
+    (λ κs a z e. Eleven Knots AsCrate (a .0) (a .1 .0) (now (a .1 .1 .0)) (a .1 .1 .1 .0) defaultLimit defaultPrecision z)
 spline-inverse-eleven κs a z e p =
-    by-eleven Knots AsCrate (a .0) (a .1 .0) (now (a .1 .1 .0)) (a .1 .1 .1 .0) defaultLimit defaultPrecision z (spline-inverse-number κs a z e p) (spline-inverse-promised κs a z e p)
+    by-eleven Knots AsCrate (a .0) (a .1 .0) (now (a .1 .1 .0)) (a .1 .1 .1 .0) defaultLimit defaultPrecision z (spline-inverse-number κs a z e p)
+    (spline-inverse-promised κs a z e p)

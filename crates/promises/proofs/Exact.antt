@@ -28,18 +28,21 @@ use Rattle.promises.specs.Calls.{Keeps}
 
 -- four whole knots at j/256: the call answers a value, and 2^25 times it is the cubic's whole number
 pub spline-segment-exact : Keeps spline_segment.Learnt
-    (λ κs a z e. T (isExact (a .0)) → (whole : List ℤ) (j : ℕ) → length (now (a .1 .1 .0)) ≡ 4 → WholeKnots (now (a .1 .1 .0)) whole → Number (a .1 .0) (pos j) 8 → j ≤ 256
+    (λ κs a z e. T (isExact (a .0)) → (whole : List ℤ) (j : ℕ) → length (now (a .1 .1 .0)) ≡ 4 → WholeKnots (now (a .1 .1 .0)) whole
+    → Number (a .1 .0) (pos j) 8 → j ≤ 256
     → Answers z (exactOf (a .0) whole j))
 spline-segment-exact κs a z e p w whole j l k u h =
     subst (λ (r : Evaluated). Answers r (exactOf (a .0) whole j)) (sym p) (segment-answers (a .0) w (a .1 .0) (now (a .1 .1 .0)) whole j l k u h)
 
 -- a curve of whole knots and good length, at a parameter whose local place is j/256: the same of the segment where it lies
 pub spline-exact : Keeps spline.Learnt
-    (λ κs a z e. T (isExact (a .0)) → (whole : List ℤ) (j : ℕ) → first (curveLength (a .0) (length (now (a .1 .1 .0)))) ≡ Passed → WholeKnots (now (a .1 .1 .0)) whole
+    (λ κs a z e. T (isExact (a .0)) → (whole : List ℤ) (j : ℕ) → first (curveLength (a .0) (length (now (a .1 .1 .0)))) ≡ Passed
+    → WholeKnots (now (a .1 .1 .0)) whole
     → Number (localAt (segmentsOf (a .0) (length (now (a .1 .1 .0)))) (a .1 .0)) (pos j) 8 → j ≤ 256
     → Answers z (exactOf (a .0) (drop (segmentAt (segmentsOf (a .0) (length (now (a .1 .1 .0)))) (a .1 .0) * stepOf (a .0)) whole) j))
 spline-exact κs a z e p w whole j l k u h =
-    subst (λ (r : Evaluated). Answers r (exactOf (a .0) (drop (segmentAt (segmentsOf (a .0) (length (now (a .1 .1 .0)))) (a .1 .0) * stepOf (a .0)) whole) j)) (sym p)
+    subst (λ (r : Evaluated). Answers r
+    (exactOf (a .0) (drop (segmentAt (segmentsOf (a .0) (length (now (a .1 .1 .0)))) (a .1 .0) * stepOf (a .0)) whole) j)) (sym p)
     (curve-answers (a .0) w (a .1 .0) (now (a .1 .1 .0)) whole j l k u h)
 
 -- a B-spline over four knots of 1, at place 0: the answer is the double below 1

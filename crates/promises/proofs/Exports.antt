@@ -61,7 +61,8 @@ convert-spline-asks-nothing κs a = tt
 abbrev pub NotZero : ℕ → Type 0
 NotZero n = n ≡ 0 → ⊥
 
-value-kept : (c : Chosen) (f : Basis → Evaluated) (old : Float) → NotZero (chosen c noBasis (λ b. evaluatedReply (f b))) → chosen c old (λ b. valueLeft (f b) old) ≡ old
+value-kept : (c : Chosen) (f : Basis → Evaluated) (old : Float) → NotZero (chosen c noBasis (λ b. evaluatedReply (f b)))
+    → chosen c old (λ b. valueLeft (f b) old) ≡ old
 value-kept Unknown f old h = refl
 value-kept (Known b) f old h = go (f b) h
   where
@@ -78,7 +79,8 @@ spline-segment-writes-nothing κs a z e p h =
     p .1 ∙ value-kept (chosenOf (a .0)) (λ b. splineSegmentOf b (a .1 .0) (now (a .1 .1 .0))) (now (a .1 .1 .1 .0)) (λ w. h (p .0 ∙ w))
 
 -- of an inversion: the four doubles, and but for 11 the three whole numbers
-pub place-kept : (c : Chosen) (f : Basis → Inverted) (old : List Float) → NotZero (chosen c noBasis (λ b. invertedReply (f b))) → chosen c old (λ b. placeLeft (f b) old) ≡ old
+pub place-kept : (c : Chosen) (f : Basis → Inverted) (old : List Float) → NotZero (chosen c noBasis (λ b. invertedReply (f b)))
+    → chosen c old (λ b. placeLeft (f b) old) ≡ old
 place-kept Unknown f old h = refl
 place-kept (Known b) f old h = go (f b) h
   where
@@ -87,7 +89,8 @@ place-kept (Known b) f old h = go (f b) h
     go (I.OffCurve n) h = refl
     go (I.Refused r) h = refl
 
-pub whole-kept : (c : Chosen) (f : Basis → Inverted) (old : List ℕ) → NotZero (chosen c noBasis (λ b. invertedReply (f b))) → (chosen c noBasis (λ b. invertedReply (f b)) ≡ 11 → ⊥) → chosen c old (λ b. wholeLeft (f b) old) ≡ old
+pub whole-kept : (c : Chosen) (f : Basis → Inverted) (old : List ℕ) → NotZero (chosen c noBasis (λ b. invertedReply (f b)))
+    → (chosen c noBasis (λ b. invertedReply (f b)) ≡ 11 → ⊥) → chosen c old (λ b. wholeLeft (f b) old) ≡ old
 whole-kept Unknown f old h g = refl
 whole-kept (Known b) f old h g = go (f b) h g
   where
@@ -96,33 +99,53 @@ whole-kept (Known b) f old h g = go (f b) h g
     go (I.OffCurve n) h g = absurd (g refl)
     go (I.Refused r) h g = refl
 
-pub spline-inverse-writes-nothing : Keeps spline_inverse.Learnt (λ κs a z e. NotZero z → (now (e .1 .1 .1 .1 .0) ≡ now (a .1 .1 .1 .1 .0)) × ((z ≡ 11 → ⊥) → now (e .1 .1 .1 .1 .1 .0) ≡ now (a .1 .1 .1 .1 .1 .0)))
+pub spline-inverse-writes-nothing : Keeps spline_inverse.Learnt
+    (λ κs a z e. NotZero z → (now (e .1 .1 .1 .1 .0) ≡ now (a .1 .1 .1 .1 .0)) × ((z ≡ 11 → ⊥) → now (e .1 .1 .1 .1 .1 .0) ≡ now (a .1 .1 .1 .1 .1 .0)))
 spline-inverse-writes-nothing κs a z e p h =
     let f : Basis → Inverted = λ b. inverseOf b (a .1 .0) (now (a .1 .1 .0)) (a .1 .1 .1 .0) defaultLimit defaultPrecision in
-    let c = chosenOf (a .0) in
-    (p .1 .0 ∙ place-kept c f (now (a .1 .1 .1 .1 .0)) (λ w. h (p .0 ∙ w)), λ g. p .1 .1 ∙ whole-kept c f (now (a .1 .1 .1 .1 .1 .0)) (λ w. h (p .0 ∙ w)) (λ w. g (p .0 ∙ w)))
+    let c = chosenOf (a .0) in (
+      p .1 .0 ∙ place-kept c f (now (a .1 .1 .1 .1 .0)) (λ w. h (p .0 ∙ w)),
+      λ g. p .1 .1
+          ∙ whole-kept c f (now (a .1 .1 .1 .1 .1 .0)) (λ w. h (p .0 ∙ w)) (λ w. g (p .0 ∙ w)),
+    )
 
-pub spline-inverse-with-writes-nothing : Keeps spline_inverse_with.Learnt (λ κs a z e. NotZero z → (now (e .1 .1 .1 .1 .1 .1 .0) ≡ now (a .1 .1 .1 .1 .1 .1 .0)) × ((z ≡ 11 → ⊥) → now (e .1 .1 .1 .1 .1 .1 .1 .0) ≡ now (a .1 .1 .1 .1 .1 .1 .1 .0)))
+pub spline-inverse-with-writes-nothing : Keeps spline_inverse_with.Learnt
+    (λ κs a z e. NotZero z
+    → (now (e .1 .1 .1 .1 .1 .1 .0) ≡ now (a .1 .1 .1 .1 .1 .1 .0))
+    × ((z ≡ 11 → ⊥) → now (e .1 .1 .1 .1 .1 .1 .1 .0) ≡ now (a .1 .1 .1 .1 .1 .1 .1 .0)))
 spline-inverse-with-writes-nothing κs a z e p h =
     let f : Basis → Inverted = λ b. inverseOf b (a .1 .0) (now (a .1 .1 .0)) (a .1 .1 .1 .0) (a .1 .1 .1 .1 .0) (a .1 .1 .1 .1 .1 .0) in
-    let c = chosenOf (a .0) in
-    (p .1 .0 ∙ place-kept c f (now (a .1 .1 .1 .1 .1 .1 .0)) (λ w. h (p .0 ∙ w)), λ g. p .1 .1 ∙ whole-kept c f (now (a .1 .1 .1 .1 .1 .1 .1 .0)) (λ w. h (p .0 ∙ w)) (λ w. g (p .0 ∙ w)))
+    let c = chosenOf (a .0) in (
+      p .1 .0 ∙ place-kept c f (now (a .1 .1 .1 .1 .1 .1 .0)) (λ w. h (p .0 ∙ w)),
+      λ g. p .1 .1
+          ∙ whole-kept c f (now (a .1 .1 .1 .1 .1 .1 .1 .0)) (λ w. h (p .0 ∙ w)) (λ w. g (p .0 ∙ w)),
+    )
 
-pub spline-inverse-segment-writes-nothing : Keeps spline_inverse_segment.Learnt (λ κs a z e. NotZero z → (now (e .1 .1 .1 .0) ≡ now (a .1 .1 .1 .0)) × ((z ≡ 11 → ⊥) → now (e .1 .1 .1 .1 .0) ≡ now (a .1 .1 .1 .1 .0)))
+pub spline-inverse-segment-writes-nothing : Keeps spline_inverse_segment.Learnt
+    (λ κs a z e. NotZero z → (now (e .1 .1 .1 .0) ≡ now (a .1 .1 .1 .0)) × ((z ≡ 11 → ⊥) → now (e .1 .1 .1 .1 .0) ≡ now (a .1 .1 .1 .1 .0)))
 spline-inverse-segment-writes-nothing κs a z e p h =
     let f : Basis → Inverted = λ b. inverseSegmentOf b (a .1 .0) (now (a .1 .1 .0)) defaultLimit defaultPrecision in
-    let c = chosenOf (a .0) in
-    (p .1 .0 ∙ place-kept c f (now (a .1 .1 .1 .0)) (λ w. h (p .0 ∙ w)), λ g. p .1 .1 ∙ whole-kept c f (now (a .1 .1 .1 .1 .0)) (λ w. h (p .0 ∙ w)) (λ w. g (p .0 ∙ w)))
+    let c = chosenOf (a .0) in (
+      p .1 .0 ∙ place-kept c f (now (a .1 .1 .1 .0)) (λ w. h (p .0 ∙ w)),
+      λ g. p .1 .1
+          ∙ whole-kept c f (now (a .1 .1 .1 .1 .0)) (λ w. h (p .0 ∙ w)) (λ w. g (p .0 ∙ w)),
+    )
 
-pub spline-inverse-segment-with-writes-nothing : Keeps spline_inverse_segment_with.Learnt (λ κs a z e. NotZero z → (now (e .1 .1 .1 .1 .1 .0) ≡ now (a .1 .1 .1 .1 .1 .0)) × ((z ≡ 11 → ⊥) → now (e .1 .1 .1 .1 .1 .1 .0) ≡ now (a .1 .1 .1 .1 .1 .1 .0)))
+pub spline-inverse-segment-with-writes-nothing : Keeps spline_inverse_segment_with.Learnt
+    (λ κs a z e. NotZero z
+    → (now (e .1 .1 .1 .1 .1 .0) ≡ now (a .1 .1 .1 .1 .1 .0)) × ((z ≡ 11 → ⊥) → now (e .1 .1 .1 .1 .1 .1 .0) ≡ now (a .1 .1 .1 .1 .1 .1 .0)))
 spline-inverse-segment-with-writes-nothing κs a z e p h =
     let f : Basis → Inverted = λ b. inverseSegmentOf b (a .1 .0) (now (a .1 .1 .0)) (a .1 .1 .1 .0) (a .1 .1 .1 .1 .0) in
-    let c = chosenOf (a .0) in
-    (p .1 .0 ∙ place-kept c f (now (a .1 .1 .1 .1 .1 .0)) (λ w. h (p .0 ∙ w)), λ g. p .1 .1 ∙ whole-kept c f (now (a .1 .1 .1 .1 .1 .1 .0)) (λ w. h (p .0 ∙ w)) (λ w. g (p .0 ∙ w)))
+    let c = chosenOf (a .0) in (
+      p .1 .0 ∙ place-kept c f (now (a .1 .1 .1 .1 .1 .0)) (λ w. h (p .0 ∙ w)),
+      λ g. p .1 .1
+          ∙ whole-kept c f (now (a .1 .1 .1 .1 .1 .1 .0)) (λ w. h (p .0 ∙ w)) (λ w. g (p .0 ∙ w)),
+    )
 
 -- of a conversion: the buffer, and the length
 pub out-kept : (f t : Chosen) (g : Basis → Basis → Conversion) (out : List Float)
-    → NotZero (chosen f noBasis (λ b. chosen t noBasis (λ c. convertedReply (answerOf (g b c))))) → chosen f out (λ b. chosen t out (λ c. bufferOf (g b c) out)) ≡ out
+    → NotZero (chosen f noBasis (λ b. chosen t noBasis (λ c. convertedReply (answerOf (g b c)))))
+    → chosen f out (λ b. chosen t out (λ c. bufferOf (g b c) out)) ≡ out
 out-kept Unknown t g out h = refl
 out-kept (Known b) Unknown g out h = refl
 out-kept (Known b) (Known c) g out h = go (g b c) h
@@ -132,7 +155,8 @@ out-kept (Known b) (Known c) g out h = go (g b c) h
     go (refuses r) h = refl
 
 pub length-kept : (f t : Chosen) (g : Basis → Basis → Conversion) (old : ℕ)
-    → NotZero (chosen f noBasis (λ b. chosen t noBasis (λ c. convertedReply (answerOf (g b c))))) → chosen f old (λ b. chosen t old (λ c. lengthLeft (answerOf (g b c)) old)) ≡ old
+    → NotZero (chosen f noBasis (λ b. chosen t noBasis (λ c. convertedReply (answerOf (g b c)))))
+    → chosen f old (λ b. chosen t old (λ c. lengthLeft (answerOf (g b c)) old)) ≡ old
 length-kept Unknown t g old h = refl
 length-kept (Known b) Unknown g old h = refl
 length-kept (Known b) (Known c) g old h = go (g b c) h
@@ -143,9 +167,12 @@ length-kept (Known b) (Known c) g old h = go (g b c) h
 
 pub convert-segment-writes-nothing : Keeps convert_segment.Learnt (λ κs a z e. NotZero z → now (e .1 .1 .1 .0) ≡ now (a .1 .1 .1 .0))
 convert-segment-writes-nothing κs a z e p h =
-    p .1 ∙ out-kept (chosenOf (a .0)) (chosenOf (a .1 .0)) (λ b c. convertedSegmentOf b c (now (a .1 .1 .0)) (length (now (a .1 .1 .1 .0)))) (now (a .1 .1 .1 .0)) (λ w. h (p .0 ∙ w))
+    p .1
+    ∙ out-kept (chosenOf (a .0)) (chosenOf (a .1 .0)) (λ b c. convertedSegmentOf b c (now (a .1 .1 .0)) (length (now (a .1 .1 .1 .0))))
+    (now (a .1 .1 .1 .0)) (λ w. h (p .0 ∙ w))
 
-pub convert-spline-writes-nothing : Keeps convert_spline.Learnt (λ κs a z e. NotZero z → (now (e .1 .1 .1 .0) ≡ now (a .1 .1 .1 .0)) × (now (e .1 .1 .1 .1 .0) ≡ now (a .1 .1 .1 .1 .0)))
+pub convert-spline-writes-nothing : Keeps convert_spline.Learnt
+    (λ κs a z e. NotZero z → (now (e .1 .1 .1 .0) ≡ now (a .1 .1 .1 .0)) × (now (e .1 .1 .1 .1 .0) ≡ now (a .1 .1 .1 .1 .0)))
 convert-spline-writes-nothing κs a z e p h =
     let g : Basis → Basis → Conversion = λ b c. convertedOf b c (now (a .1 .1 .0)) (length (now (a .1 .1 .1 .0))) in
     let f = chosenOf (a .0) in

@@ -20,15 +20,22 @@ use Rattle.inverse.proofs.spline_inverse_with.Reads as spline_inverse_with
 use Rattle.inverse.proofs.spline_inverse.Reads as spline_inverse
 use Rattle.promises.specs.Calls.{Keeps}
 
-pub reply-fewer : (m : EndsBy) (how : Method) (b : Basis) (y : Float) (ks : List Float) (check : Bool) (limit : ℕ) (ε : Float) (r : Inverted) → r ≡ inverseBy m how b y ks check limit ε → Fewer 2 r (twice m how b y ks check limit ε)
-reply-fewer m how b y ks check limit ε r e = subst (λ (z : Inverted). Fewer 2 z (twice m how b y ks check limit ε)) (sym e) (inverse-fewer m how b y ks check limit ε)
+pub reply-fewer : (m : EndsBy) (how : Method) (b : Basis) (y : Float) (ks : List Float) (check : Bool) (limit : ℕ) (ε : Float) (r : Inverted)
+    → r ≡ inverseBy m how b y ks check limit ε → Fewer 2 r (twice m how b y ks check limit ε)
+reply-fewer m how b y ks check limit ε r e =
+    subst (λ (z : Inverted). Fewer 2 z (twice m how b y ks check limit ε)) (sym e) (inverse-fewer m how b y ks check limit ε)
 
 -- by either rule of the ends and any method
-pub spline-inverse-by-fewer : Keeps spline_inverse_by.Learnt (λ κs a z e. Fewer 2 z (twice (a .0 .ends) (a .0 .method) (a .1 .0) (a .1 .1 .0) (now (a .1 .1 .1 .0)) (a .0 .check) (a .0 .limit) (a .0 .precision)))
-spline-inverse-by-fewer κs a z e p = reply-fewer (a .0 .ends) (a .0 .method) (a .1 .0) (a .1 .1 .0) (now (a .1 .1 .1 .0)) (a .0 .check) (a .0 .limit) (a .0 .precision) z p
+pub spline-inverse-by-fewer : Keeps spline_inverse_by.Learnt
+    (λ κs a z e. Fewer 2 z (twice (a .0 .ends) (a .0 .method) (a .1 .0) (a .1 .1 .0) (now (a .1 .1 .1 .0)) (a .0 .check) (a .0 .limit) (a .0 .precision)))
+spline-inverse-by-fewer κs a z e p =
+    reply-fewer (a .0 .ends) (a .0 .method) (a .1 .0) (a .1 .1 .0) (now (a .1 .1 .1 .0)) (a .0 .check) (a .0 .limit) (a .0 .precision) z p
 
-pub spline-inverse-with-fewer : Keeps spline_inverse_with.Learnt (λ κs a z e. Fewer 2 z (twice Knots AsCrate (a .0) (a .1 .0) (now (a .1 .1 .0)) (a .1 .1 .1 .0) (a .1 .1 .1 .1 .0) (a .1 .1 .1 .1 .1 .0)))
-spline-inverse-with-fewer κs a z e p = reply-fewer Knots AsCrate (a .0) (a .1 .0) (now (a .1 .1 .0)) (a .1 .1 .1 .0) (a .1 .1 .1 .1 .0) (a .1 .1 .1 .1 .1 .0) z p
+pub spline-inverse-with-fewer : Keeps spline_inverse_with.Learnt
+    (λ κs a z e. Fewer 2 z (twice Knots AsCrate (a .0) (a .1 .0) (now (a .1 .1 .0)) (a .1 .1 .1 .0) (a .1 .1 .1 .1 .0) (a .1 .1 .1 .1 .1 .0)))
+spline-inverse-with-fewer κs a z e p =
+    reply-fewer Knots AsCrate (a .0) (a .1 .0) (now (a .1 .1 .0)) (a .1 .1 .1 .0) (a .1 .1 .1 .1 .0) (a .1 .1 .1 .1 .1 .0) z p
 
-pub spline-inverse-fewer : Keeps spline_inverse.Learnt (λ κs a z e. Fewer 2 z (twice Knots AsCrate (a .0) (a .1 .0) (now (a .1 .1 .0)) (a .1 .1 .1 .0) defaultLimit defaultPrecision))
+pub spline-inverse-fewer : Keeps spline_inverse.Learnt
+    (λ κs a z e. Fewer 2 z (twice Knots AsCrate (a .0) (a .1 .0) (now (a .1 .1 .0)) (a .1 .1 .1 .0) defaultLimit defaultPrecision))
 spline-inverse-fewer κs a z e p = reply-fewer Knots AsCrate (a .0) (a .1 .0) (now (a .1 .1 .0)) (a .1 .1 .1 .0) defaultLimit defaultPrecision z p

@@ -13,7 +13,17 @@ use Rattle.spline.specs.Segment.{segmentOf}
 use Rattle.inverse_segment.specs.declared.Inverted.{Inverted}
 use Rattle.inverse_segment.specs.Agreed.{Agreed}
 use Rattle.inverse_segment.specs.Segment.{enter, outcomeOf}
-use Rattle.inverse_segment.specs.Answer.{countTold, answered, alone, inverted, inverseSegmentUses, inverseSegmentBy, segmentEvaluationsBy, defaultLimit, defaultPrecision}
+use Rattle.inverse_segment.specs.Answer.{
+  countTold,
+  answered,
+  alone,
+  inverted,
+  inverseSegmentUses,
+  inverseSegmentBy,
+  segmentEvaluationsBy,
+  defaultLimit,
+  defaultPrecision,
+}
 use Rattle.inverse_segment.proofs.Call.{Owed, inverse-segment-listed, inverse-segment-unlisted, inverse-segment-owed, inverse-segment-count}
 use Rattle.inverse_methods.proofs.spline_inverse_segment_with.Reads as spline_inverse_segment_with
 use Rattle.inverse_methods.proofs.spline_inverse_segment.Reads as spline_inverse_segment
@@ -31,13 +41,18 @@ use Rattle.promises.specs.Calls.{Keeps}
 
 -- ---- a curve
 -- by either rule of the ends and any method
-pub spline-inverse-by-promised : Keeps spline_inverse_by.Learnt (λ κs a z e. Promised (a .0 .ends) (a .0 .method) (a .1 .0) (a .1 .1 .0) (now (a .1 .1 .1 .0)) (a .0 .check) (a .0 .limit) (a .0 .precision) z)
-spline-inverse-by-promised κs a z e p = reply-promised (a .0 .ends) (a .0 .method) (a .1 .0) (a .1 .1 .0) (now (a .1 .1 .1 .0)) (a .0 .check) (a .0 .limit) (a .0 .precision) z p
+pub spline-inverse-by-promised : Keeps spline_inverse_by.Learnt
+    (λ κs a z e. Promised (a .0 .ends) (a .0 .method) (a .1 .0) (a .1 .1 .0) (now (a .1 .1 .1 .0)) (a .0 .check) (a .0 .limit) (a .0 .precision) z)
+spline-inverse-by-promised κs a z e p =
+    reply-promised (a .0 .ends) (a .0 .method) (a .1 .0) (a .1 .1 .0) (now (a .1 .1 .1 .0)) (a .0 .check) (a .0 .limit) (a .0 .precision) z p
 
-pub spline-inverse-with-promised : Keeps spline_inverse_with.Learnt (λ κs a z e. Promised Knots AsCrate (a .0) (a .1 .0) (now (a .1 .1 .0)) (a .1 .1 .1 .0) (a .1 .1 .1 .1 .0) (a .1 .1 .1 .1 .1 .0) z)
-spline-inverse-with-promised κs a z e p = reply-promised Knots AsCrate (a .0) (a .1 .0) (now (a .1 .1 .0)) (a .1 .1 .1 .0) (a .1 .1 .1 .1 .0) (a .1 .1 .1 .1 .1 .0) z p
+pub spline-inverse-with-promised : Keeps spline_inverse_with.Learnt
+    (λ κs a z e. Promised Knots AsCrate (a .0) (a .1 .0) (now (a .1 .1 .0)) (a .1 .1 .1 .0) (a .1 .1 .1 .1 .0) (a .1 .1 .1 .1 .1 .0) z)
+spline-inverse-with-promised κs a z e p =
+    reply-promised Knots AsCrate (a .0) (a .1 .0) (now (a .1 .1 .0)) (a .1 .1 .1 .0) (a .1 .1 .1 .1 .0) (a .1 .1 .1 .1 .1 .0) z p
 
-pub spline-inverse-promised : Keeps spline_inverse.Learnt (λ κs a z e. Promised Knots AsCrate (a .0) (a .1 .0) (now (a .1 .1 .0)) (a .1 .1 .1 .0) defaultLimit defaultPrecision z)
+pub spline-inverse-promised : Keeps spline_inverse.Learnt
+    (λ κs a z e. Promised Knots AsCrate (a .0) (a .1 .0) (now (a .1 .1 .0)) (a .1 .1 .1 .0) defaultLimit defaultPrecision z)
 spline-inverse-promised κs a z e p = reply-promised Knots AsCrate (a .0) (a .1 .0) (now (a .1 .1 .0)) (a .1 .1 .1 .0) defaultLimit defaultPrecision z p
 
 -- ---- one segment
@@ -61,11 +76,15 @@ module _ (how : Method) (b : Basis) (y : Float) (cv : List Float) (limit : ℕ) 
       })
 
 -- by any method
-pub spline-inverse-segment-by-promised : Keeps spline_inverse_segment_by.Learnt (λ κs a z e. SegmentPromised (a .1 .1 .1 .1 .1 .0) (a .0) (a .1 .0) (now (a .1 .1 .0)) (a .1 .1 .1 .0) (a .1 .1 .1 .1 .0) z)
-spline-inverse-segment-by-promised κs a z e p = segment-promised (a .1 .1 .1 .1 .1 .0) (a .0) (a .1 .0) (now (a .1 .1 .0)) (a .1 .1 .1 .0) (a .1 .1 .1 .1 .0) z p
+pub spline-inverse-segment-by-promised : Keeps spline_inverse_segment_by.Learnt
+    (λ κs a z e. SegmentPromised (a .1 .1 .1 .1 .1 .0) (a .0) (a .1 .0) (now (a .1 .1 .0)) (a .1 .1 .1 .0) (a .1 .1 .1 .1 .0) z)
+spline-inverse-segment-by-promised κs a z e p =
+    segment-promised (a .1 .1 .1 .1 .1 .0) (a .0) (a .1 .0) (now (a .1 .1 .0)) (a .1 .1 .1 .0) (a .1 .1 .1 .1 .0) z p
 
-pub spline-inverse-segment-with-promised : Keeps spline_inverse_segment_with.Learnt (λ κs a z e. SegmentPromised AsCrate (a .0) (a .1 .0) (now (a .1 .1 .0)) (a .1 .1 .1 .0) (a .1 .1 .1 .1 .0) z)
+pub spline-inverse-segment-with-promised : Keeps spline_inverse_segment_with.Learnt
+    (λ κs a z e. SegmentPromised AsCrate (a .0) (a .1 .0) (now (a .1 .1 .0)) (a .1 .1 .1 .0) (a .1 .1 .1 .1 .0) z)
 spline-inverse-segment-with-promised κs a z e p = segment-promised AsCrate (a .0) (a .1 .0) (now (a .1 .1 .0)) (a .1 .1 .1 .0) (a .1 .1 .1 .1 .0) z p
 
-pub spline-inverse-segment-promised : Keeps spline_inverse_segment.Learnt (λ κs a z e. SegmentPromised AsCrate (a .0) (a .1 .0) (now (a .1 .1 .0)) defaultLimit defaultPrecision z)
+pub spline-inverse-segment-promised : Keeps spline_inverse_segment.Learnt
+    (λ κs a z e. SegmentPromised AsCrate (a .0) (a .1 .0) (now (a .1 .1 .0)) defaultLimit defaultPrecision z)
 spline-inverse-segment-promised κs a z e p = segment-promised AsCrate (a .0) (a .1 .0) (now (a .1 .1 .0)) defaultLimit defaultPrecision z p

@@ -37,7 +37,18 @@ use Rattle.convert.proofs.convert_segment.Reads as convert_segment
 use Rattle.convert.proofs.convert_spline.Reads as convert_spline
 use Rattle.promises.specs.Calls.{Keeps, Exactly}
 use Rattle.promises.specs.Numbers.{numberIn, numberBy, Counts}
-use Rattle.promises.proofs.Refusing.{spline-refuses, spline-segment-refuses, spline-inverse-segment-with-refuses, spline-inverse-segment-refuses, spline-inverse-segment-by-refuses, spline-inverse-by-refuses, spline-inverse-with-refuses, spline-inverse-refuses, convert-segment-refuses, convert-spline-refuses}
+use Rattle.promises.proofs.Refusing.{
+  spline-refuses,
+  spline-segment-refuses,
+  spline-inverse-segment-with-refuses,
+  spline-inverse-segment-refuses,
+  spline-inverse-segment-by-refuses,
+  spline-inverse-by-refuses,
+  spline-inverse-with-refuses,
+  spline-inverse-refuses,
+  convert-segment-refuses,
+  convert-spline-refuses,
+}
 
 -- ---- what is said of a number
 -- of a call that has no use for 11: the one owed, and neither 11 nor 12

@@ -44,8 +44,35 @@ use Rattle.valve.specs.declared.Mixture.the-variants as M
 use Rattle.valve.specs.Mix.{mixUses}
 use Rattle.valve.proofs.mix.Reads as mix
 use Rattle.promises.specs.Calls.{Keeps}
-use Rattle.promises.specs.Numbers.{numberIn, numberBy, eitherOf, numberByBoth, timedNumber, handedNumber, soundedNumber, mixtureNumber, claimedNumber, Counts}
-use Rattle.promises.proofs.Numbers.{RowNumber, PlaceNumber, none-passed, none-first, row-first, unused, Refuses, Owes, owed-place, by-rows, by-places, ValueNumber, WrittenNumber, values, writes}
+use Rattle.promises.specs.Numbers.{
+  numberIn,
+  numberBy,
+  eitherOf,
+  numberByBoth,
+  timedNumber,
+  handedNumber,
+  soundedNumber,
+  mixtureNumber,
+  claimedNumber,
+  Counts,
+}
+use Rattle.promises.proofs.Numbers.{
+  RowNumber,
+  PlaceNumber,
+  none-passed,
+  none-first,
+  row-first,
+  unused,
+  Refuses,
+  Owes,
+  owed-place,
+  by-rows,
+  by-places,
+  ValueNumber,
+  WrittenNumber,
+  values,
+  writes,
+}
 use Rattle.promises.proofs.Seconds.{table-spline-refuses, table-spline-inverse-by-refuses, table-spline-inverse-refuses, table-convert-spline-refuses}
 use Rattle.promises.proofs.Strict.{strict-refuses-first}
 use Rattle.promises.proofs.StrictTables.{table-strict-refuses}

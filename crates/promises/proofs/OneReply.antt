@@ -84,20 +84,26 @@ c-spline-one-reply κs a z z′ e e′ p q = (one (p .0) (q .0), one (p .1) (q .
 pub c-spline-segment-one-reply : OneReply c_spline_segment.Learnt (λ κs z e z′ e′. (z ≡ z′) × (now (e .1 .1 .1 .0) ≡ now (e′ .1 .1 .1 .0)))
 c-spline-segment-one-reply κs a z z′ e e′ p q = (one (p .0) (q .0), one (p .1) (q .1))
 
-pub c-spline-inverse-one-reply : OneReply c_spline_inverse.Learnt (λ κs z e z′ e′. (z ≡ z′) × (now (e .1 .1 .1 .1 .0) ≡ now (e′ .1 .1 .1 .1 .0)) × (now (e .1 .1 .1 .1 .1 .0) ≡ now (e′ .1 .1 .1 .1 .1 .0)))
+pub c-spline-inverse-one-reply : OneReply c_spline_inverse.Learnt
+    (λ κs z e z′ e′. (z ≡ z′) × (now (e .1 .1 .1 .1 .0) ≡ now (e′ .1 .1 .1 .1 .0)) × (now (e .1 .1 .1 .1 .1 .0) ≡ now (e′ .1 .1 .1 .1 .1 .0)))
 c-spline-inverse-one-reply κs a z z′ e e′ p q = (one (p .0) (q .0), one (p .1 .0) (q .1 .0), one (p .1 .1) (q .1 .1))
 
-pub c-spline-inverse-with-one-reply : OneReply c_spline_inverse_with.Learnt (λ κs z e z′ e′. (z ≡ z′) × (now (e .1 .1 .1 .1 .1 .1 .0) ≡ now (e′ .1 .1 .1 .1 .1 .1 .0)) × (now (e .1 .1 .1 .1 .1 .1 .1 .0) ≡ now (e′ .1 .1 .1 .1 .1 .1 .1 .0)))
+pub c-spline-inverse-with-one-reply : OneReply c_spline_inverse_with.Learnt
+    (λ κs z e z′ e′. (z ≡ z′) × (now (e .1 .1 .1 .1 .1 .1 .0) ≡ now (e′ .1 .1 .1 .1 .1 .1 .0))
+    × (now (e .1 .1 .1 .1 .1 .1 .1 .0) ≡ now (e′ .1 .1 .1 .1 .1 .1 .1 .0)))
 c-spline-inverse-with-one-reply κs a z z′ e e′ p q = (one (p .0) (q .0), one (p .1 .0) (q .1 .0), one (p .1 .1) (q .1 .1))
 
-pub c-spline-inverse-segment-one-reply : OneReply c_spline_inverse_segment.Learnt (λ κs z e z′ e′. (z ≡ z′) × (now (e .1 .1 .1 .0) ≡ now (e′ .1 .1 .1 .0)) × (now (e .1 .1 .1 .1 .0) ≡ now (e′ .1 .1 .1 .1 .0)))
+pub c-spline-inverse-segment-one-reply : OneReply c_spline_inverse_segment.Learnt
+    (λ κs z e z′ e′. (z ≡ z′) × (now (e .1 .1 .1 .0) ≡ now (e′ .1 .1 .1 .0)) × (now (e .1 .1 .1 .1 .0) ≡ now (e′ .1 .1 .1 .1 .0)))
 c-spline-inverse-segment-one-reply κs a z z′ e e′ p q = (one (p .0) (q .0), one (p .1 .0) (q .1 .0), one (p .1 .1) (q .1 .1))
 
-pub c-spline-inverse-segment-with-one-reply : OneReply c_spline_inverse_segment_with.Learnt (λ κs z e z′ e′. (z ≡ z′) × (now (e .1 .1 .1 .1 .1 .0) ≡ now (e′ .1 .1 .1 .1 .1 .0)) × (now (e .1 .1 .1 .1 .1 .1 .0) ≡ now (e′ .1 .1 .1 .1 .1 .1 .0)))
+pub c-spline-inverse-segment-with-one-reply : OneReply c_spline_inverse_segment_with.Learnt
+    (λ κs z e z′ e′. (z ≡ z′) × (now (e .1 .1 .1 .1 .1 .0) ≡ now (e′ .1 .1 .1 .1 .1 .0)) × (now (e .1 .1 .1 .1 .1 .1 .0) ≡ now (e′ .1 .1 .1 .1 .1 .1 .0)))
 c-spline-inverse-segment-with-one-reply κs a z z′ e e′ p q = (one (p .0) (q .0), one (p .1 .0) (q .1 .0), one (p .1 .1) (q .1 .1))
 
 pub c-convert-segment-one-reply : OneReply c_convert_segment.Learnt (λ κs z e z′ e′. (z ≡ z′) × (now (e .1 .1 .1 .0) ≡ now (e′ .1 .1 .1 .0)))
 c-convert-segment-one-reply κs a z z′ e e′ p q = (one (p .0) (q .0), one (p .1) (q .1))
 
-pub c-convert-spline-one-reply : OneReply c_convert_spline.Learnt (λ κs z e z′ e′. (z ≡ z′) × (now (e .1 .1 .1 .1 .0) ≡ now (e′ .1 .1 .1 .1 .0)) × (now (e .1 .1 .1 .0) ≡ now (e′ .1 .1 .1 .0)))
+pub c-convert-spline-one-reply : OneReply c_convert_spline.Learnt
+    (λ κs z e z′ e′. (z ≡ z′) × (now (e .1 .1 .1 .1 .0) ≡ now (e′ .1 .1 .1 .1 .0)) × (now (e .1 .1 .1 .0) ≡ now (e′ .1 .1 .1 .0)))
 c-convert-spline-one-reply κs a z z′ e e′ p q = (one (p .0) (q .0), one (p .1 .0) (q .1 .0), one (p .1 .1) (q .1 .1))

@@ -35,17 +35,22 @@ c-spline-inverse-segment-by-asks-nothing κs a = tt
 one : {A : Type 0} {d x x′ : A} → x ≡ d → x′ ≡ d → x ≡ x′
 one p q = p ∙ sym q
 
-pub c-spline-inverse-by-one-reply : OneReply spline_inverse_by.Learnt (λ κs z e z′ e′. (z ≡ z′) × (now (e .1 .1 .1 .1 .1 .1 .1 .1 .0) ≡ now (e′ .1 .1 .1 .1 .1 .1 .1 .1 .0)) × (now (e .1 .1 .1 .1 .1 .1 .1 .1 .1 .0) ≡ now (e′ .1 .1 .1 .1 .1 .1 .1 .1 .1 .0)))
+pub c-spline-inverse-by-one-reply : OneReply spline_inverse_by.Learnt
+    (λ κs z e z′ e′. (z ≡ z′) × (now (e .1 .1 .1 .1 .1 .1 .1 .1 .0) ≡ now (e′ .1 .1 .1 .1 .1 .1 .1 .1 .0))
+    × (now (e .1 .1 .1 .1 .1 .1 .1 .1 .1 .0) ≡ now (e′ .1 .1 .1 .1 .1 .1 .1 .1 .1 .0)))
 c-spline-inverse-by-one-reply κs a z z′ e e′ p q = (one (p .0) (q .0), one (p .1 .0) (q .1 .0), one (p .1 .1) (q .1 .1))
 
-pub c-spline-inverse-segment-by-one-reply : OneReply spline_inverse_segment_by.Learnt (λ κs z e z′ e′. (z ≡ z′) × (now (e .1 .1 .1 .1 .1 .1 .0) ≡ now (e′ .1 .1 .1 .1 .1 .1 .0)) × (now (e .1 .1 .1 .1 .1 .1 .1 .0) ≡ now (e′ .1 .1 .1 .1 .1 .1 .1 .0)))
+pub c-spline-inverse-segment-by-one-reply : OneReply spline_inverse_segment_by.Learnt
+    (λ κs z e z′ e′. (z ≡ z′) × (now (e .1 .1 .1 .1 .1 .1 .0) ≡ now (e′ .1 .1 .1 .1 .1 .1 .0))
+    × (now (e .1 .1 .1 .1 .1 .1 .1 .0) ≡ now (e′ .1 .1 .1 .1 .1 .1 .1 .0)))
 c-spline-inverse-segment-by-one-reply κs a z z′ e e′ p q = (one (p .0) (q .0), one (p .1 .0) (q .1 .0), one (p .1 .1) (q .1 .1))
 
 -- ---- what is left where the reply is not 0: the four doubles, and but for 11 the three whole numbers
 abbrev reply : Chosen → Way → (Basis → EndsBy → Method → Inverted) → ℕ
 reply c w f = chosen c noBasis (λ b. way w noBasis (λ e m. invertedReply (f b e m)))
 
-place-kept : (c : Chosen) (w : Way) (f : Basis → EndsBy → Method → Inverted) (old : List Float) → NotZero (reply c w f) → chosen c old (λ b. way w old (λ e m. placeLeft (f b e m) old)) ≡ old
+place-kept : (c : Chosen) (w : Way) (f : Basis → EndsBy → Method → Inverted) (old : List Float) → NotZero (reply c w f)
+    → chosen c old (λ b. way w old (λ e m. placeLeft (f b e m) old)) ≡ old
 place-kept Unknown w f old h = refl
 place-kept (Known b) W.Unknown f old h = refl
 place-kept (Known b) (W.Known e m) f old h = go (f b e m) h
@@ -55,7 +60,8 @@ place-kept (Known b) (W.Known e m) f old h = go (f b e m) h
     go (I.OffCurve n) h = refl
     go (I.Refused r) h = refl
 
-whole-kept : (c : Chosen) (w : Way) (f : Basis → EndsBy → Method → Inverted) (old : List ℕ) → NotZero (reply c w f) → (reply c w f ≡ 11 → ⊥) → chosen c old (λ b. way w old (λ e m. wholeLeft (f b e m) old)) ≡ old
+whole-kept : (c : Chosen) (w : Way) (f : Basis → EndsBy → Method → Inverted) (old : List ℕ) → NotZero (reply c w f) → (reply c w f ≡ 11 → ⊥)
+    → chosen c old (λ b. way w old (λ e m. wholeLeft (f b e m) old)) ≡ old
 whole-kept Unknown w f old h g = refl
 whole-kept (Known b) W.Unknown f old h g = refl
 whole-kept (Known b) (W.Known e m) f old h g = go (f b e m) h g
@@ -65,16 +71,29 @@ whole-kept (Known b) (W.Known e m) f old h g = go (f b e m) h g
     go (I.OffCurve n) h g = absurd (g refl)
     go (I.Refused r) h g = refl
 
-pub c-spline-inverse-by-writes-nothing : Keeps spline_inverse_by.Learnt (λ κs a z e. NotZero z → (now (e .1 .1 .1 .1 .1 .1 .1 .1 .0) ≡ now (a .1 .1 .1 .1 .1 .1 .1 .1 .0)) × ((z ≡ 11 → ⊥) → now (e .1 .1 .1 .1 .1 .1 .1 .1 .1 .0) ≡ now (a .1 .1 .1 .1 .1 .1 .1 .1 .1 .0)))
+pub c-spline-inverse-by-writes-nothing : Keeps spline_inverse_by.Learnt
+    (λ κs a z e. NotZero z
+    → (now (e .1 .1 .1 .1 .1 .1 .1 .1 .0) ≡ now (a .1 .1 .1 .1 .1 .1 .1 .1 .0))
+    × ((z ≡ 11 → ⊥) → now (e .1 .1 .1 .1 .1 .1 .1 .1 .1 .0) ≡ now (a .1 .1 .1 .1 .1 .1 .1 .1 .1 .0)))
 c-spline-inverse-by-writes-nothing κs a z e p h =
-    let f : Basis → EndsBy → Method → Inverted = λ b n m. inverseBy n m b (a .1 .0) (now (a .1 .1 .0)) (a .1 .1 .1 .0) (a .1 .1 .1 .1 .0) (a .1 .1 .1 .1 .1 .0) in
+    let f : Basis → EndsBy → Method → Inverted =
+    λ b n m. inverseBy n m b (a .1 .0) (now (a .1 .1 .0)) (a .1 .1 .1 .0) (a .1 .1 .1 .1 .0) (a .1 .1 .1 .1 .1 .0) in
     let c = chosenOf (a .0) in
-    let w = wayOf (a .1 .1 .1 .1 .1 .1 .0) (a .1 .1 .1 .1 .1 .1 .1 .0) in
-    (p .1 .0 ∙ place-kept c w f (now (a .1 .1 .1 .1 .1 .1 .1 .1 .0)) (λ q. h (p .0 ∙ q)), λ g. p .1 .1 ∙ whole-kept c w f (now (a .1 .1 .1 .1 .1 .1 .1 .1 .1 .0)) (λ q. h (p .0 ∙ q)) (λ q. g (p .0 ∙ q)))
+    let w = wayOf (a .1 .1 .1 .1 .1 .1 .0) (a .1 .1 .1 .1 .1 .1 .1 .0) in (
+      p .1 .0 ∙ place-kept c w f (now (a .1 .1 .1 .1 .1 .1 .1 .1 .0)) (λ q. h (p .0 ∙ q)),
+      λ g. p .1 .1
+          ∙ whole-kept c w f (now (a .1 .1 .1 .1 .1 .1 .1 .1 .1 .0)) (λ q. h (p .0 ∙ q)) (λ q. g (p .0 ∙ q)),
+    )
 
-pub c-spline-inverse-segment-by-writes-nothing : Keeps spline_inverse_segment_by.Learnt (λ κs a z e. NotZero z → (now (e .1 .1 .1 .1 .1 .1 .0) ≡ now (a .1 .1 .1 .1 .1 .1 .0)) × ((z ≡ 11 → ⊥) → now (e .1 .1 .1 .1 .1 .1 .1 .0) ≡ now (a .1 .1 .1 .1 .1 .1 .1 .0)))
+pub c-spline-inverse-segment-by-writes-nothing : Keeps spline_inverse_segment_by.Learnt
+    (λ κs a z e. NotZero z
+    → (now (e .1 .1 .1 .1 .1 .1 .0) ≡ now (a .1 .1 .1 .1 .1 .1 .0))
+    × ((z ≡ 11 → ⊥) → now (e .1 .1 .1 .1 .1 .1 .1 .0) ≡ now (a .1 .1 .1 .1 .1 .1 .1 .0)))
 c-spline-inverse-segment-by-writes-nothing κs a z e p h =
     let f : Basis → EndsBy → Method → Inverted = λ b n m. inverseSegmentBy (ruleOf m) b (a .1 .0) (now (a .1 .1 .0)) (a .1 .1 .1 .0) (a .1 .1 .1 .1 .0) in
     let c = chosenOf (a .0) in
-    let w = wayOf 0 (a .1 .1 .1 .1 .1 .0) in
-    (p .1 .0 ∙ place-kept c w f (now (a .1 .1 .1 .1 .1 .1 .0)) (λ q. h (p .0 ∙ q)), λ g. p .1 .1 ∙ whole-kept c w f (now (a .1 .1 .1 .1 .1 .1 .1 .0)) (λ q. h (p .0 ∙ q)) (λ q. g (p .0 ∙ q)))
+    let w = wayOf 0 (a .1 .1 .1 .1 .1 .0) in (
+      p .1 .0 ∙ place-kept c w f (now (a .1 .1 .1 .1 .1 .1 .0)) (λ q. h (p .0 ∙ q)),
+      λ g. p .1 .1
+          ∙ whole-kept c w f (now (a .1 .1 .1 .1 .1 .1 .1 .0)) (λ q. h (p .0 ∙ q)) (λ q. g (p .0 ∙ q)),
+    )

@@ -39,16 +39,20 @@ wrote-one {o} {t} {o′} {o″} {at} {r} {r′} u v =
     let b : drop r o′ ≡ drop r o″ = one (u .back) (ap (λ (i : ℕ). drop i o″) n ∙ v .back ∙ ap (λ (i : ℕ). drop i o) (sym n)) in
     (n, sym (take-append-drop r o′) ∙ ap (λ (l : List ℕ). l ++ drop r o′) f ∙ ap (λ (l : List ℕ). take r o″ ++ l) b ∙ take-append-drop r o″)
 
-pub line-program-one-reply : OneReply line_program.Learnt (λ κs z e z′ e′. (line : List ℕ) (table : List Float) (old new : List ℕ) → stateOf z line table old new ≡ stateOf z′ line table old new)
+pub line-program-one-reply : OneReply line_program.Learnt
+    (λ κs z e z′ e′. (line : List ℕ) (table : List Float) (old new : List ℕ) → stateOf z line table old new ≡ stateOf z′ line table old new)
 line-program-one-reply κs a z z′ e e′ p q line table old new = one (p .begun line table old new) (q .begun line table old new)
 
-pub sheet-program-one-reply : OneReply sheet_program.Learnt (λ κs z e z′ e′. (line : List ℕ) (table : List Float) (old new : List ℕ) → stateOf z line table old new ≡ stateOf z′ line table old new)
+pub sheet-program-one-reply : OneReply sheet_program.Learnt
+    (λ κs z e z′ e′. (line : List ℕ) (table : List Float) (old new : List ℕ) → stateOf z line table old new ≡ stateOf z′ line table old new)
 sheet-program-one-reply κs a z z′ e e′ p q line table old new = one (p .begun line table old new) (q .begun line table old new)
 
-pub claims-program-one-reply : OneReply claims_program.Learnt (λ κs z e z′ e′. (line : List ℕ) (table : List Float) (old new : List ℕ) → stateOf z line table old new ≡ stateOf z′ line table old new)
+pub claims-program-one-reply : OneReply claims_program.Learnt
+    (λ κs z e z′ e′. (line : List ℕ) (table : List Float) (old new : List ℕ) → stateOf z line table old new ≡ stateOf z′ line table old new)
 claims-program-one-reply κs a z z′ e e′ p q line table old new = one (p .begun line table old new) (q .begun line table old new)
 
-pub decimals-program-one-reply : OneReply decimals_program.Learnt (λ κs z e z′ e′. (line : List ℕ) (table : List Float) (old new : List ℕ) → stateOf z line table old new ≡ stateOf z′ line table old new)
+pub decimals-program-one-reply : OneReply decimals_program.Learnt
+    (λ κs z e z′ e′. (line : List ℕ) (table : List Float) (old new : List ℕ) → stateOf z line table old new ≡ stateOf z′ line table old new)
 decimals-program-one-reply κs a z z′ e e′ p q line table old new = one (p .begun line table old new) (q .begun line table old new)
 
 pub compare-program-one-reply : OneReply compare_program.Learnt
@@ -63,7 +67,8 @@ pub step-one-reply : OneReply step.Learnt
     (λ κs z e z′ e′.
     (z .at ≡ z′ .at)
     × (now (e .1 .1 .1 .1 .1 .1 .1 .0) ≡ now (e′ .1 .1 .1 .1 .1 .1 .1 .0))
-    × (stateOf (z .st) (now (e .1 .1 .0)) (now (e .1 .1 .1 .0)) (now (e .1 .1 .1 .1 .1 .0)) (now (e .1 .1 .1 .1 .1 .1 .0)) ≡ stateOf (z′ .st) (now (e′ .1 .1 .0)) (now (e′ .1 .1 .1 .0)) (now (e′ .1 .1 .1 .1 .1 .0)) (now (e′ .1 .1 .1 .1 .1 .1 .0))))
+    × (stateOf (z .st) (now (e .1 .1 .0)) (now (e .1 .1 .1 .0)) (now (e .1 .1 .1 .1 .1 .0)) (now (e .1 .1 .1 .1 .1 .1 .0)) ≡ stateOf (z′ .st)
+    (now (e′ .1 .1 .0)) (now (e′ .1 .1 .1 .0)) (now (e′ .1 .1 .1 .1 .1 .0)) (now (e′ .1 .1 .1 .1 .1 .1 .0))))
 step-one-reply κs a z z′ e e′ p q = let w = wrote-one (p .0 .wrote) (q .0 .wrote) in (w .0, w .1, one (p .0 .state) (q .0 .state))
 
 pub finish-one-reply : OneReply finish.Learnt (λ κs z e z′ e′. (z ≡ z′) × (now (e .1 .1 .1 .1 .1 .1 .0) ≡ now (e′ .1 .1 .1 .1 .1 .1 .0)))
@@ -75,11 +80,14 @@ pub feed-one-reply : OneReply feed.Learnt
     z .next ≡ z′ .next
     → (z .at ≡ z′ .at)
     × (now (e .1 .1 .1 .1 .1 .1 .1 .0) ≡ now (e′ .1 .1 .1 .1 .1 .1 .1 .0))
-    × (stateOf (z .st) (now (e .1 .1 .0)) (now (e .1 .1 .1 .0)) (now (e .1 .1 .1 .1 .1 .0)) (now (e .1 .1 .1 .1 .1 .1 .0)) ≡ stateOf (z′ .st) (now (e′ .1 .1 .0)) (now (e′ .1 .1 .1 .0)) (now (e′ .1 .1 .1 .1 .1 .0)) (now (e′ .1 .1 .1 .1 .1 .1 .0))))
+    × (stateOf (z .st) (now (e .1 .1 .0)) (now (e .1 .1 .1 .0)) (now (e .1 .1 .1 .1 .1 .0)) (now (e .1 .1 .1 .1 .1 .1 .0)) ≡ stateOf (z′ .st)
+    (now (e′ .1 .1 .0)) (now (e′ .1 .1 .1 .0)) (now (e′ .1 .1 .1 .1 .1 .0)) (now (e′ .1 .1 .1 .1 .1 .1 .0))))
 feed-one-reply κs a z z′ e e′ p q n =
     let s = stateOf (a .0) (now (a .1 .1 .0)) (now (a .1 .1 .1 .0)) (now (a .1 .1 .1 .1 .1 .0)) (now (a .1 .1 .1 .1 .1 .1 .0)) in
     let told : ℕ → List ℕ = λ i. toldOf running s (take i (now (a .1 .0))) in
-    let w = wrote-one (p .0 .wrote) (subst (λ (t : List ℕ). Wrote (now (a .1 .1 .1 .1 .1 .1 .1 .0)) 0 t (now (e′ .1 .1 .1 .1 .1 .1 .1 .0)) (z′ .at)) (sym (ap told n)) (q .0 .wrote)) in
+    let w =
+    wrote-one (p .0 .wrote) (subst (λ (t : List ℕ). Wrote (now (a .1 .1 .1 .1 .1 .1 .1 .0)) 0 t (now (e′ .1 .1 .1 .1 .1 .1 .1 .0)) (z′ .at))
+    (sym (ap told n)) (q .0 .wrote)) in
     (w .0, w .1, one (p .0 .state) (q .0 .state ∙ sym (ap (λ (i : ℕ). ranOf running s (take i (now (a .1 .0)))) n)))
 
 -- ---- the calls one after another
@@ -88,20 +96,25 @@ pub record So (r : Running) (st : Reader) (line : List ℕ) (table : List Float)
   pub state : stateOf st line table old new ≡ ranOf running (start r) x
   pub wrote : w ≡ toldOf running (start r) x
 
-begins : (r : Running) (st : Reader) (line : List ℕ) (table : List Float) (old new : List ℕ) → stateOf st line table old new ≡ start r → So r st line table old new [] []
+begins : (r : Running) (st : Reader) (line : List ℕ) (table : List Float) (old new : List ℕ) → stateOf st line table old new ≡ start r
+    → So r st line table old new [] []
 unfolding ranOf toldOf
 begins r st line table old new e = record { state = e; wrote = refl }
 
-pub line-program-begins : Keeps line_program.Learnt (λ κs a z e. (line : List ℕ) (table : List Float) (old new : List ℕ) → So (asking none) z line table old new [] [])
+pub line-program-begins : Keeps line_program.Learnt
+    (λ κs a z e. (line : List ℕ) (table : List Float) (old new : List ℕ) → So (asking none) z line table old new [] [])
 line-program-begins κs a z e p line table old new = begins (asking none) z line table old new (p .begun line table old new)
 
-pub sheet-program-begins : Keeps sheet_program.Learnt (λ κs a z e. (line : List ℕ) (table : List Float) (old new : List ℕ) → So (reading unbegun) z line table old new [] [])
+pub sheet-program-begins : Keeps sheet_program.Learnt
+    (λ κs a z e. (line : List ℕ) (table : List Float) (old new : List ℕ) → So (reading unbegun) z line table old new [] [])
 sheet-program-begins κs a z e p line table old new = begins (reading unbegun) z line table old new (p .begun line table old new)
 
-pub decimals-program-begins : Keeps decimals_program.Learnt (λ κs a z e. (line : List ℕ) (table : List Float) (old new : List ℕ) → So showing z line table old new [] [])
+pub decimals-program-begins : Keeps decimals_program.Learnt
+    (λ κs a z e. (line : List ℕ) (table : List Float) (old new : List ℕ) → So showing z line table old new [] [])
 decimals-program-begins κs a z e p line table old new = begins showing z line table old new (p .begun line table old new)
 
-pub claims-program-begins : Keeps claims_program.Learnt (λ κs a z e. (line : List ℕ) (table : List Float) (old new : List ℕ) → So (claiming none) z line table old new [] [])
+pub claims-program-begins : Keeps claims_program.Learnt
+    (λ κs a z e. (line : List ℕ) (table : List Float) (old new : List ℕ) → So (claiming none) z line table old new [] [])
 claims-program-begins κs a z e p line table old new = begins (claiming none) z line table old new (p .begun line table old new)
 
 pub compare-program-begins : Keeps compare_program.Learnt
@@ -113,7 +126,8 @@ pub picture-program-begins : Keeps picture_program.Learnt
 picture-program-begins κs a z e p line table old new = begins (drawing nothingDrawn) z line table old new (p .begun line table old new)
 
 pub feed-goes-on : Keeps feed.Learnt
-    (λ κs a z e. (r : Running) (x w : List ℕ) → So r (a .0) (now (a .1 .1 .0)) (now (a .1 .1 .1 .0)) (now (a .1 .1 .1 .1 .1 .0)) (now (a .1 .1 .1 .1 .1 .1 .0)) x w
+    (λ κs a z e. (r : Running) (x w : List ℕ)
+    → So r (a .0) (now (a .1 .1 .0)) (now (a .1 .1 .1 .0)) (now (a .1 .1 .1 .1 .1 .0)) (now (a .1 .1 .1 .1 .1 .1 .0)) x w
     → So r (z .st) (now (e .1 .1 .0)) (now (e .1 .1 .1 .0)) (now (e .1 .1 .1 .1 .1 .0)) (now (e .1 .1 .1 .1 .1 .1 .0)) (x ++ take (z .next) (now (a .1 .0)))
     (w ++ take (z .at) (now (e .1 .1 .1 .1 .1 .1 .1 .0))))
 feed-goes-on κs a z e p r x w s =
@@ -128,7 +142,8 @@ feed-goes-on κs a z e p r x w s =
 
 -- at the end, where `finish` writes from place 0 on
 pub finish-ends : Keeps finish.Learnt
-    (λ κs a z e. (r : Running) (x w : List ℕ) → So r (a .0) (now (a .1 .0)) (now (a .1 .1 .0)) (now (a .1 .1 .1 .1 .0)) (now (a .1 .1 .1 .1 .1 .0)) x w → a .1 .1 .1 .1 .1 .1 .1 .0 ≡ 0
+    (λ κs a z e. (r : Running) (x w : List ℕ) → So r (a .0) (now (a .1 .0)) (now (a .1 .1 .0)) (now (a .1 .1 .1 .1 .0)) (now (a .1 .1 .1 .1 .1 .0)) x w
+    → a .1 .1 .1 .1 .1 .1 .1 .0 ≡ 0
     → w ++ take z (now (e .1 .1 .1 .1 .1 .1 .0)) ≡ outputOf running r x)
 finish-ends κs a z e p r x w s n =
     let o = now (a .1 .1 .1 .1 .1 .1 .0) in

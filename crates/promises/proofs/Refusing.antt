@@ -110,25 +110,34 @@ pub value-refused : (b : Basis) (x : Float) (ks : List Float) (r : Refusal) → 
 unfolding splineOf
 value-refused b x ks r = two-ways (by-evaluated (first (splineUses b x ks)) (curveValue b x ks) r) (by-first (splineUses b x ks) r)
 
-pub segment-value-refused : (b : Basis) (x : Float) (cv : List Float) (r : Refusal) → Exactly (splineSegmentOf b x cv ≡ E.Refused r) (First (splineSegmentUses x cv) rows r)
+pub segment-value-refused : (b : Basis) (x : Float) (cv : List Float) (r : Refusal)
+    → Exactly (splineSegmentOf b x cv ≡ E.Refused r) (First (splineSegmentUses x cv) rows r)
 unfolding splineSegmentOf
-segment-value-refused b x cv r = two-ways (by-evaluated (first (splineSegmentUses x cv)) (segmentValue (matrixOf b) cv x) r) (by-first (splineSegmentUses x cv) r)
+segment-value-refused b x cv r =
+    two-ways (by-evaluated (first (splineSegmentUses x cv)) (segmentValue (matrixOf b) cv x) r) (by-first (splineSegmentUses x cv) r)
 
-pub segment-place-refused : (R : Rule) (b : Basis) (y : Float) (cv : List Float) (limit : ℕ) (ε : Float) (r : Refusal) → Exactly (inverseSegmentBy R b y cv limit ε ≡ I.Refused r) (First (inverseSegmentUses y cv limit ε) rows r)
+pub segment-place-refused : (R : Rule) (b : Basis) (y : Float) (cv : List Float) (limit : ℕ) (ε : Float) (r : Refusal)
+    → Exactly (inverseSegmentBy R b y cv limit ε ≡ I.Refused r) (First (inverseSegmentUses y cv limit ε) rows r)
 unfolding inverseSegmentBy
 segment-place-refused R b y cv limit ε r =
-    two-ways (by-inverted (first (inverseSegmentUses y cv limit ε)) alone (outcomeOf (enter R (segmentOf b cv 0) 0 y ε limit [])) r) (by-first (inverseSegmentUses y cv limit ε) r)
+    two-ways (by-inverted (first (inverseSegmentUses y cv limit ε)) alone (outcomeOf (enter R (segmentOf b cv 0) 0 y ε limit [])) r)
+    (by-first (inverseSegmentUses y cv limit ε) r)
 
-pub place-refused : (b : Basis) (y : Float) (ks : List Float) (check : Bool) (limit : ℕ) (ε : Float) (r : Refusal) → Exactly (inverseOf b y ks check limit ε ≡ I.Refused r) (First (inverseUses b y ks check limit ε) rows r)
+pub place-refused : (b : Basis) (y : Float) (ks : List Float) (check : Bool) (limit : ℕ) (ε : Float) (r : Refusal)
+    → Exactly (inverseOf b y ks check limit ε ≡ I.Refused r) (First (inverseUses b y ks check limit ε) rows r)
 place-refused b y ks check limit ε r = (inverse-refused-only Knots AsCrate b y ks check limit ε r, inverse-refused-where Knots AsCrate b y ks check limit ε r)
 
-pub segment-conversion-refused : (from to : Basis) (cv : List Float) (room : ℕ) (r : Refusal) → Exactly (answerOf (convertedSegmentOf from to cv room) ≡ C.Refused r) (First (convertSegmentUses to cv room) rows r)
+pub segment-conversion-refused : (from to : Basis) (cv : List Float) (room : ℕ) (r : Refusal)
+    → Exactly (answerOf (convertedSegmentOf from to cv room) ≡ C.Refused r) (First (convertSegmentUses to cv room) rows r)
 unfolding convertedSegmentOf
-segment-conversion-refused from to cv room r = two-ways (by-answer (first (convertSegmentUses to cv room)) (segmentOutput from to cv) r) (by-first (convertSegmentUses to cv room) r)
+segment-conversion-refused from to cv room r =
+    two-ways (by-answer (first (convertSegmentUses to cv room)) (segmentOutput from to cv) r) (by-first (convertSegmentUses to cv room) r)
 
-pub conversion-refused : (from to : Basis) (ks : List Float) (room : ℕ) (r : Refusal) → Exactly (answerOf (convertedOf from to ks room) ≡ C.Refused r) (First (convertUses from to ks room) rows r)
+pub conversion-refused : (from to : Basis) (ks : List Float) (room : ℕ) (r : Refusal)
+    → Exactly (answerOf (convertedOf from to ks room) ≡ C.Refused r) (First (convertUses from to ks room) rows r)
 unfolding convertedOf
-conversion-refused from to ks room r = two-ways (by-answer (first (convertUses from to ks room)) (splineOutput from to ks) r) (by-first (convertUses from to ks room) r)
+conversion-refused from to ks room r =
+    two-ways (by-answer (first (convertUses from to ks room)) (splineOutput from to ks) r) (by-first (convertUses from to ks room) r)
 
 -- ---- and so do the calls
 pub carried : {Z : Type 0} {z d t : Z} {Q : Type 0} → z ≡ d → Exactly (d ≡ t) Q → Exactly (z ≡ t) Q
@@ -137,12 +146,14 @@ carried e x = (λ p. x .0 (sym e ∙ p), λ q. e ∙ x .1 q)
 pub spline-refuses : Keeps spline.Learnt (λ κs a z e. (r : Refusal) → Exactly (z ≡ E.Refused r) (First (splineUses (a .0) (a .1 .0) (now (a .1 .1 .0))) rows r))
 spline-refuses κs a z e p r = carried p (value-refused (a .0) (a .1 .0) (now (a .1 .1 .0)) r)
 
-pub spline-segment-refuses : Keeps spline_segment.Learnt (λ κs a z e. (r : Refusal) → Exactly (z ≡ E.Refused r) (First (splineSegmentUses (a .1 .0) (now (a .1 .1 .0))) rows r))
+pub spline-segment-refuses : Keeps spline_segment.Learnt
+    (λ κs a z e. (r : Refusal) → Exactly (z ≡ E.Refused r) (First (splineSegmentUses (a .1 .0) (now (a .1 .1 .0))) rows r))
 spline-segment-refuses κs a z e p r = carried p (segment-value-refused (a .0) (a .1 .0) (now (a .1 .1 .0)) r)
 
 pub spline-inverse-segment-with-refuses : Keeps spline_inverse_segment_with.Learnt
     (λ κs a z e. (r : Refusal) → Exactly (z ≡ I.Refused r) (First (inverseSegmentUses (a .1 .0) (now (a .1 .1 .0)) (a .1 .1 .1 .0) (a .1 .1 .1 .1 .0)) rows r))
-spline-inverse-segment-with-refuses κs a z e p r = carried p (segment-place-refused asCrate (a .0) (a .1 .0) (now (a .1 .1 .0)) (a .1 .1 .1 .0) (a .1 .1 .1 .1 .0) r)
+spline-inverse-segment-with-refuses κs a z e p r =
+    carried p (segment-place-refused asCrate (a .0) (a .1 .0) (now (a .1 .1 .0)) (a .1 .1 .1 .0) (a .1 .1 .1 .1 .0) r)
 
 pub spline-inverse-segment-refuses : Keeps spline_inverse_segment.Learnt
     (λ κs a z e. (r : Refusal) → Exactly (z ≡ I.Refused r) (First (inverseSegmentUses (a .1 .0) (now (a .1 .1 .0)) defaultLimit defaultPrecision) rows r))
@@ -150,18 +161,29 @@ spline-inverse-segment-refuses κs a z e p r = carried p (segment-place-refused 
 
 pub spline-inverse-segment-by-refuses : Keeps spline_inverse_segment_by.Learnt
     (λ κs a z e. (r : Refusal) → Exactly (z ≡ I.Refused r) (First (inverseSegmentUses (a .1 .0) (now (a .1 .1 .0)) (a .1 .1 .1 .0) (a .1 .1 .1 .1 .0)) rows r))
-spline-inverse-segment-by-refuses κs a z e p r = carried p (segment-place-refused (ruleOf (a .1 .1 .1 .1 .1 .0)) (a .0) (a .1 .0) (now (a .1 .1 .0)) (a .1 .1 .1 .0) (a .1 .1 .1 .1 .0) r)
+spline-inverse-segment-by-refuses κs a z e p r =
+    carried p (segment-place-refused (ruleOf (a .1 .1 .1 .1 .1 .0)) (a .0) (a .1 .0) (now (a .1 .1 .0)) (a .1 .1 .1 .0) (a .1 .1 .1 .1 .0) r)
 
 pub spline-inverse-by-refuses : Keeps spline_inverse_by.Learnt
-    (λ κs a z e. (r : Refusal) → Exactly (z ≡ I.Refused r) (First (inverseUses (a .1 .0) (a .1 .1 .0) (now (a .1 .1 .1 .0)) (a .0 .check) (a .0 .limit) (a .0 .precision)) rows r))
-spline-inverse-by-refuses κs a z e p r = carried p (inverse-refused-only (a .0 .ends) (a .0 .method) (a .1 .0) (a .1 .1 .0) (now (a .1 .1 .1 .0)) (a .0 .check) (a .0 .limit) (a .0 .precision) r, inverse-refused-where (a .0 .ends) (a .0 .method) (a .1 .0) (a .1 .1 .0) (now (a .1 .1 .1 .0)) (a .0 .check) (a .0 .limit) (a .0 .precision) r)
+    (λ κs a z e. (r : Refusal)
+    → Exactly (z ≡ I.Refused r) (First (inverseUses (a .1 .0) (a .1 .1 .0) (now (a .1 .1 .1 .0)) (a .0 .check) (a .0 .limit) (a .0 .precision)) rows r))
+spline-inverse-by-refuses κs a z e p r =
+    carried p (
+      inverse-refused-only (a .0 .ends) (a .0 .method) (a .1 .0) (a .1 .1 .0) (now (a .1 .1 .1 .0)) (a .0 .check) (a .0 .limit) (a .0 .precision)
+          r,
+      inverse-refused-where (a .0 .ends) (a .0 .method) (a .1 .0) (a .1 .1 .0) (now (a .1 .1 .1 .0)) (a .0 .check) (a .0 .limit) (a .0 .precision) r,
+    )
 
 pub spline-inverse-with-refuses : Keeps spline_inverse_with.Learnt
-    (λ κs a z e. (r : Refusal) → Exactly (z ≡ I.Refused r) (First (inverseUses (a .0) (a .1 .0) (now (a .1 .1 .0)) (a .1 .1 .1 .0) (a .1 .1 .1 .1 .0) (a .1 .1 .1 .1 .1 .0)) rows r))
-spline-inverse-with-refuses κs a z e p r = carried p (place-refused (a .0) (a .1 .0) (now (a .1 .1 .0)) (a .1 .1 .1 .0) (a .1 .1 .1 .1 .0) (a .1 .1 .1 .1 .1 .0) r)
+    (λ κs a z e. (r : Refusal)
+    → Exactly (z ≡ I.Refused r)
+    (First (inverseUses (a .0) (a .1 .0) (now (a .1 .1 .0)) (a .1 .1 .1 .0) (a .1 .1 .1 .1 .0) (a .1 .1 .1 .1 .1 .0)) rows r))
+spline-inverse-with-refuses κs a z e p r =
+    carried p (place-refused (a .0) (a .1 .0) (now (a .1 .1 .0)) (a .1 .1 .1 .0) (a .1 .1 .1 .1 .0) (a .1 .1 .1 .1 .1 .0) r)
 
 pub spline-inverse-refuses : Keeps spline_inverse.Learnt
-    (λ κs a z e. (r : Refusal) → Exactly (z ≡ I.Refused r) (First (inverseUses (a .0) (a .1 .0) (now (a .1 .1 .0)) (a .1 .1 .1 .0) defaultLimit defaultPrecision) rows r))
+    (λ κs a z e. (r : Refusal)
+    → Exactly (z ≡ I.Refused r) (First (inverseUses (a .0) (a .1 .0) (now (a .1 .1 .0)) (a .1 .1 .1 .0) defaultLimit defaultPrecision) rows r))
 spline-inverse-refuses κs a z e p r = carried p (place-refused (a .0) (a .1 .0) (now (a .1 .1 .0)) (a .1 .1 .1 .0) defaultLimit defaultPrecision r)
 
 pub convert-segment-refuses : Keeps convert_segment.Learnt

@@ -19,5 +19,7 @@ module _ (E : Trial) (y : Float) (rising : Bool) (k n : ℕ) where
   unfolding halve
   at-most-half l c ev t v e =
       let m = l + c / 2 in
-      subst (λ (z : Entry). HalfOpen l c t (orElse z (λ v t. cond (before rising y v) (halve E y rising k n l (c / 2) t) (halve E y rising k n (suc m) (c - c / 2) t)))) (sym e)
-      (branch (HalfOpen l c t) (before rising y v) (λ _. (l, (c / 2, (omega arith, omega arith, omega arith, refl)))) (λ _. (suc m, (c - c / 2, (omega arith, omega arith, omega arith, refl)))))
+      subst (λ (z : Entry). HalfOpen l c t
+      (orElse z (λ v t. cond (before rising y v) (halve E y rising k n l (c / 2) t) (halve E y rising k n (suc m) (c - c / 2) t)))) (sym e)
+      (branch (HalfOpen l c t) (before rising y v) (λ _. (l, (c / 2, (omega arith, omega arith, omega arith, refl))))
+      (λ _. (suc m, (c - c / 2, (omega arith, omega arith, omega arith, refl)))))

@@ -40,7 +40,18 @@ use Rattle.table.specs.declared.Timed.the-variants as T
 use Rattle.table.specs.declared.Handed.{Handed}
 use Rattle.table.specs.declared.Handed.the-variants as H
 use Rattle.table.specs.Second.{goodSpan, badSpan, elapsed, secondOf}
-use Rattle.table.specs.Calls.{verdictOf, valueUnless, tableSplineOf, timedOf, timedUnless, tableInverseBy, conversionUnless, tableConvertedOf, tableStrictOf, handedOf}
+use Rattle.table.specs.Calls.{
+  verdictOf,
+  valueUnless,
+  tableSplineOf,
+  timedOf,
+  timedUnless,
+  tableInverseBy,
+  conversionUnless,
+  tableConvertedOf,
+  tableStrictOf,
+  handedOf,
+}
 use Rattle.table.proofs.Spans.{good-least, good-verdict, spline-base, inverse-base, converted-base}
 use Rattle.table.proofs.Largest.{Largest, second-largest}
 use Rattle.table.proofs.table_spline.Reads as table_spline
@@ -84,11 +95,15 @@ pub table-spline-base : Keeps table_spline.Learnt (λ κs a z e. goodSpan (a .0 
 table-spline-base κs a z e p g = p ∙ spline-base (a .0) (a .1 .0) (now (a .1 .1 .0)) g
 
 pub table-spline-inverse-by-base : Keeps table_spline_inverse_by.Learnt
-    (λ κs a z e. goodSpan (a .1 .0 .span) ≡ true → z ≡ timedOf (a .1 .0 .span) (inverseBy (a .0 .ends) (a .0 .method) (a .1 .0 .basis) (a .1 .1 .0) (now (a .1 .1 .1 .0)) (a .0 .check) (a .0 .limit) (a .0 .precision)))
-table-spline-inverse-by-base κs a z e p g = p ∙ inverse-base (a .0 .ends) (a .0 .method) (a .1 .0) (a .1 .1 .0) (now (a .1 .1 .1 .0)) (a .0 .check) (a .0 .limit) (a .0 .precision) g
+    (λ κs a z e. goodSpan (a .1 .0 .span) ≡ true
+    → z ≡ timedOf (a .1 .0 .span)
+    (inverseBy (a .0 .ends) (a .0 .method) (a .1 .0 .basis) (a .1 .1 .0) (now (a .1 .1 .1 .0)) (a .0 .check) (a .0 .limit) (a .0 .precision)))
+table-spline-inverse-by-base κs a z e p g =
+    p ∙ inverse-base (a .0 .ends) (a .0 .method) (a .1 .0) (a .1 .1 .0) (now (a .1 .1 .1 .0)) (a .0 .check) (a .0 .limit) (a .0 .precision) g
 
 pub table-spline-inverse-base : Keeps table_spline_inverse.Learnt
-    (λ κs a z e. goodSpan (a .0 .span) ≡ true → z ≡ timedOf (a .0 .span) (inverseBy Knots AsCrate (a .0 .basis) (a .1 .0) (now (a .1 .1 .0)) (a .1 .1 .1 .0) defaultLimit defaultPrecision))
+    (λ κs a z e. goodSpan (a .0 .span) ≡ true
+    → z ≡ timedOf (a .0 .span) (inverseBy Knots AsCrate (a .0 .basis) (a .1 .0) (now (a .1 .1 .0)) (a .1 .1 .1 .0) defaultLimit defaultPrecision))
 table-spline-inverse-base κs a z e p g = p ∙ inverse-base Knots AsCrate (a .0) (a .1 .0) (now (a .1 .1 .0)) (a .1 .1 .1 .0) defaultLimit defaultPrecision g
 
 -- reply and buffer; the new table has the old one's span
@@ -138,10 +153,12 @@ module _ (t : Table) (r : Refusal) where
       let us = splineUses (t .basis) x ks in
       failed-passed (first-complete rows us r (value-refused (t .basis) x ks r .0 h)) (sym (good-verdict t us refl (passes t us e)) ∙ e)
 
-  pub table-value-refused : (x : Float) (ks : List Float) → Exactly (tableSplineOf t x ks ≡ E.Refused r) (First (badSpan (t .span) ∷ splineUses (t .basis) x ks) rows r)
+  pub table-value-refused : (x : Float) (ks : List Float)
+      → Exactly (tableSplineOf t x ks ≡ E.Refused r) (First (badSpan (t .span) ∷ splineUses (t .basis) x ks) rows r)
   unfolding tableSplineOf
   table-value-refused x ks =
-      two-ways (by-value (verdictOf t (splineUses (t .basis) x ks)) (splineOf (t .basis) x ks) r (value-past x ks)) (by-first (badSpan (t .span) ∷ splineUses (t .basis) x ks) r)
+      two-ways (by-value (verdictOf t (splineUses (t .basis) x ks)) (splineOf (t .basis) x ks) r (value-past x ks))
+      (by-first (badSpan (t .span) ∷ splineUses (t .basis) x ks) r)
 
   timed-refused : (s : ℕ) (i : Inverted) → timedOf s i ≡ T.Refused r → i ≡ I.Refused r
   timed-refused s (I.Refused q) h = let z : q ≡ r = cc in ap I.Refused z
@@ -149,16 +166,19 @@ module _ (t : Table) (r : Refusal) where
   timed-refused s (I.At p) h = never (cc)
 
   module _ (m : EndsBy) (how : Method) (y : Float) (ks : List Float) (check : Bool) (limit : ℕ) (ε : Float) where
-    place-past : verdictOf t (inverseUses (t .basis) y ks check limit ε) ≡ Passed → timedOf (t .span) (inverseBy m how (t .basis) y ks check limit ε) ≡ T.Refused r → ⊥
+    place-past : verdictOf t (inverseUses (t .basis) y ks check limit ε) ≡ Passed
+        → timedOf (t .span) (inverseBy m how (t .basis) y ks check limit ε) ≡ T.Refused r → ⊥
     place-past e h =
         let us = inverseUses (t .basis) y ks check limit ε in
         let f = inverse-refused-only m how (t .basis) y ks check limit ε r (timed-refused (t .span) (inverseBy m how (t .basis) y ks check limit ε) h) in
         failed-passed (first-complete rows us r f) (sym (good-verdict t us refl (passes t us e)) ∙ e)
 
-    pub table-place-refused : Exactly (tableInverseBy m how t y ks check limit ε ≡ T.Refused r) (First (badSpan (t .span) ∷ inverseUses (t .basis) y ks check limit ε) rows r)
+    pub table-place-refused : Exactly (tableInverseBy m how t y ks check limit ε ≡ T.Refused r)
+        (First (badSpan (t .span) ∷ inverseUses (t .basis) y ks check limit ε) rows r)
     unfolding tableInverseBy
     table-place-refused =
-        two-ways (by-timed (verdictOf t (inverseUses (t .basis) y ks check limit ε)) (timedOf (t .span) (inverseBy m how (t .basis) y ks check limit ε)) r place-past)
+        two-ways (by-timed (verdictOf t (inverseUses (t .basis) y ks check limit ε)) (timedOf (t .span) (inverseBy m how (t .basis) y ks check limit ε)) r
+        place-past)
         (by-first (badSpan (t .span) ∷ inverseUses (t .basis) y ks check limit ε) r)
 
   -- of any rows that have no use for 14, and any doubles
@@ -166,32 +186,45 @@ module _ (t : Table) (r : Refusal) where
     conversion-past : verdictOf t us ≡ Passed → answerOf (unless (first us) l) ≡ C.Refused r → ⊥
     conversion-past e = subst (λ (v : Verdict). answerOf (unless v l) ≡ C.Refused r → ⊥) (sym e ∙ good-verdict t us h (passes t us e)) (λ p. never (cc))
 
-    pub handed-refused : Exactly (handedOf (t .span) to (answerOf (conversionUnless (verdictOf t us) (unless (first us) l))) ≡ H.Refused r) (First (badSpan (t .span) ∷ us) rows r)
+    pub handed-refused : Exactly (handedOf (t .span) to (answerOf (conversionUnless (verdictOf t us) (unless (first us) l))) ≡ H.Refused r)
+        (First (badSpan (t .span) ∷ us) rows r)
     handed-refused = two-ways (by-handed (t .span) to (verdictOf t us) (unless (first us) l) r conversion-past) (by-first (badSpan (t .span) ∷ us) r)
 
   pub table-conversion-refused : (to : Basis) (ks : List Float) (room : ℕ)
-      → Exactly (handedOf (t .span) to (answerOf (tableConvertedOf t to ks room)) ≡ H.Refused r) (First (badSpan (t .span) ∷ convertUses (t .basis) to ks room) rows r)
+      → Exactly (handedOf (t .span) to (answerOf (tableConvertedOf t to ks room)) ≡ H.Refused r)
+      (First (badSpan (t .span) ∷ convertUses (t .basis) to ks room) rows r)
   unfolding tableConvertedOf convertedOf
   table-conversion-refused to ks room = handed-refused to (convertUses (t .basis) to ks room) refl _
 
   pub table-strict-refused : (to : Basis) (ks : List Float) (allowance : Float) (room : ℕ)
-      → Exactly (handedOf (t .span) to (answerOf (tableStrictOf t to ks allowance room)) ≡ H.Refused r) (First (badSpan (t .span) ∷ strictUses (t .basis) to ks allowance room) rows r)
+      → Exactly (handedOf (t .span) to (answerOf (tableStrictOf t to ks allowance room)) ≡ H.Refused r)
+      (First (badSpan (t .span) ∷ strictUses (t .basis) to ks allowance room) rows r)
   unfolding tableStrictOf strictOf
   table-strict-refused to ks allowance room = handed-refused to (strictUses (t .basis) to ks allowance room) refl _
 
-pub table-spline-refuses : Keeps table_spline.Learnt (λ κs a z e. (r : Refusal) → Exactly (z ≡ E.Refused r) (First (badSpan (a .0 .span) ∷ splineUses (a .0 .basis) (a .1 .0) (now (a .1 .1 .0))) rows r))
+pub table-spline-refuses : Keeps table_spline.Learnt
+    (λ κs a z e. (r : Refusal) → Exactly (z ≡ E.Refused r) (First (badSpan (a .0 .span) ∷ splineUses (a .0 .basis) (a .1 .0) (now (a .1 .1 .0))) rows r))
 table-spline-refuses κs a z e p r = carried p (table-value-refused (a .0) r (a .1 .0) (now (a .1 .1 .0)))
 
 pub table-spline-inverse-by-refuses : Keeps table_spline_inverse_by.Learnt
-    (λ κs a z e. (r : Refusal) → Exactly (z ≡ T.Refused r) (First (badSpan (a .1 .0 .span) ∷ inverseUses (a .1 .0 .basis) (a .1 .1 .0) (now (a .1 .1 .1 .0)) (a .0 .check) (a .0 .limit) (a .0 .precision)) rows r))
-table-spline-inverse-by-refuses κs a z e p r = carried p (table-place-refused (a .1 .0) r (a .0 .ends) (a .0 .method) (a .1 .1 .0) (now (a .1 .1 .1 .0)) (a .0 .check) (a .0 .limit) (a .0 .precision))
+    (λ κs a z e. (r : Refusal)
+    → Exactly (z ≡ T.Refused r)
+    (First (badSpan (a .1 .0 .span) ∷ inverseUses (a .1 .0 .basis) (a .1 .1 .0) (now (a .1 .1 .1 .0)) (a .0 .check) (a .0 .limit) (a .0 .precision))
+    rows r))
+table-spline-inverse-by-refuses κs a z e p r =
+    carried p (table-place-refused (a .1 .0) r (a .0 .ends) (a .0 .method) (a .1 .1 .0) (now (a .1 .1 .1 .0)) (a .0 .check) (a .0 .limit) (a .0 .precision))
 
 pub table-spline-inverse-refuses : Keeps table_spline_inverse.Learnt
-    (λ κs a z e. (r : Refusal) → Exactly (z ≡ T.Refused r) (First (badSpan (a .0 .span) ∷ inverseUses (a .0 .basis) (a .1 .0) (now (a .1 .1 .0)) (a .1 .1 .1 .0) defaultLimit defaultPrecision) rows r))
-table-spline-inverse-refuses κs a z e p r = carried p (table-place-refused (a .0) r Knots AsCrate (a .1 .0) (now (a .1 .1 .0)) (a .1 .1 .1 .0) defaultLimit defaultPrecision)
+    (λ κs a z e. (r : Refusal)
+    → Exactly (z ≡ T.Refused r)
+    (First (badSpan (a .0 .span) ∷ inverseUses (a .0 .basis) (a .1 .0) (now (a .1 .1 .0)) (a .1 .1 .1 .0) defaultLimit defaultPrecision) rows r))
+table-spline-inverse-refuses κs a z e p r =
+    carried p (table-place-refused (a .0) r Knots AsCrate (a .1 .0) (now (a .1 .1 .0)) (a .1 .1 .1 .0) defaultLimit defaultPrecision)
 
 pub table-convert-spline-refuses : Keeps table_convert_spline.Learnt
-    (λ κs a z e. (r : Refusal) → Exactly (z ≡ H.Refused r) (First (badSpan (a .0 .span) ∷ convertUses (a .0 .basis) (a .1 .0) (now (a .1 .1 .0)) (length (now (a .1 .1 .1 .0)))) rows r))
+    (λ κs a z e. (r : Refusal)
+    → Exactly (z ≡ H.Refused r)
+    (First (badSpan (a .0 .span) ∷ convertUses (a .0 .basis) (a .1 .0) (now (a .1 .1 .0)) (length (now (a .1 .1 .1 .0)))) rows r))
 table-convert-spline-refuses κs a z e p r = carried (p .0) (table-conversion-refused (a .0) r (a .1 .0) (now (a .1 .1 .0)) (length (now (a .1 .1 .1 .0))))
 
 -- ---- a refusal writes nothing
@@ -199,15 +232,19 @@ pub kept : (s : ℕ) (to : Basis) (c : Conversion) (out : List Float) (r : Refus
 kept s to (gives l) out r p = never (cc)
 kept s to (refuses q) out r p = refl
 
-pub table-convert-spline-writes-nothing : Keeps table_convert_spline.Learnt (λ κs a z e. (r : Refusal) → z ≡ H.Refused r → now (e .1 .1 .1 .0) ≡ now (a .1 .1 .1 .0))
+pub table-convert-spline-writes-nothing : Keeps table_convert_spline.Learnt
+    (λ κs a z e. (r : Refusal) → z ≡ H.Refused r → now (e .1 .1 .1 .0) ≡ now (a .1 .1 .1 .0))
 table-convert-spline-writes-nothing κs a z e p r h =
-    p .1 ∙ kept (a .0 .span) (a .1 .0) (tableConvertedOf (a .0) (a .1 .0) (now (a .1 .1 .0)) (length (now (a .1 .1 .1 .0)))) (now (a .1 .1 .1 .0)) r (sym (p .0) ∙ h)
+    p .1
+    ∙ kept (a .0 .span) (a .1 .0) (tableConvertedOf (a .0) (a .1 .0) (now (a .1 .1 .0)) (length (now (a .1 .1 .1 .0)))) (now (a .1 .1 .1 .0)) r
+    (sym (p .0) ∙ h)
 
 -- ---- the second that is told
 pub at-second : (s : ℕ) (i : Inverted) (p : Place) (n : ℕ) → timedOf s i ≡ T.At p n → (i ≡ I.At p) × (n ≡ secondOf s (p .parameter))
 at-second s (I.Refused r) p n h = never (cc)
 at-second s (I.OffCurve m) p n h = never (cc)
-at-second s (I.At q) p n h = let e : q ≡ p = cc in let f : secondOf s (q .parameter) ≡ n = cc in (ap I.At e, sym f ∙ ap (λ (x : Place). secondOf s (x .parameter)) e)
+at-second s (I.At q) p n h = let e : q ≡ p = cc in let f : secondOf s (q .parameter) ≡ n = cc
+    in (ap I.At e, sym f ∙ ap (λ (x : Place). secondOf s (x .parameter)) e)
 
 pub past : (v : Verdict) (a : Timed) (p : Place) (n : ℕ) → timedUnless v a ≡ T.At p n → (v ≡ Passed) × (a ≡ T.At p n)
 past Passed a p n h = (refl, h)
@@ -225,8 +262,12 @@ module _ (m : EndsBy) (how : Method) (t : Table) (y : Float) (ks : List Float) (
       subst (λ (k : ℕ). Largest (t .span) (elapsed (t .span) (p .parameter)) k) (sym (s .1))
       (second-largest (t .span) (p .parameter) (good-least (t .span) (passes t us (w .0)) .1) (proper .parameter))
 
-pub table-spline-inverse-by-second : Keeps table_spline_inverse_by.Learnt (λ κs a z e. (p : Place) (n : ℕ) → z ≡ T.At p n → Largest (a .1 .0 .span) (elapsed (a .1 .0 .span) (p .parameter)) n)
-table-spline-inverse-by-second κs a z e p q n h = second-is-largest (a .0 .ends) (a .0 .method) (a .1 .0) (a .1 .1 .0) (now (a .1 .1 .1 .0)) (a .0 .check) (a .0 .limit) (a .0 .precision) q n (sym p ∙ h)
+pub table-spline-inverse-by-second : Keeps table_spline_inverse_by.Learnt
+    (λ κs a z e. (p : Place) (n : ℕ) → z ≡ T.At p n → Largest (a .1 .0 .span) (elapsed (a .1 .0 .span) (p .parameter)) n)
+table-spline-inverse-by-second κs a z e p q n h =
+    second-is-largest (a .0 .ends) (a .0 .method) (a .1 .0) (a .1 .1 .0) (now (a .1 .1 .1 .0)) (a .0 .check) (a .0 .limit) (a .0 .precision) q n (sym p ∙ h)
 
-pub table-spline-inverse-second : Keeps table_spline_inverse.Learnt (λ κs a z e. (p : Place) (n : ℕ) → z ≡ T.At p n → Largest (a .0 .span) (elapsed (a .0 .span) (p .parameter)) n)
-table-spline-inverse-second κs a z e p q n h = second-is-largest Knots AsCrate (a .0) (a .1 .0) (now (a .1 .1 .0)) (a .1 .1 .1 .0) defaultLimit defaultPrecision q n (sym p ∙ h)
+pub table-spline-inverse-second : Keeps table_spline_inverse.Learnt
+    (λ κs a z e. (p : Place) (n : ℕ) → z ≡ T.At p n → Largest (a .0 .span) (elapsed (a .0 .span) (p .parameter)) n)
+table-spline-inverse-second κs a z e p q n h =
+    second-is-largest Knots AsCrate (a .0) (a .1 .0) (now (a .1 .1 .0)) (a .1 .1 .1 .0) defaultLimit defaultPrecision q n (sym p ∙ h)

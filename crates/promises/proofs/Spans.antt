@@ -59,20 +59,28 @@ one p q = p ∙ sym q
 pub c-table-spline-one-reply : OneReply table_spline.Learnt (λ κs z e z′ e′. (z ≡ z′) × (now (e .1 .1 .1 .1 .0) ≡ now (e′ .1 .1 .1 .1 .0)))
 c-table-spline-one-reply κs a z z′ e e′ p q = (one (p .0) (q .0), one (p .1) (q .1))
 
-pub c-table-spline-inverse-one-reply : OneReply table_spline_inverse.Learnt (λ κs z e z′ e′. (z ≡ z′) × (now (e .1 .1 .1 .1 .1 .0) ≡ now (e′ .1 .1 .1 .1 .1 .0)) × (now (e .1 .1 .1 .1 .1 .1 .0) ≡ now (e′ .1 .1 .1 .1 .1 .1 .0)))
+pub c-table-spline-inverse-one-reply : OneReply table_spline_inverse.Learnt
+    (λ κs z e z′ e′. (z ≡ z′) × (now (e .1 .1 .1 .1 .1 .0) ≡ now (e′ .1 .1 .1 .1 .1 .0)) × (now (e .1 .1 .1 .1 .1 .1 .0) ≡ now (e′ .1 .1 .1 .1 .1 .1 .0)))
 c-table-spline-inverse-one-reply κs a z z′ e e′ p q = (one (p .0) (q .0), one (p .1 .0) (q .1 .0), one (p .1 .1) (q .1 .1))
 
-pub c-table-spline-inverse-by-one-reply : OneReply table_spline_inverse_by.Learnt (λ κs z e z′ e′. (z ≡ z′) × (now (e .1 .1 .1 .1 .1 .1 .1 .1 .1 .0) ≡ now (e′ .1 .1 .1 .1 .1 .1 .1 .1 .1 .0)) × (now (e .1 .1 .1 .1 .1 .1 .1 .1 .1 .1 .0) ≡ now (e′ .1 .1 .1 .1 .1 .1 .1 .1 .1 .1 .0)))
+pub c-table-spline-inverse-by-one-reply : OneReply table_spline_inverse_by.Learnt
+    (λ κs z e z′ e′. (z ≡ z′) × (now (e .1 .1 .1 .1 .1 .1 .1 .1 .1 .0) ≡ now (e′ .1 .1 .1 .1 .1 .1 .1 .1 .1 .0))
+    × (now (e .1 .1 .1 .1 .1 .1 .1 .1 .1 .1 .0) ≡ now (e′ .1 .1 .1 .1 .1 .1 .1 .1 .1 .1 .0)))
 c-table-spline-inverse-by-one-reply κs a z z′ e e′ p q = (one (p .0) (q .0), one (p .1 .0) (q .1 .0), one (p .1 .1) (q .1 .1))
 
-pub c-table-convert-spline-one-reply : OneReply table_convert_spline.Learnt (λ κs z e z′ e′. (z ≡ z′) × (now (e .1 .1 .1 .1 .1 .0) ≡ now (e′ .1 .1 .1 .1 .1 .0)) × (now (e .1 .1 .1 .1 .1 .1 .0) ≡ now (e′ .1 .1 .1 .1 .1 .1 .0)) × (now (e .1 .1 .1 .1 .0) ≡ now (e′ .1 .1 .1 .1 .0)))
+pub c-table-convert-spline-one-reply : OneReply table_convert_spline.Learnt
+    (λ κs z e z′ e′. (z ≡ z′) × (now (e .1 .1 .1 .1 .1 .0) ≡ now (e′ .1 .1 .1 .1 .1 .0)) × (now (e .1 .1 .1 .1 .1 .1 .0) ≡ now (e′ .1 .1 .1 .1 .1 .1 .0))
+    × (now (e .1 .1 .1 .1 .0) ≡ now (e′ .1 .1 .1 .1 .0)))
 c-table-convert-spline-one-reply κs a z z′ e e′ p q = (one (p .0) (q .0), one (p .1 .0) (q .1 .0), one (p .1 .1 .0) (q .1 .1 .0), one (p .1 .1 .1) (q .1 .1 .1))
 
-pub c-table-strict-one-reply : OneReply table_convert_spline_strict.Learnt (λ κs z e z′ e′. (z ≡ z′) × (now (e .1 .1 .1 .1 .1 .1 .0) ≡ now (e′ .1 .1 .1 .1 .1 .1 .0)) × (now (e .1 .1 .1 .1 .1 .1 .1 .0) ≡ now (e′ .1 .1 .1 .1 .1 .1 .1 .0)) × (now (e .1 .1 .1 .1 .1 .0) ≡ now (e′ .1 .1 .1 .1 .1 .0)))
+pub c-table-strict-one-reply : OneReply table_convert_spline_strict.Learnt
+    (λ κs z e z′ e′. (z ≡ z′) × (now (e .1 .1 .1 .1 .1 .1 .0) ≡ now (e′ .1 .1 .1 .1 .1 .1 .0))
+    × (now (e .1 .1 .1 .1 .1 .1 .1 .0) ≡ now (e′ .1 .1 .1 .1 .1 .1 .1 .0)) × (now (e .1 .1 .1 .1 .1 .0) ≡ now (e′ .1 .1 .1 .1 .1 .0)))
 c-table-strict-one-reply κs a z z′ e e′ p q = (one (p .0) (q .0), one (p .1 .0) (q .1 .0), one (p .1 .1 .0) (q .1 .1 .0), one (p .1 .1 .1) (q .1 .1 .1))
 
 -- ---- what is left where the reply is not 0
-value-kept : (c : Chosen) (f : Basis → Evaluated) (old : Float) → NotZero (chosen c noBasis (λ b. evaluatedReply (f b))) → chosen c old (λ b. valueLeft (f b) old) ≡ old
+value-kept : (c : Chosen) (f : Basis → Evaluated) (old : Float) → NotZero (chosen c noBasis (λ b. evaluatedReply (f b)))
+    → chosen c old (λ b. valueLeft (f b) old) ≡ old
 value-kept Unknown f old h = refl
 value-kept (Known b) f old h = go (f b) h
   where
@@ -82,7 +90,9 @@ value-kept (Known b) f old h = go (f b) h
 
 pub c-table-spline-writes-nothing : Keeps table_spline.Learnt (λ κs a z e. NotZero z → now (e .1 .1 .1 .1 .0) ≡ now (a .1 .1 .1 .1 .0))
 c-table-spline-writes-nothing κs a z e p h =
-    p .1 ∙ value-kept (chosenOf (a .0)) (λ b. tableSplineOf (tableOf (a .1 .0) b) (a .1 .1 .0) (now (a .1 .1 .1 .0))) (now (a .1 .1 .1 .1 .0)) (λ w. h (p .0 ∙ w))
+    p .1
+    ∙ value-kept (chosenOf (a .0)) (λ b. tableSplineOf (tableOf (a .1 .0) b) (a .1 .1 .0) (now (a .1 .1 .1 .0))) (now (a .1 .1 .1 .1 .0))
+    (λ w. h (p .0 ∙ w))
 
 -- the four doubles, and but for 11 the four whole numbers
 timed-place-kept : (t : Timed) (old : List Float) → NotZero (timedReply t) → timedPlace t old ≡ old
@@ -95,30 +105,48 @@ timed-whole-kept (T.At p s) old h g = absurd (h refl)
 timed-whole-kept (T.OffCurve n) old h g = absurd (g refl)
 timed-whole-kept (T.Refused r) old h g = refl
 
-pub place-kept : (c : Chosen) (w : Way) (f : Basis → EndsBy → Method → Timed) (old : List Float) → NotZero (chosen c noBasis (λ b. way w noBasis (λ e m. timedReply (f b e m)))) → chosen c old (λ b. way w old (λ e m. timedPlace (f b e m) old)) ≡ old
+pub place-kept : (c : Chosen) (w : Way) (f : Basis → EndsBy → Method → Timed) (old : List Float)
+    → NotZero (chosen c noBasis (λ b. way w noBasis (λ e m. timedReply (f b e m)))) → chosen c old (λ b. way w old (λ e m. timedPlace (f b e m) old)) ≡ old
 place-kept Unknown w f old h = refl
 place-kept (Known b) W.Unknown f old h = refl
 place-kept (Known b) (W.Known e m) f old h = timed-place-kept (f b e m) old h
 
-pub whole-kept : (c : Chosen) (w : Way) (f : Basis → EndsBy → Method → Timed) (old : List ℕ) → NotZero (chosen c noBasis (λ b. way w noBasis (λ e m. timedReply (f b e m)))) → (chosen c noBasis (λ b. way w noBasis (λ e m. timedReply (f b e m))) ≡ 11 → ⊥) → chosen c old (λ b. way w old (λ e m. timedWhole (f b e m) old)) ≡ old
+pub whole-kept : (c : Chosen) (w : Way) (f : Basis → EndsBy → Method → Timed) (old : List ℕ)
+    → NotZero (chosen c noBasis (λ b. way w noBasis (λ e m. timedReply (f b e m))))
+    → (chosen c noBasis (λ b. way w noBasis (λ e m. timedReply (f b e m))) ≡ 11 → ⊥)
+    → chosen c old (λ b. way w old (λ e m. timedWhole (f b e m) old)) ≡ old
 whole-kept Unknown w f old h g = refl
 whole-kept (Known b) W.Unknown f old h g = refl
 whole-kept (Known b) (W.Known e m) f old h g = timed-whole-kept (f b e m) old h g
 
-pub c-table-spline-inverse-by-writes-nothing : Keeps table_spline_inverse_by.Learnt (λ κs a z e. NotZero z → (now (e .1 .1 .1 .1 .1 .1 .1 .1 .1 .0) ≡ now (a .1 .1 .1 .1 .1 .1 .1 .1 .1 .0)) × ((z ≡ 11 → ⊥) → now (e .1 .1 .1 .1 .1 .1 .1 .1 .1 .1 .0) ≡ now (a .1 .1 .1 .1 .1 .1 .1 .1 .1 .1 .0)))
+pub c-table-spline-inverse-by-writes-nothing : Keeps table_spline_inverse_by.Learnt
+    (λ κs a z e. NotZero z
+    → (now (e .1 .1 .1 .1 .1 .1 .1 .1 .1 .0) ≡ now (a .1 .1 .1 .1 .1 .1 .1 .1 .1 .0))
+    × ((z ≡ 11 → ⊥) → now (e .1 .1 .1 .1 .1 .1 .1 .1 .1 .1 .0) ≡ now (a .1 .1 .1 .1 .1 .1 .1 .1 .1 .1 .0)))
 c-table-spline-inverse-by-writes-nothing κs a z e p h =
-    let f : Basis → EndsBy → Method → Timed = λ b n m. tableInverseBy n m (tableOf (a .1 .0) b) (a .1 .1 .0) (now (a .1 .1 .1 .0)) (a .1 .1 .1 .1 .0) (a .1 .1 .1 .1 .1 .0) (a .1 .1 .1 .1 .1 .1 .0) in
+    let f : Basis → EndsBy → Method → Timed =
+    λ b n m. tableInverseBy n m (tableOf (a .1 .0) b) (a .1 .1 .0) (now (a .1 .1 .1 .0)) (a .1 .1 .1 .1 .0) (a .1 .1 .1 .1 .1 .0)
+    (a .1 .1 .1 .1 .1 .1 .0) in
     let c = chosenOf (a .0) in
-    let w = wayOf (a .1 .1 .1 .1 .1 .1 .1 .0) (a .1 .1 .1 .1 .1 .1 .1 .1 .0) in
-    (p .1 .0 ∙ place-kept c w f (now (a .1 .1 .1 .1 .1 .1 .1 .1 .1 .0)) (λ q. h (p .0 ∙ q)), λ g. p .1 .1 ∙ whole-kept c w f (now (a .1 .1 .1 .1 .1 .1 .1 .1 .1 .1 .0)) (λ q. h (p .0 ∙ q)) (λ q. g (p .0 ∙ q)))
+    let w = wayOf (a .1 .1 .1 .1 .1 .1 .1 .0) (a .1 .1 .1 .1 .1 .1 .1 .1 .0) in (
+      p .1 .0 ∙ place-kept c w f (now (a .1 .1 .1 .1 .1 .1 .1 .1 .1 .0)) (λ q. h (p .0 ∙ q)),
+      λ g. p .1 .1
+          ∙ whole-kept c w f (now (a .1 .1 .1 .1 .1 .1 .1 .1 .1 .1 .0)) (λ q. h (p .0 ∙ q)) (λ q. g (p .0 ∙ q)),
+    )
 
 -- by the crate's way
-pub c-table-spline-inverse-writes-nothing : Keeps table_spline_inverse.Learnt (λ κs a z e. NotZero z → (now (e .1 .1 .1 .1 .1 .0) ≡ now (a .1 .1 .1 .1 .1 .0)) × ((z ≡ 11 → ⊥) → now (e .1 .1 .1 .1 .1 .1 .0) ≡ now (a .1 .1 .1 .1 .1 .1 .0)))
+pub c-table-spline-inverse-writes-nothing : Keeps table_spline_inverse.Learnt
+    (λ κs a z e. NotZero z
+    → (now (e .1 .1 .1 .1 .1 .0) ≡ now (a .1 .1 .1 .1 .1 .0)) × ((z ≡ 11 → ⊥) → now (e .1 .1 .1 .1 .1 .1 .0) ≡ now (a .1 .1 .1 .1 .1 .1 .0)))
 c-table-spline-inverse-writes-nothing κs a z e p h =
-    let f : Basis → EndsBy → Method → Timed = λ b n m. tableInverseBy n m (tableOf (a .1 .0) b) (a .1 .1 .0) (now (a .1 .1 .1 .0)) (a .1 .1 .1 .1 .0) defaultLimit defaultPrecision in
+    let f : Basis → EndsBy → Method → Timed =
+    λ b n m. tableInverseBy n m (tableOf (a .1 .0) b) (a .1 .1 .0) (now (a .1 .1 .1 .0)) (a .1 .1 .1 .1 .0) defaultLimit defaultPrecision in
     let c = chosenOf (a .0) in
-    let w = W.Known Knots AsCrate in
-    (p .1 .0 ∙ place-kept c w f (now (a .1 .1 .1 .1 .1 .0)) (λ q. h (p .0 ∙ q)), λ g. p .1 .1 ∙ whole-kept c w f (now (a .1 .1 .1 .1 .1 .1 .0)) (λ q. h (p .0 ∙ q)) (λ q. g (p .0 ∙ q)))
+    let w = W.Known Knots AsCrate in (
+      p .1 .0 ∙ place-kept c w f (now (a .1 .1 .1 .1 .1 .0)) (λ q. h (p .0 ∙ q)),
+      λ g. p .1 .1
+          ∙ whole-kept c w f (now (a .1 .1 .1 .1 .1 .1 .0)) (λ q. h (p .0 ∙ q)) (λ q. g (p .0 ∙ q)),
+    )
 
 -- the span, the length and the whole buffer
 module _ (span : ℕ) (g : Basis → Basis → Conversion) where
@@ -155,18 +183,31 @@ module _ (span : ℕ) (g : Basis → Basis → Conversion) where
       go (gives l) h = absurd (h refl)
       go (refuses r) h = refl
 
-pub c-table-convert-spline-writes-nothing : Keeps table_convert_spline.Learnt (λ κs a z e. NotZero z → (now (e .1 .1 .1 .1 .1 .0) ≡ now (a .1 .1 .1 .1 .1 .0)) × (now (e .1 .1 .1 .1 .1 .1 .0) ≡ now (a .1 .1 .1 .1 .1 .1 .0)) × (now (e .1 .1 .1 .1 .0) ≡ now (a .1 .1 .1 .1 .0)))
+pub c-table-convert-spline-writes-nothing : Keeps table_convert_spline.Learnt
+    (λ κs a z e. NotZero z
+    → (now (e .1 .1 .1 .1 .1 .0) ≡ now (a .1 .1 .1 .1 .1 .0)) × (now (e .1 .1 .1 .1 .1 .1 .0) ≡ now (a .1 .1 .1 .1 .1 .1 .0))
+    × (now (e .1 .1 .1 .1 .0) ≡ now (a .1 .1 .1 .1 .0)))
 c-table-convert-spline-writes-nothing κs a z e p h =
     let g : Basis → Basis → Conversion = λ f t. tableConvertedOf (tableOf (a .1 .0) f) t (now (a .1 .1 .1 .0)) (length (now (a .1 .1 .1 .1 .0))) in
     let c = chosenOf (a .0) in
     let d = chosenOf (a .1 .1 .0) in
-    let n : NotZero (reply (a .1 .0) g c d) = λ w. h (p .0 ∙ w) in
-    (p .1 .0 ∙ span-kept (a .1 .0) g c d (now (a .1 .1 .1 .1 .1 .0)) n, p .1 .1 .0 ∙ length-kept (a .1 .0) g c d (now (a .1 .1 .1 .1 .1 .1 .0)) n, p .1 .1 .1 ∙ buffer-kept (a .1 .0) g c d (now (a .1 .1 .1 .1 .0)) n)
+    let n : NotZero (reply (a .1 .0) g c d) = λ w. h (p .0 ∙ w) in (
+      p .1 .0 ∙ span-kept (a .1 .0) g c d (now (a .1 .1 .1 .1 .1 .0)) n,
+      p .1 .1 .0 ∙ length-kept (a .1 .0) g c d (now (a .1 .1 .1 .1 .1 .1 .0)) n,
+      p .1 .1 .1 ∙ buffer-kept (a .1 .0) g c d (now (a .1 .1 .1 .1 .0)) n,
+    )
 
-pub c-table-strict-writes-nothing : Keeps table_convert_spline_strict.Learnt (λ κs a z e. NotZero z → (now (e .1 .1 .1 .1 .1 .1 .0) ≡ now (a .1 .1 .1 .1 .1 .1 .0)) × (now (e .1 .1 .1 .1 .1 .1 .1 .0) ≡ now (a .1 .1 .1 .1 .1 .1 .1 .0)) × (now (e .1 .1 .1 .1 .1 .0) ≡ now (a .1 .1 .1 .1 .1 .0)))
+pub c-table-strict-writes-nothing : Keeps table_convert_spline_strict.Learnt
+    (λ κs a z e. NotZero z
+    → (now (e .1 .1 .1 .1 .1 .1 .0) ≡ now (a .1 .1 .1 .1 .1 .1 .0)) × (now (e .1 .1 .1 .1 .1 .1 .1 .0) ≡ now (a .1 .1 .1 .1 .1 .1 .1 .0))
+    × (now (e .1 .1 .1 .1 .1 .0) ≡ now (a .1 .1 .1 .1 .1 .0)))
 c-table-strict-writes-nothing κs a z e p h =
-    let g : Basis → Basis → Conversion = λ f t. tableStrictOf (tableOf (a .1 .0) f) t (now (a .1 .1 .1 .0)) (a .1 .1 .1 .1 .0) (length (now (a .1 .1 .1 .1 .1 .0))) in
+    let g : Basis → Basis → Conversion =
+    λ f t. tableStrictOf (tableOf (a .1 .0) f) t (now (a .1 .1 .1 .0)) (a .1 .1 .1 .1 .0) (length (now (a .1 .1 .1 .1 .1 .0))) in
     let c = chosenOf (a .0) in
     let d = chosenOf (a .1 .1 .0) in
-    let n : NotZero (reply (a .1 .0) g c d) = λ w. h (p .0 ∙ w) in
-    (p .1 .0 ∙ span-kept (a .1 .0) g c d (now (a .1 .1 .1 .1 .1 .1 .0)) n, p .1 .1 .0 ∙ length-kept (a .1 .0) g c d (now (a .1 .1 .1 .1 .1 .1 .1 .0)) n, p .1 .1 .1 ∙ buffer-kept (a .1 .0) g c d (now (a .1 .1 .1 .1 .1 .0)) n)
+    let n : NotZero (reply (a .1 .0) g c d) = λ w. h (p .0 ∙ w) in (
+      p .1 .0 ∙ span-kept (a .1 .0) g c d (now (a .1 .1 .1 .1 .1 .1 .0)) n,
+      p .1 .1 .0 ∙ length-kept (a .1 .0) g c d (now (a .1 .1 .1 .1 .1 .1 .1 .0)) n,
+      p .1 .1 .1 ∙ buffer-kept (a .1 .0) g c d (now (a .1 .1 .1 .1 .1 .0)) n,
+    )

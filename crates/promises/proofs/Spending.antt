@@ -24,8 +24,34 @@ use Rattle.inverse_segment.specs.declared.State.{State}
 use Rattle.inverse_segment.specs.Evaluations.{Evaluations}
 use Rattle.inverse_segment.specs.Round.{Rule, narrow, Turn, found, on, turn, probed, settled}
 use Rattle.inverse_segment.specs.Rounds.{Placed, rounds}
-use Rattle.inverse_segment.specs.Segment.{encloses, near, start, opening, entered, Entry, outside, inside, enter, Outcome, off, placed, orElse, outcomeOf, evaluationsOf}
-use Rattle.inverse_segment.specs.Answer.{answered, alone, inverted, unlessRefused, inverseSegmentUses, inverseSegmentBy, segmentEvaluationsBy, defaultLimit, defaultPrecision}
+use Rattle.inverse_segment.specs.Segment.{
+  encloses,
+  near,
+  start,
+  opening,
+  entered,
+  Entry,
+  outside,
+  inside,
+  enter,
+  Outcome,
+  off,
+  placed,
+  orElse,
+  outcomeOf,
+  evaluationsOf,
+}
+use Rattle.inverse_segment.specs.Answer.{
+  answered,
+  alone,
+  inverted,
+  unlessRefused,
+  inverseSegmentUses,
+  inverseSegmentBy,
+  segmentEvaluationsBy,
+  defaultLimit,
+  defaultPrecision,
+}
 use Rattle.inverse_segment.proofs.Ends.{both}
 use Rattle.inverse_search.specs.Bound.{bitsOf}
 use Rattle.inverse_search.specs.Search.{before, Trial, tries, last, halve, find}
@@ -74,7 +100,8 @@ module _ (R : Rule) (f : Float → Float) (s : ℕ) (y ε : Float) (rising : Boo
   unfolding turn probed settled
   turn-left m i st l t =
       let x = R limit i y st .place in
-      branch (Left (suc m)) (narrow ε (st .bracket)) (λ _ q. q) (λ _. branch (Left (suc m)) (lt (magnitudeOf (sub binary64 (f x) y)) ε) (λ _ q. q) (λ _. more x t))
+      branch (Left (suc m)) (narrow ε (st .bracket)) (λ _ q. q)
+      (λ _. branch (Left (suc m)) (lt (magnitudeOf (sub binary64 (f x) y)) ε) (λ _ q. q) (λ _. more x t))
 
   rounds-spent : (n i m j : ℕ) (t : Turn) → m + n ≡ j → Left m t → let p = rounds R f s y ε rising limit n i t in IsSpent (p .ground) → SpentIn s ev j p
   unfolding rounds
@@ -114,7 +141,8 @@ told-of s ev limit (outside v l) h = tt
 told-of s ev limit (inside p) h = λ q. let r = h q in (ev, subst (λ (i : ℕ). Then i (both i ev) limit (p .made)) (sym (r .0)) (r .1))
 
 -- ---- a search
-goes : (limit : ℕ) (e : Entry) (f : Float → Evaluations → Outcome) → RoundedIn limit e → ((v : Float) (t : Evaluations) → Rounded limit (f v t)) → Rounded limit (orElse e f)
+goes : (limit : ℕ) (e : Entry) (f : Float → Evaluations → Outcome) → RoundedIn limit e → ((v : Float) (t : Evaluations) → Rounded limit (f v t))
+    → Rounded limit (orElse e f)
 goes limit (outside v t) f r k = k v t
 goes limit (inside p) f r k = r
 
@@ -142,8 +170,10 @@ module _ (limit : ℕ) (E : Trial) (trials : (s : ℕ) (ev : Evaluations) → Ro
     unfolding find
     find-all ev = branch (Rounded limit) (leb k 12) (λ _. tries-rounded k 0 ev) (λ _. halve-rounded (bitsOf k) 0 k ev)
 
-find-rounded : (R : Rule) (g : ℕ → Float → Float) (y ε : Float) (limit : ℕ) (rising : Bool) (k : ℕ) (ev : Evaluations) → Rounded limit (find (trial R g y ε limit) y rising k ev)
-find-rounded R g y ε limit rising k ev = find-all limit (trial R g y ε limit) (λ s ev. told-of s ev limit (enter R (g s) s y ε limit ev) (enter-spent R (g s) s y ε limit ev)) y rising k ev
+find-rounded : (R : Rule) (g : ℕ → Float → Float) (y ε : Float) (limit : ℕ) (rising : Bool) (k : ℕ) (ev : Evaluations)
+    → Rounded limit (find (trial R g y ε limit) y rising k ev)
+find-rounded R g y ε limit rising k ev =
+    find-all limit (trial R g y ε limit) (λ s ev. told-of s ev limit (enter R (g s) s y ε limit ev) (enter-spent R (g s) s y ε limit ev)) y rising k ev
 
 -- ---- a curve's call
 module _ (m : EndsBy) (how : Method) (b : Basis) (y : Float) (ks : List Float) (check : Bool) (limit : ℕ) (ε : Float) where
@@ -151,20 +181,25 @@ module _ (m : EndsBy) (how : Method) (b : Basis) (y : Float) (ks : List Float) (
   rule = endRuleOf m b ks (segmentOf b ks)
 
   abbrev pub AllRounds : Inverted → Type 0
-  AllRounds r = AtPlace (λ p. IsSpent (p .ground) → (ev : Evaluations) × Then (p .segment) (both (p .segment) ev) limit (evaluationsBy m how b y ks check limit ε)) r
+  AllRounds r =
+      AtPlace (λ p. IsSpent (p .ground) → (ev : Evaluations) × Then (p .segment) (both (p .segment) ev) limit (evaluationsBy m how b y ks check limit ε)) r
 
   pub inverse-spent : AllRounds (inverseBy m how b y ks check limit ε)
   unfolding inverseBy evaluationsBy located evaluations
   inverse-spent =
-      go (first (inverseUses b y ks check limit ε)) (atLow (rule .ends) y) (atHigh (rule .ends) y) (find (trial (ruleOf how) (segmentOf b ks) y ε limit) y (rule .ends .rising) k (rule .made))
+      go (first (inverseUses b y ks check limit ε)) (atLow (rule .ends) y) (atHigh (rule .ends) y)
+      (find (trial (ruleOf how) (segmentOf b ks) y ε limit) y (rule .ends .rising) k (rule .made))
       (find-rounded (ruleOf how) (segmentOf b ks) y ε limit (rule .ends .rising) k (rule .made))
     where
       k : ℕ
       k = segmentsOf b (length ks)
 
       go : (v : Verdict) (a c : Bool) (o : Outcome) → Rounded limit o
-          → AtPlace (λ p. IsSpent (p .ground) → (ev : Evaluations) × Then (p .segment) (both (p .segment) ev) limit (unlessRefused v (cond a (rule .made) (cond c (rule .made) (evaluationsOf o)))))
-          (inverted v (cond a (ended (rule .made) 0 nought) (cond c (ended (rule .made) (segmentsOf b (length ks) - 1) one) (answered (parameterOf (segmentsOf b (length ks))) o))))
+          → AtPlace (λ p. IsSpent (p .ground)
+          → (ev : Evaluations)
+          × Then (p .segment) (both (p .segment) ev) limit (unlessRefused v (cond a (rule .made) (cond c (rule .made) (evaluationsOf o)))))
+          (inverted v (cond a (ended (rule .made) 0 nought)
+          (cond c (ended (rule .made) (segmentsOf b (length ks) - 1) one) (answered (parameterOf (segmentsOf b (length ks))) o))))
       go Passed true c o h = λ q. absurd q
       go Passed false true o h = λ q. absurd q
       go Passed false false (off l) h = tt
@@ -174,13 +209,18 @@ module _ (m : EndsBy) (how : Method) (b : Basis) (y : Float) (ks : List Float) (
   reply-spent : (r : Inverted) → r ≡ inverseBy m how b y ks check limit ε → AllRounds r
   reply-spent r e = subst AllRounds (sym e) inverse-spent
 
-pub spline-inverse-by-spent : Keeps spline_inverse_by.Learnt (λ κs a z e. AllRounds (a .0 .ends) (a .0 .method) (a .1 .0) (a .1 .1 .0) (now (a .1 .1 .1 .0)) (a .0 .check) (a .0 .limit) (a .0 .precision) z)
-spline-inverse-by-spent κs a z e p = reply-spent (a .0 .ends) (a .0 .method) (a .1 .0) (a .1 .1 .0) (now (a .1 .1 .1 .0)) (a .0 .check) (a .0 .limit) (a .0 .precision) z p
+pub spline-inverse-by-spent : Keeps spline_inverse_by.Learnt
+    (λ κs a z e. AllRounds (a .0 .ends) (a .0 .method) (a .1 .0) (a .1 .1 .0) (now (a .1 .1 .1 .0)) (a .0 .check) (a .0 .limit) (a .0 .precision) z)
+spline-inverse-by-spent κs a z e p =
+    reply-spent (a .0 .ends) (a .0 .method) (a .1 .0) (a .1 .1 .0) (now (a .1 .1 .1 .0)) (a .0 .check) (a .0 .limit) (a .0 .precision) z p
 
-pub spline-inverse-with-spent : Keeps spline_inverse_with.Learnt (λ κs a z e. AllRounds Knots AsCrate (a .0) (a .1 .0) (now (a .1 .1 .0)) (a .1 .1 .1 .0) (a .1 .1 .1 .1 .0) (a .1 .1 .1 .1 .1 .0) z)
-spline-inverse-with-spent κs a z e p = reply-spent Knots AsCrate (a .0) (a .1 .0) (now (a .1 .1 .0)) (a .1 .1 .1 .0) (a .1 .1 .1 .1 .0) (a .1 .1 .1 .1 .1 .0) z p
+pub spline-inverse-with-spent : Keeps spline_inverse_with.Learnt
+    (λ κs a z e. AllRounds Knots AsCrate (a .0) (a .1 .0) (now (a .1 .1 .0)) (a .1 .1 .1 .0) (a .1 .1 .1 .1 .0) (a .1 .1 .1 .1 .1 .0) z)
+spline-inverse-with-spent κs a z e p =
+    reply-spent Knots AsCrate (a .0) (a .1 .0) (now (a .1 .1 .0)) (a .1 .1 .1 .0) (a .1 .1 .1 .1 .0) (a .1 .1 .1 .1 .1 .0) z p
 
-pub spline-inverse-spent : Keeps spline_inverse.Learnt (λ κs a z e. AllRounds Knots AsCrate (a .0) (a .1 .0) (now (a .1 .1 .0)) (a .1 .1 .1 .0) defaultLimit defaultPrecision z)
+pub spline-inverse-spent : Keeps spline_inverse.Learnt
+    (λ κs a z e. AllRounds Knots AsCrate (a .0) (a .1 .0) (now (a .1 .1 .0)) (a .1 .1 .1 .0) defaultLimit defaultPrecision z)
 spline-inverse-spent κs a z e p = reply-spent Knots AsCrate (a .0) (a .1 .0) (now (a .1 .1 .0)) (a .1 .1 .1 .0) defaultLimit defaultPrecision z p
 
 -- ---- one segment's call: those of its two ends, then as many as the limit says, and no other
@@ -190,9 +230,13 @@ module _ (how : Method) (b : Basis) (y : Float) (cv : List Float) (limit : ℕ) 
 
   segment-spent : SegmentAllRounds (inverseSegmentBy (ruleOf how) b y cv limit ε)
   unfolding inverseSegmentBy segmentEvaluationsBy
-  segment-spent = go (first (inverseSegmentUses y cv limit ε)) (enter (ruleOf how) (segmentOf b cv 0) 0 y ε limit []) (enter-spent (ruleOf how) (segmentOf b cv 0) 0 y ε limit [])
+  segment-spent =
+      go (first (inverseSegmentUses y cv limit ε)) (enter (ruleOf how) (segmentOf b cv 0) 0 y ε limit [])
+      (enter-spent (ruleOf how) (segmentOf b cv 0) 0 y ε limit [])
     where
-      go : (v : Verdict) (e : Entry) → SpentTrial 0 [] limit e → AtPlace (λ p. IsSpent (p .ground) → Then 0 (both 0 []) limit (unlessRefused v (evaluationsOf (outcomeOf e)))) (inverted v (answered alone (outcomeOf e)))
+      go : (v : Verdict) (e : Entry) → SpentTrial 0 [] limit e
+          → AtPlace (λ p. IsSpent (p .ground) → Then 0 (both 0 []) limit (unlessRefused v (evaluationsOf (outcomeOf e))))
+          (inverted v (answered alone (outcomeOf e)))
       go Passed (outside v l) h = tt
       go Passed (inside p) h = λ q. h q .1
       go (Failed r) e h = tt
@@ -200,11 +244,15 @@ module _ (how : Method) (b : Basis) (y : Float) (cv : List Float) (limit : ℕ) 
   segment-reply-spent : (r : Inverted) → r ≡ inverseSegmentBy (ruleOf how) b y cv limit ε → SegmentAllRounds r
   segment-reply-spent r e = subst SegmentAllRounds (sym e) segment-spent
 
-pub spline-inverse-segment-by-spent : Keeps spline_inverse_segment_by.Learnt (λ κs a z e. SegmentAllRounds (a .1 .1 .1 .1 .1 .0) (a .0) (a .1 .0) (now (a .1 .1 .0)) (a .1 .1 .1 .0) (a .1 .1 .1 .1 .0) z)
-spline-inverse-segment-by-spent κs a z e p = segment-reply-spent (a .1 .1 .1 .1 .1 .0) (a .0) (a .1 .0) (now (a .1 .1 .0)) (a .1 .1 .1 .0) (a .1 .1 .1 .1 .0) z p
+pub spline-inverse-segment-by-spent : Keeps spline_inverse_segment_by.Learnt
+    (λ κs a z e. SegmentAllRounds (a .1 .1 .1 .1 .1 .0) (a .0) (a .1 .0) (now (a .1 .1 .0)) (a .1 .1 .1 .0) (a .1 .1 .1 .1 .0) z)
+spline-inverse-segment-by-spent κs a z e p =
+    segment-reply-spent (a .1 .1 .1 .1 .1 .0) (a .0) (a .1 .0) (now (a .1 .1 .0)) (a .1 .1 .1 .0) (a .1 .1 .1 .1 .0) z p
 
-pub spline-inverse-segment-with-spent : Keeps spline_inverse_segment_with.Learnt (λ κs a z e. SegmentAllRounds AsCrate (a .0) (a .1 .0) (now (a .1 .1 .0)) (a .1 .1 .1 .0) (a .1 .1 .1 .1 .0) z)
+pub spline-inverse-segment-with-spent : Keeps spline_inverse_segment_with.Learnt
+    (λ κs a z e. SegmentAllRounds AsCrate (a .0) (a .1 .0) (now (a .1 .1 .0)) (a .1 .1 .1 .0) (a .1 .1 .1 .1 .0) z)
 spline-inverse-segment-with-spent κs a z e p = segment-reply-spent AsCrate (a .0) (a .1 .0) (now (a .1 .1 .0)) (a .1 .1 .1 .0) (a .1 .1 .1 .1 .0) z p
 
-pub spline-inverse-segment-spent : Keeps spline_inverse_segment.Learnt (λ κs a z e. SegmentAllRounds AsCrate (a .0) (a .1 .0) (now (a .1 .1 .0)) defaultLimit defaultPrecision z)
+pub spline-inverse-segment-spent : Keeps spline_inverse_segment.Learnt
+    (λ κs a z e. SegmentAllRounds AsCrate (a .0) (a .1 .0) (now (a .1 .1 .0)) defaultLimit defaultPrecision z)
 spline-inverse-segment-spent κs a z e p = segment-reply-spent AsCrate (a .0) (a .1 .0) (now (a .1 .1 .0)) defaultLimit defaultPrecision z p

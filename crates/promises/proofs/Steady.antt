@@ -1,4 +1,5 @@
--- The calls by the steady method with its defaults: never spent, few evaluations, and all that is promised of an inversion by any method; of one segment, of a curve,
+-- The calls by the steady method with its defaults: never spent, few evaluations, and all that is promised of an inversion by any method; of one segment, of a
+-- curve,
 -- of a table with a span, and what others link of them. Assumes nothing.
 use mathlib.Core.Path.{_≡_, refl, sym, subst, _∙_}
 use mathlib.Core.Bool.{Bool, true, not}
@@ -74,7 +75,8 @@ spline-inverse-segment-steady-timely κs a z e p =
     let r = segment-timely steadyLimit (a .0) (a .1 .0) (now (a .1 .1 .0)) defaultPrecision 39 default-enough in
     subst (λ (i : Inverted). NeverSpent i × (countTold i ≤ 41)) (sym p) (r .0 (lit< tt), r .1)
 
-pub spline-inverse-segment-steady-promised : Keeps spline_inverse_segment_steady.Learnt (λ κs a z e. SegmentPromised Steady (a .0) (a .1 .0) (now (a .1 .1 .0)) steadyLimit defaultPrecision z)
+pub spline-inverse-segment-steady-promised : Keeps spline_inverse_segment_steady.Learnt
+    (λ κs a z e. SegmentPromised Steady (a .0) (a .1 .0) (now (a .1 .1 .0)) steadyLimit defaultPrecision z)
 spline-inverse-segment-steady-promised κs a z e p = segment-promised Steady (a .0) (a .1 .0) (now (a .1 .1 .0)) steadyLimit defaultPrecision z p
 
 pub spline-inverse-segment-steady-asks-nothing : AsksNothing spline_inverse_segment_steady.Asked
@@ -87,12 +89,15 @@ pub spline-inverse-segment-steady-refuses : Keeps spline_inverse_segment_steady.
     (λ κs a z e. (r : Refusal) → Exactly (z ≡ I.Refused r) (First (inverseSegmentUses (a .1 .0) (now (a .1 .1 .0)) steadyLimit defaultPrecision) rows r))
 spline-inverse-segment-steady-refuses κs a z e p r = carried p (segment-place-refused steady (a .0) (a .1 .0) (now (a .1 .1 .0)) steadyLimit defaultPrecision r)
 
-pub spline-inverse-segment-steady-number : Keeps spline_inverse_segment_steady.Learnt (λ κs a z e. InverseNumber (inverseSegmentUses (a .1 .0) (now (a .1 .1 .0)) steadyLimit defaultPrecision) z)
+pub spline-inverse-segment-steady-number : Keeps spline_inverse_segment_steady.Learnt
+    (λ κs a z e. InverseNumber (inverseSegmentUses (a .1 .0) (now (a .1 .1 .0)) steadyLimit defaultPrecision) z)
 spline-inverse-segment-steady-number κs a z e p = inverts _ z refl refl (spline-inverse-segment-steady-refuses κs a z e p)
 
-pub spline-inverse-segment-steady-first-bad : Keeps spline_inverse_segment_steady.Learnt (λ κs a z e. (i : ℕ) → z ≡ I.Refused (BadKnot i) → FirstBad (now (a .1 .1 .0)) i)
+pub spline-inverse-segment-steady-first-bad : Keeps spline_inverse_segment_steady.Learnt
+    (λ κs a z e. (i : ℕ) → z ≡ I.Refused (BadKnot i) → FirstBad (now (a .1 .1 .0)) i)
 spline-inverse-segment-steady-first-bad κs a z e p i h =
-    knot-first (inverseSegmentUses (a .1 .0) (now (a .1 .1 .0)) steadyLimit defaultPrecision) (now (a .1 .1 .0)) i refl refl (spline-inverse-segment-steady-refuses κs a z e p (BadKnot i) .0 h)
+    knot-first (inverseSegmentUses (a .1 .0) (now (a .1 .1 .0)) steadyLimit defaultPrecision) (now (a .1 .1 .0)) i refl refl
+    (spline-inverse-segment-steady-refuses κs a z e p (BadKnot i) .0 h)
 
 -- ---- a curve: never spent, and at most 39 + 24 evaluations, or 39 + 2b + 4
 abbrev pub SteadyWithin : Basis → List Float → Inverted → Type 0
@@ -102,12 +107,15 @@ steady-timely : (b : Basis) (y : Float) (ks : List Float) (check : Bool) → Ste
 steady-timely b y ks check = let r = timely Knots b ks steadyLimit y check defaultPrecision 39 default-enough in (r .0 (lit< tt), le-trans (r .1) (omega arith))
 
 pub spline-inverse-steady-timely : Keeps spline_inverse_steady.Learnt (λ κs a z e. SteadyWithin (a .0) (now (a .1 .1 .0)) z)
-spline-inverse-steady-timely κs a z e p = subst (SteadyWithin (a .0) (now (a .1 .1 .0))) (sym p) (steady-timely (a .0) (a .1 .0) (now (a .1 .1 .0)) (a .1 .1 .1 .0))
+spline-inverse-steady-timely κs a z e p =
+    subst (SteadyWithin (a .0) (now (a .1 .1 .0))) (sym p) (steady-timely (a .0) (a .1 .0) (now (a .1 .1 .0)) (a .1 .1 .1 .0))
 
-pub spline-inverse-steady-promised : Keeps spline_inverse_steady.Learnt (λ κs a z e. Promised Knots Steady (a .0) (a .1 .0) (now (a .1 .1 .0)) (a .1 .1 .1 .0) steadyLimit defaultPrecision z)
+pub spline-inverse-steady-promised : Keeps spline_inverse_steady.Learnt
+    (λ κs a z e. Promised Knots Steady (a .0) (a .1 .0) (now (a .1 .1 .0)) (a .1 .1 .1 .0) steadyLimit defaultPrecision z)
 spline-inverse-steady-promised κs a z e p = reply-promised Knots Steady (a .0) (a .1 .0) (now (a .1 .1 .0)) (a .1 .1 .1 .0) steadyLimit defaultPrecision z p
 
-pub spline-inverse-steady-fewer : Keeps spline_inverse_steady.Learnt (λ κs a z e. Fewer 2 z (twice Knots Steady (a .0) (a .1 .0) (now (a .1 .1 .0)) (a .1 .1 .1 .0) steadyLimit defaultPrecision))
+pub spline-inverse-steady-fewer : Keeps spline_inverse_steady.Learnt
+    (λ κs a z e. Fewer 2 z (twice Knots Steady (a .0) (a .1 .0) (now (a .1 .1 .0)) (a .1 .1 .1 .0) steadyLimit defaultPrecision))
 spline-inverse-steady-fewer κs a z e p = reply-fewer Knots Steady (a .0) (a .1 .0) (now (a .1 .1 .0)) (a .1 .1 .1 .0) steadyLimit defaultPrecision z p
 
 pub spline-inverse-steady-asks-nothing : AsksNothing spline_inverse_steady.Asked
@@ -117,33 +125,46 @@ pub spline-inverse-steady-one-reply : OneReply spline_inverse_steady.Learnt (λ 
 spline-inverse-steady-one-reply κs a z z′ e e′ p q = one p q
 
 pub spline-inverse-steady-refuses : Keeps spline_inverse_steady.Learnt
-    (λ κs a z e. (r : Refusal) → Exactly (z ≡ I.Refused r) (First (inverseUses (a .0) (a .1 .0) (now (a .1 .1 .0)) (a .1 .1 .1 .0) steadyLimit defaultPrecision) rows r))
+    (λ κs a z e. (r : Refusal)
+    → Exactly (z ≡ I.Refused r) (First (inverseUses (a .0) (a .1 .0) (now (a .1 .1 .0)) (a .1 .1 .1 .0) steadyLimit defaultPrecision) rows r))
 spline-inverse-steady-refuses κs a z e p r =
-    carried p (inverse-refused-only Knots Steady (a .0) (a .1 .0) (now (a .1 .1 .0)) (a .1 .1 .1 .0) steadyLimit defaultPrecision r, inverse-refused-where Knots Steady (a .0) (a .1 .0) (now (a .1 .1 .0)) (a .1 .1 .1 .0) steadyLimit defaultPrecision r)
+    carried p (
+      inverse-refused-only Knots Steady (a .0) (a .1 .0) (now (a .1 .1 .0)) (a .1 .1 .1 .0) steadyLimit defaultPrecision r,
+      inverse-refused-where Knots Steady (a .0) (a .1 .0) (now (a .1 .1 .0)) (a .1 .1 .1 .0) steadyLimit defaultPrecision r,
+    )
 
-pub spline-inverse-steady-number : Keeps spline_inverse_steady.Learnt (λ κs a z e. InverseNumber (inverseUses (a .0) (a .1 .0) (now (a .1 .1 .0)) (a .1 .1 .1 .0) steadyLimit defaultPrecision) z)
+pub spline-inverse-steady-number : Keeps spline_inverse_steady.Learnt
+    (λ κs a z e. InverseNumber (inverseUses (a .0) (a .1 .0) (now (a .1 .1 .0)) (a .1 .1 .1 .0) steadyLimit defaultPrecision) z)
 spline-inverse-steady-number κs a z e p = inverts _ z refl refl (spline-inverse-steady-refuses κs a z e p)
 
-pub spline-inverse-steady-eleven : Keeps spline_inverse_steady.Learnt (λ κs a z e. Eleven Knots Steady (a .0) (a .1 .0) (now (a .1 .1 .0)) (a .1 .1 .1 .0) steadyLimit defaultPrecision z)
+pub spline-inverse-steady-eleven : Keeps spline_inverse_steady.Learnt
+    (λ κs a z e. Eleven Knots Steady (a .0) (a .1 .0) (now (a .1 .1 .0)) (a .1 .1 .1 .0) steadyLimit defaultPrecision z)
 spline-inverse-steady-eleven κs a z e p =
-    by-eleven Knots Steady (a .0) (a .1 .0) (now (a .1 .1 .0)) (a .1 .1 .1 .0) steadyLimit defaultPrecision z (spline-inverse-steady-number κs a z e p) (spline-inverse-steady-promised κs a z e p)
+    by-eleven Knots Steady (a .0) (a .1 .0) (now (a .1 .1 .0)) (a .1 .1 .1 .0) steadyLimit defaultPrecision z (spline-inverse-steady-number κs a z e p)
+    (spline-inverse-steady-promised κs a z e p)
 
 pub spline-inverse-steady-first-bad : Keeps spline_inverse_steady.Learnt (λ κs a z e. (i : ℕ) → z ≡ I.Refused (BadKnot i) → FirstBad (now (a .1 .1 .0)) i)
 spline-inverse-steady-first-bad κs a z e p i h =
-    knot-first (inverseUses (a .0) (a .1 .0) (now (a .1 .1 .0)) (a .1 .1 .1 .0) steadyLimit defaultPrecision) (now (a .1 .1 .0)) i refl refl (spline-inverse-steady-refuses κs a z e p (BadKnot i) .0 h)
+    knot-first (inverseUses (a .0) (a .1 .0) (now (a .1 .1 .0)) (a .1 .1 .1 .0) steadyLimit defaultPrecision) (now (a .1 .1 .0)) i refl refl
+    (spline-inverse-steady-refuses κs a z e p (BadKnot i) .0 h)
 
-pub spline-inverse-steady-first-turn : Keeps spline_inverse_steady.Learnt (λ κs a z e. (i : ℕ) → z ≡ I.Refused (TurnsBack i) → T (a .1 .1 .1 .0) × AgainstAt (now (a .1 .1 .0)) i × ((j : ℕ) → AgainstAt (now (a .1 .1 .0)) j → i ≤ j))
-spline-inverse-steady-first-turn κs a z e p i h = inverse-turns-back Knots Steady (a .0) (a .1 .0) (now (a .1 .1 .0)) (a .1 .1 .1 .0) steadyLimit defaultPrecision i (sym p ∙ h)
+pub spline-inverse-steady-first-turn : Keeps spline_inverse_steady.Learnt
+    (λ κs a z e. (i : ℕ) → z ≡ I.Refused (TurnsBack i)
+    → T (a .1 .1 .1 .0) × AgainstAt (now (a .1 .1 .0)) i × ((j : ℕ) → AgainstAt (now (a .1 .1 .0)) j → i ≤ j))
+spline-inverse-steady-first-turn κs a z e p i h =
+    inverse-turns-back Knots Steady (a .0) (a .1 .0) (now (a .1 .1 .0)) (a .1 .1 .1 .0) steadyLimit defaultPrecision i (sym p ∙ h)
 
 -- ---- a table with a span
-table-timely : (t : Table) (y : Float) (ks : List Float) (check : Bool) (p : Place) (n : ℕ) → tableSteadyOf t y ks check ≡ T.At p n → SteadyWithin (t .basis) ks (I.At p)
+table-timely : (t : Table) (y : Float) (ks : List Float) (check : Bool) (p : Place) (n : ℕ) → tableSteadyOf t y ks check ≡ T.At p n
+    → SteadyWithin (t .basis) ks (I.At p)
 unfolding tableInverseBy
 table-timely t y ks check p n h =
     let w = past (verdictOf t (inverseUses (t .basis) y ks check steadyLimit defaultPrecision)) (timedOf (t .span) (steadyOf (t .basis) y ks check)) p n h in
     subst (SteadyWithin (t .basis) ks) (at-second (t .span) (steadyOf (t .basis) y ks check) p n (w .1) .0) (steady-timely (t .basis) y ks check)
 
 pub table-spline-inverse-steady-timely : Keeps table_spline_inverse_steady.Learnt
-    (λ κs a z e. (p : Place) (n : ℕ) → z ≡ T.At p n → T (not (isSpent (p .ground))) × (p .count ≤ boundOf (segmentsOf (a .0 .basis) (length (now (a .1 .1 .0)))) 39))
+    (λ κs a z e. (p : Place) (n : ℕ) → z ≡ T.At p n
+    → T (not (isSpent (p .ground))) × (p .count ≤ boundOf (segmentsOf (a .0 .basis) (length (now (a .1 .1 .0)))) 39))
 table-spline-inverse-steady-timely κs a z e q p n h = table-timely (a .0) (a .1 .0) (now (a .1 .1 .0)) (a .1 .1 .1 .0) p n (sym q ∙ h)
 
 pub table-spline-inverse-steady-asks-nothing : AsksNothing table_spline_inverse_steady.Asked
@@ -158,15 +179,21 @@ pub table-spline-inverse-steady-base : Keeps table_spline_inverse_steady.Learnt
 table-spline-inverse-steady-base κs a z e p g = p ∙ inverse-base Knots Steady (a .0) (a .1 .0) (now (a .1 .1 .0)) (a .1 .1 .1 .0) steadyLimit defaultPrecision g
 
 pub table-spline-inverse-steady-refuses : Keeps table_spline_inverse_steady.Learnt
-    (λ κs a z e. (r : Refusal) → Exactly (z ≡ T.Refused r) (First (badSpan (a .0 .span) ∷ inverseUses (a .0 .basis) (a .1 .0) (now (a .1 .1 .0)) (a .1 .1 .1 .0) steadyLimit defaultPrecision) rows r))
-table-spline-inverse-steady-refuses κs a z e p r = carried p (table-place-refused (a .0) r Knots Steady (a .1 .0) (now (a .1 .1 .0)) (a .1 .1 .1 .0) steadyLimit defaultPrecision)
+    (λ κs a z e. (r : Refusal)
+    → Exactly (z ≡ T.Refused r)
+    (First (badSpan (a .0 .span) ∷ inverseUses (a .0 .basis) (a .1 .0) (now (a .1 .1 .0)) (a .1 .1 .1 .0) steadyLimit defaultPrecision) rows r))
+table-spline-inverse-steady-refuses κs a z e p r =
+    carried p (table-place-refused (a .0) r Knots Steady (a .1 .0) (now (a .1 .1 .0)) (a .1 .1 .1 .0) steadyLimit defaultPrecision)
 
 pub table-spline-inverse-steady-number : Keeps table_spline_inverse_steady.Learnt
     (λ κs a z e. TimedNumber (badSpan (a .0 .span) ∷ inverseUses (a .0 .basis) (a .1 .0) (now (a .1 .1 .0)) (a .1 .1 .1 .0) steadyLimit defaultPrecision) z)
-table-spline-inverse-steady-number κs a z e p = by-places timedNumber T.Refused T.OffCurve timed-owed _ z refl refl (table-spline-inverse-steady-refuses κs a z e p)
+table-spline-inverse-steady-number κs a z e p =
+    by-places timedNumber T.Refused T.OffCurve timed-owed _ z refl refl (table-spline-inverse-steady-refuses κs a z e p)
 
-pub table-spline-inverse-steady-second : Keeps table_spline_inverse_steady.Learnt (λ κs a z e. (p : Place) (n : ℕ) → z ≡ T.At p n → Largest (a .0 .span) (elapsed (a .0 .span) (p .parameter)) n)
-table-spline-inverse-steady-second κs a z e p q n h = second-is-largest Knots Steady (a .0) (a .1 .0) (now (a .1 .1 .0)) (a .1 .1 .1 .0) steadyLimit defaultPrecision q n (sym p ∙ h)
+pub table-spline-inverse-steady-second : Keeps table_spline_inverse_steady.Learnt
+    (λ κs a z e. (p : Place) (n : ℕ) → z ≡ T.At p n → Largest (a .0 .span) (elapsed (a .0 .span) (p .parameter)) n)
+table-spline-inverse-steady-second κs a z e p q n h =
+    second-is-largest Knots Steady (a .0) (a .1 .0) (now (a .1 .1 .0)) (a .1 .1 .1 .0) steadyLimit defaultPrecision q n (sym p ∙ h)
 
 -- ---- what others link
 pub c-spline-inverse-steady-asks-nothing : AsksNothing c_spline_inverse_steady.Asked
@@ -178,30 +205,47 @@ c-spline-inverse-segment-steady-asks-nothing κs a = tt
 pub c-table-spline-inverse-steady-asks-nothing : AsksNothing c_table_spline_inverse_steady.Asked
 c-table-spline-inverse-steady-asks-nothing κs a = tt
 
-pub c-spline-inverse-steady-one-reply : OneReply c_spline_inverse_steady.Learnt (λ κs z e z′ e′. (z ≡ z′) × (now (e .1 .1 .1 .1 .0) ≡ now (e′ .1 .1 .1 .1 .0)) × (now (e .1 .1 .1 .1 .1 .0) ≡ now (e′ .1 .1 .1 .1 .1 .0)))
+pub c-spline-inverse-steady-one-reply : OneReply c_spline_inverse_steady.Learnt
+    (λ κs z e z′ e′. (z ≡ z′) × (now (e .1 .1 .1 .1 .0) ≡ now (e′ .1 .1 .1 .1 .0)) × (now (e .1 .1 .1 .1 .1 .0) ≡ now (e′ .1 .1 .1 .1 .1 .0)))
 c-spline-inverse-steady-one-reply κs a z z′ e e′ p q = (one (p .0) (q .0), one (p .1 .0) (q .1 .0), one (p .1 .1) (q .1 .1))
 
-pub c-spline-inverse-segment-steady-one-reply : OneReply c_spline_inverse_segment_steady.Learnt (λ κs z e z′ e′. (z ≡ z′) × (now (e .1 .1 .1 .0) ≡ now (e′ .1 .1 .1 .0)) × (now (e .1 .1 .1 .1 .0) ≡ now (e′ .1 .1 .1 .1 .0)))
+pub c-spline-inverse-segment-steady-one-reply : OneReply c_spline_inverse_segment_steady.Learnt
+    (λ κs z e z′ e′. (z ≡ z′) × (now (e .1 .1 .1 .0) ≡ now (e′ .1 .1 .1 .0)) × (now (e .1 .1 .1 .1 .0) ≡ now (e′ .1 .1 .1 .1 .0)))
 c-spline-inverse-segment-steady-one-reply κs a z z′ e e′ p q = (one (p .0) (q .0), one (p .1 .0) (q .1 .0), one (p .1 .1) (q .1 .1))
 
-pub c-table-spline-inverse-steady-one-reply : OneReply c_table_spline_inverse_steady.Learnt (λ κs z e z′ e′. (z ≡ z′) × (now (e .1 .1 .1 .1 .1 .0) ≡ now (e′ .1 .1 .1 .1 .1 .0)) × (now (e .1 .1 .1 .1 .1 .1 .0) ≡ now (e′ .1 .1 .1 .1 .1 .1 .0)))
+pub c-table-spline-inverse-steady-one-reply : OneReply c_table_spline_inverse_steady.Learnt
+    (λ κs z e z′ e′. (z ≡ z′) × (now (e .1 .1 .1 .1 .1 .0) ≡ now (e′ .1 .1 .1 .1 .1 .0)) × (now (e .1 .1 .1 .1 .1 .1 .0) ≡ now (e′ .1 .1 .1 .1 .1 .1 .0)))
 c-table-spline-inverse-steady-one-reply κs a z z′ e e′ p q = (one (p .0) (q .0), one (p .1 .0) (q .1 .0), one (p .1 .1) (q .1 .1))
 
-pub c-spline-inverse-steady-writes-nothing : Keeps c_spline_inverse_steady.Learnt (λ κs a z e. NotZero z → (now (e .1 .1 .1 .1 .0) ≡ now (a .1 .1 .1 .1 .0)) × ((z ≡ 11 → ⊥) → now (e .1 .1 .1 .1 .1 .0) ≡ now (a .1 .1 .1 .1 .1 .0)))
+pub c-spline-inverse-steady-writes-nothing : Keeps c_spline_inverse_steady.Learnt
+    (λ κs a z e. NotZero z → (now (e .1 .1 .1 .1 .0) ≡ now (a .1 .1 .1 .1 .0)) × ((z ≡ 11 → ⊥) → now (e .1 .1 .1 .1 .1 .0) ≡ now (a .1 .1 .1 .1 .1 .0)))
 c-spline-inverse-steady-writes-nothing κs a z e p h =
     let f : Basis → Inverted = λ b. steadyOf b (a .1 .0) (now (a .1 .1 .0)) (a .1 .1 .1 .0) in
-    let c = chosenOf (a .0) in
-    (p .1 .0 ∙ place-kept c f (now (a .1 .1 .1 .1 .0)) (λ w. h (p .0 ∙ w)), λ g. p .1 .1 ∙ whole-kept c f (now (a .1 .1 .1 .1 .1 .0)) (λ w. h (p .0 ∙ w)) (λ w. g (p .0 ∙ w)))
+    let c = chosenOf (a .0) in (
+      p .1 .0 ∙ place-kept c f (now (a .1 .1 .1 .1 .0)) (λ w. h (p .0 ∙ w)),
+      λ g. p .1 .1
+          ∙ whole-kept c f (now (a .1 .1 .1 .1 .1 .0)) (λ w. h (p .0 ∙ w)) (λ w. g (p .0 ∙ w)),
+    )
 
-pub c-spline-inverse-segment-steady-writes-nothing : Keeps c_spline_inverse_segment_steady.Learnt (λ κs a z e. NotZero z → (now (e .1 .1 .1 .0) ≡ now (a .1 .1 .1 .0)) × ((z ≡ 11 → ⊥) → now (e .1 .1 .1 .1 .0) ≡ now (a .1 .1 .1 .1 .0)))
+pub c-spline-inverse-segment-steady-writes-nothing : Keeps c_spline_inverse_segment_steady.Learnt
+    (λ κs a z e. NotZero z → (now (e .1 .1 .1 .0) ≡ now (a .1 .1 .1 .0)) × ((z ≡ 11 → ⊥) → now (e .1 .1 .1 .1 .0) ≡ now (a .1 .1 .1 .1 .0)))
 c-spline-inverse-segment-steady-writes-nothing κs a z e p h =
     let f : Basis → Inverted = λ b. steadySegmentOf b (a .1 .0) (now (a .1 .1 .0)) in
-    let c = chosenOf (a .0) in
-    (p .1 .0 ∙ place-kept c f (now (a .1 .1 .1 .0)) (λ w. h (p .0 ∙ w)), λ g. p .1 .1 ∙ whole-kept c f (now (a .1 .1 .1 .1 .0)) (λ w. h (p .0 ∙ w)) (λ w. g (p .0 ∙ w)))
+    let c = chosenOf (a .0) in (
+      p .1 .0 ∙ place-kept c f (now (a .1 .1 .1 .0)) (λ w. h (p .0 ∙ w)),
+      λ g. p .1 .1
+          ∙ whole-kept c f (now (a .1 .1 .1 .1 .0)) (λ w. h (p .0 ∙ w)) (λ w. g (p .0 ∙ w)),
+    )
 
-pub c-table-spline-inverse-steady-writes-nothing : Keeps c_table_spline_inverse_steady.Learnt (λ κs a z e. NotZero z → (now (e .1 .1 .1 .1 .1 .0) ≡ now (a .1 .1 .1 .1 .1 .0)) × ((z ≡ 11 → ⊥) → now (e .1 .1 .1 .1 .1 .1 .0) ≡ now (a .1 .1 .1 .1 .1 .1 .0)))
+pub c-table-spline-inverse-steady-writes-nothing : Keeps c_table_spline_inverse_steady.Learnt
+    (λ κs a z e. NotZero z
+    → (now (e .1 .1 .1 .1 .1 .0) ≡ now (a .1 .1 .1 .1 .1 .0)) × ((z ≡ 11 → ⊥) → now (e .1 .1 .1 .1 .1 .1 .0) ≡ now (a .1 .1 .1 .1 .1 .1 .0)))
 c-table-spline-inverse-steady-writes-nothing κs a z e p h =
-    let f : Basis → EndsBy → Method → Timed = λ b n m. tableInverseBy n m (tableOf (a .1 .0) b) (a .1 .1 .0) (now (a .1 .1 .1 .0)) (a .1 .1 .1 .1 .0) steadyLimit defaultPrecision in
+    let f : Basis → EndsBy → Method → Timed =
+    λ b n m. tableInverseBy n m (tableOf (a .1 .0) b) (a .1 .1 .0) (now (a .1 .1 .1 .0)) (a .1 .1 .1 .1 .0) steadyLimit defaultPrecision in
     let c = chosenOf (a .0) in
-    let w = W.Known Knots Steady in
-    (p .1 .0 ∙ timed.place-kept c w f (now (a .1 .1 .1 .1 .1 .0)) (λ q. h (p .0 ∙ q)), λ g. p .1 .1 ∙ timed.whole-kept c w f (now (a .1 .1 .1 .1 .1 .1 .0)) (λ q. h (p .0 ∙ q)) (λ q. g (p .0 ∙ q)))
+    let w = W.Known Knots Steady in (
+      p .1 .0 ∙ timed.place-kept c w f (now (a .1 .1 .1 .1 .1 .0)) (λ q. h (p .0 ∙ q)),
+      λ g. p .1 .1
+          ∙ timed.whole-kept c w f (now (a .1 .1 .1 .1 .1 .1 .0)) (λ q. h (p .0 ∙ q)) (λ q. g (p .0 ∙ q)),
+    )

@@ -41,22 +41,29 @@ table-strict-one-reply κs a z z′ e e′ p q = (p .0 ∙ sym (q .0), p .1 ∙ 
 pub table-strict-base : Keeps table_convert_spline_strict.Learnt
     (λ κs a z e. goodSpan (a .0 .span) ≡ true
     → (z ≡ handedOf (a .0 .span) (a .1 .0) (answerOf (strictOf (a .0 .basis) (a .1 .0) (now (a .1 .1 .0)) (a .1 .1 .1 .0) (length (now (a .1 .1 .1 .1 .0))))))
-    × (now (e .1 .1 .1 .1 .0) ≡ bufferOf (strictOf (a .0 .basis) (a .1 .0) (now (a .1 .1 .0)) (a .1 .1 .1 .0) (length (now (a .1 .1 .1 .1 .0)))) (now (a .1 .1 .1 .1 .0))))
+    × (now (e .1 .1 .1 .1 .0) ≡ bufferOf (strictOf (a .0 .basis) (a .1 .0) (now (a .1 .1 .0)) (a .1 .1 .1 .0) (length (now (a .1 .1 .1 .1 .0))))
+    (now (a .1 .1 .1 .1 .0))))
 table-strict-base κs a z e p g =
-    let same = strict-base (a .0) (a .1 .0) (now (a .1 .1 .0)) (a .1 .1 .1 .0) (length (now (a .1 .1 .1 .1 .0))) g in
-    (p .0 ∙ ap (λ (c : Conversion). handedOf (a .0 .span) (a .1 .0) (answerOf c)) same, p .1 ∙ ap (λ (c : Conversion). bufferOf c (now (a .1 .1 .1 .1 .0))) same)
+    let same = strict-base (a .0) (a .1 .0) (now (a .1 .1 .0)) (a .1 .1 .1 .0) (length (now (a .1 .1 .1 .1 .0))) g in (
+      p .0 ∙ ap (λ (c : Conversion). handedOf (a .0 .span) (a .1 .0) (answerOf c)) same,
+      p .1
+          ∙ ap (λ (c : Conversion). bufferOf c (now (a .1 .1 .1 .1 .0))) same,
+    )
 
 -- ---- refused exactly by the first row that applies, and then nothing is written
 pub table-strict-refuses : Keeps table_convert_spline_strict.Learnt
     (λ κs a z e. (r : Refusal)
-    → Exactly (z ≡ H.Refused r) (First (badSpan (a .0 .span) ∷ strictUses (a .0 .basis) (a .1 .0) (now (a .1 .1 .0)) (a .1 .1 .1 .0) (length (now (a .1 .1 .1 .1 .0)))) rows r))
-table-strict-refuses κs a z e p r = carried (p .0) (table-strict-refused (a .0) r (a .1 .0) (now (a .1 .1 .0)) (a .1 .1 .1 .0) (length (now (a .1 .1 .1 .1 .0))))
+    → Exactly (z ≡ H.Refused r)
+    (First (badSpan (a .0 .span) ∷ strictUses (a .0 .basis) (a .1 .0) (now (a .1 .1 .0)) (a .1 .1 .1 .0) (length (now (a .1 .1 .1 .1 .0)))) rows r))
+table-strict-refuses κs a z e p r =
+    carried (p .0) (table-strict-refused (a .0) r (a .1 .0) (now (a .1 .1 .0)) (a .1 .1 .1 .0) (length (now (a .1 .1 .1 .1 .0))))
 
 pub table-strict-ordered : (t : Table) (to : Basis) (ks : List Float) (allowance : Float) (room : ℕ)
     → Ordered (badSpan (t .span) ∷ strictUses (t .basis) to ks allowance room) (1 ∷ 2 ∷ 3 ∷ 14 ∷ 8 ∷ 17 ∷ 9 ∷ 4 ∷ 15 ∷ [])
 table-strict-ordered t to ks allowance room = (refl, refl)
 
-pub table-strict-writes-nothing : Keeps table_convert_spline_strict.Learnt (λ κs a z e. (r : Refusal) → z ≡ H.Refused r → now (e .1 .1 .1 .1 .0) ≡ now (a .1 .1 .1 .1 .0))
+pub table-strict-writes-nothing : Keeps table_convert_spline_strict.Learnt
+    (λ κs a z e. (r : Refusal) → z ≡ H.Refused r → now (e .1 .1 .1 .1 .0) ≡ now (a .1 .1 .1 .1 .0))
 table-strict-writes-nothing κs a z e p r h =
     let out = now (a .1 .1 .1 .1 .0) in
     p .1 ∙ kept (a .0 .span) (a .1 .0) (tableStrictOf (a .0) (a .1 .0) (now (a .1 .1 .0)) (a .1 .1 .1 .0) (length out)) out r (sym (p .0) ∙ h)
@@ -83,10 +90,12 @@ spanless b n = go (ltb n 4) (regular b n) (ltb 4096 n) refl refl refl
 
 -- ---- beside the strict and the plain conversion, with a span and without
 module _ (t : Table) (to : Basis) (ks : List Float) (allowance : Float) (room : ℕ) where
-  pub seam-lost : (s : ℕ) → Exactly (tableStrictOf t to ks allowance room ≡ refuses (LostSeam s)) ((goodSpan (t .span) ≡ true) × SeamLost (t .basis) to ks allowance room s)
+  pub seam-lost : (s : ℕ)
+      → Exactly (tableStrictOf t to ks allowance room ≡ refuses (LostSeam s)) ((goodSpan (t .span) ≡ true) × SeamLost (t .basis) to ks allowance room s)
   seam-lost s = go (goodSpan (t .span)) refl
     where
-      go : (g : Bool) → goodSpan (t .span) ≡ g → Exactly (tableStrictOf t to ks allowance room ≡ refuses (LostSeam s)) ((goodSpan (t .span) ≡ true) × SeamLost (t .basis) to ks allowance room s)
+      go : (g : Bool) → goodSpan (t .span) ≡ g
+          → Exactly (tableStrictOf t to ks allowance room ≡ refuses (LostSeam s)) ((goodSpan (t .span) ≡ true) × SeamLost (t .basis) to ks allowance room s)
       go true g =
           let same = strict-base t to ks allowance room g in
           (λ h. (g, lost-only (t .basis) to ks allowance room s (sym same ∙ h)), λ x. same ∙ lost-where (t .basis) to ks allowance room s (x .1))
@@ -95,7 +104,8 @@ module _ (t : Table) (to : Basis) (ks : List Float) (allowance : Float) (room : 
           let e = strict-spanless t to ks allowance room (w .row) g (w .told) in
           (λ h. absurd (w .no-seam s (let q : refuses (w .row) ≡ refuses (LostSeam s) = sym e ∙ h in cc)), λ x. never (let q = x .0 in cc))
 
-  pub same-as-plain : (tableStrictOf t to ks allowance room ≡ refuses BadAllowance → ⊥) → ((s : ℕ) → tableStrictOf t to ks allowance room ≡ refuses (LostSeam s) → ⊥)
+  pub same-as-plain : (tableStrictOf t to ks allowance room ≡ refuses BadAllowance → ⊥)
+      → ((s : ℕ) → tableStrictOf t to ks allowance room ≡ refuses (LostSeam s) → ⊥)
       → tableStrictOf t to ks allowance room ≡ tableConvertedOf t to ks room
   same-as-plain u v = go (goodSpan (t .span)) refl
     where
@@ -110,7 +120,8 @@ module _ (t : Table) (to : Basis) (ks : List Float) (allowance : Float) (room : 
 -- 15 with segment s: the span is good, the plain conversion would answer, the allowance is good, and s is the lowest segment that loses a double
 pub table-strict-lost : Keeps table_convert_spline_strict.Learnt
     (λ κs a z e. (s : ℕ)
-    → Exactly (z ≡ H.Refused (LostSeam s)) ((goodSpan (a .0 .span) ≡ true) × SeamLost (a .0 .basis) (a .1 .0) (now (a .1 .1 .0)) (a .1 .1 .1 .0) (length (now (a .1 .1 .1 .1 .0))) s))
+    → Exactly (z ≡ H.Refused (LostSeam s))
+    ((goodSpan (a .0 .span) ≡ true) × SeamLost (a .0 .basis) (a .1 .0) (now (a .1 .1 .0)) (a .1 .1 .1 .0) (length (now (a .1 .1 .1 .1 .0))) s))
 table-strict-lost κs a z e p s =
     let room = length (now (a .1 .1 .1 .1 .0)) in
     let x = by-handing (a .0 .span) (a .1 .0) (tableStrictOf (a .0) (a .1 .0) (now (a .1 .1 .0)) (a .1 .1 .1 .0) room) z (LostSeam s) (p .0) in
@@ -127,5 +138,8 @@ pub table-strict-is-the-plain : Keeps table_convert_spline_strict.Learnt
 table-strict-is-the-plain κs a z e p u v =
     let out = now (a .1 .1 .1 .1 .0) in
     let x = tableStrictOf (a .0) (a .1 .0) (now (a .1 .1 .0)) (a .1 .1 .1 .0) (length out) in
-    let q = same-as-plain (a .0) (a .1 .0) (now (a .1 .1 .0)) (a .1 .1 .1 .0) (length out) (λ h. u (by-handing (a .0 .span) (a .1 .0) x z BadAllowance (p .0) .1 h)) (λ s h. v s (by-handing (a .0 .span) (a .1 .0) x z (LostSeam s) (p .0) .1 h)) in
+    let q =
+    same-as-plain (a .0) (a .1 .0) (now (a .1 .1 .0)) (a .1 .1 .1 .0) (length out)
+    (λ h. u (by-handing (a .0 .span) (a .1 .0) x z BadAllowance (p .0) .1 h))
+    (λ s h. v s (by-handing (a .0 .span) (a .1 .0) x z (LostSeam s) (p .0) .1 h)) in
     (p .0 ∙ ap (λ (c : Conversion). handedOf (a .0 .span) (a .1 .0) (answerOf c)) q, p .1 ∙ ap (λ (c : Conversion). bufferOf c out) q)

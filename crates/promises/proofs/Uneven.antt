@@ -24,7 +24,21 @@ use Rattle.uneven.specs.declared.Sounded.{Sounded}
 use Rattle.uneven.specs.declared.Sounded.the-variants.{Refused, OffCurve, At}
 use Rattle.uneven.specs.declared.Named.the-variants.{Times, Depths}
 use Rattle.uneven.specs.Uneven.{depthUses, depthOf}
-use Rattle.uneven.proofs.Call.{countOf, depth-told, times-only, times-where, depths-only, depths-where, off-only, off-where, in-turn, few-bounded, many-bounded, off-count, found-count}
+use Rattle.uneven.proofs.Call.{
+  countOf,
+  depth-told,
+  times-only,
+  times-where,
+  depths-only,
+  depths-where,
+  off-only,
+  off-where,
+  in-turn,
+  few-bounded,
+  many-bounded,
+  off-count,
+  found-count,
+}
 use Rattle.uneven.proofs.depth_at.Reads as depth_at
 use Rattle.simmerstoat.specs.declared.Chosen.{Chosen}
 use Rattle.simmerstoat.specs.declared.Chosen.the-variants.{Known, Unknown}
@@ -52,13 +66,15 @@ module _ (tb : Basis) (ts : List Float) (db : Basis) (ds : List Float) (y : Floa
     -- the times refuse exactly where one of their rows applies, by the first
     pub times : (r : Refusal) → Exactly (z ≡ Refused Times r) (First (inverseUses tb y ts true limit ε) rows r)
     -- the depths exactly where no row of the times applies and one of theirs does, by the first
-    pub depths : (r : Refusal) → Exactly (z ≡ Refused Depths r) ((first (inverseUses tb y ts true limit ε) ≡ Passed) × First (depthUses tb (length ts) db ds) rows r)
+    pub depths : (r : Refusal)
+        → Exactly (z ≡ Refused Depths r) ((first (inverseUses tb y ts true limit ε) ≡ Passed) × First (depthUses tb (length ts) db ds) rows r)
     -- 11 exactly where no row of the depths applies and the inversion says it, with its count
     pub off : (n : ℕ) → Exactly (z ≡ OffCurve n) ((first (depthUses tb (length ts) db ds) ≡ Passed) × (inverseOf tb y ts true limit ε ≡ I.OffCurve n))
     pub off-made : (n : ℕ) → z ≡ OffCurve n → n ≡ length (inverseEvaluations tb y ts true limit ε)
     -- where both tables pass and the inversion finds a place: its record, the depths' value at its parameter, which is never refused, and one evaluation more
     pub turn : first (depthUses tb (length ts) db ds) ≡ Passed → (p : Place) → inverseOf tb y ts true limit ε ≡ I.At p
-        → (splineOf db (p .parameter) ds ≡ Value (curveValue db (p .parameter) ds)) × (z ≡ At (record { depth = curveValue db (p .parameter) ds; place = p; count = p .count + 1 }))
+        → (splineOf db (p .parameter) ds ≡ Value (curveValue db (p .parameter) ds))
+        × (z ≡ At (record { depth = curveValue db (p .parameter) ds; place = p; count = p .count + 1 }))
         × (p .count ≡ length (inverseEvaluations tb y ts true limit ε))
     -- the bound of an inversion, and 1
     pub few : segmentsOf tb (length ts) ≤ 12 → countOf z ≤ limit + 25
@@ -76,8 +92,10 @@ module _ (tb : Basis) (ts : List Float) (db : Basis) (ds : List Float) (y : Floa
         many = λ h. subst (λ (s : Sounded). countOf s ≤ limit + 2 * bitsOf (segmentsOf tb (length ts)) + 5) (sym e) (many-bounded tb ts db ds y limit ε h);
       }
 
-pub depth-at-sounds : Keeps depth_at.Learnt (λ κs a z e. Sounds (a .0) (now (a .1 .0)) (a .1 .1 .0) (now (a .1 .1 .1 .0)) (a .1 .1 .1 .1 .0) (a .1 .1 .1 .1 .1 .0) (a .1 .1 .1 .1 .1 .1 .0) z)
-depth-at-sounds κs a z e p = sounds (a .0) (now (a .1 .0)) (a .1 .1 .0) (now (a .1 .1 .1 .0)) (a .1 .1 .1 .1 .0) (a .1 .1 .1 .1 .1 .0) (a .1 .1 .1 .1 .1 .1 .0) z p
+pub depth-at-sounds : Keeps depth_at.Learnt
+    (λ κs a z e. Sounds (a .0) (now (a .1 .0)) (a .1 .1 .0) (now (a .1 .1 .1 .0)) (a .1 .1 .1 .1 .0) (a .1 .1 .1 .1 .1 .0) (a .1 .1 .1 .1 .1 .1 .0) z)
+depth-at-sounds κs a z e p =
+    sounds (a .0) (now (a .1 .0)) (a .1 .1 .0) (now (a .1 .1 .1 .0)) (a .1 .1 .1 .1 .0) (a .1 .1 .1 .1 .1 .0) (a .1 .1 .1 .1 .1 .1 .0) z p
 
 -- ---- what others link
 pub c-depth-at-asks-nothing : AsksNothing c_depth_at.Asked
@@ -125,7 +143,8 @@ pub c-depth-at-writes-nothing : Keeps c_depth_at.Learnt
     × (now (e .1 .1 .1 .1 .1 .1 .1 .1 .0) ≡ now (a .1 .1 .1 .1 .1 .1 .1 .1 .0))
     × ((z ≡ 11 → ⊥) → now (e .1 .1 .1 .1 .1 .1 .1 .1 .1 .0) ≡ now (a .1 .1 .1 .1 .1 .1 .1 .1 .1 .0)))
 c-depth-at-writes-nothing κs a z e p h =
-    let g : Basis → Basis → Sounded = λ t d. depthOf t (now (a .1 .0)) d (now (a .1 .1 .1 .0)) (a .1 .1 .1 .1 .0) (a .1 .1 .1 .1 .1 .0) (a .1 .1 .1 .1 .1 .1 .0) in
+    let g : Basis → Basis → Sounded =
+    λ t d. depthOf t (now (a .1 .0)) d (now (a .1 .1 .1 .0)) (a .1 .1 .1 .1 .0) (a .1 .1 .1 .1 .1 .0) (a .1 .1 .1 .1 .1 .1 .0) in
     let c = chosenOf (a .0) in
     let d = chosenOf (a .1 .1 .0) in
     let depth = now (a .1 .1 .1 .1 .1 .1 .1 .0) in

@@ -64,7 +64,9 @@ wrote (gives l) need out out′ z a b f g n h =
       told = sym q ∙ s .0;
       fits = subst (λ (m : ℕ). m ≤ length out) q (s .1);
       all-finite = λ i k.
-          subst (λ (x : Float). T (finite x)) (sym (ap (λ (o : List Float). getD o i nan) b ∙ List·getD-append l (drop (length l) out) nan i (omega (arith, q, k)))) (converted.finite-at (g l refl) i (omega (arith, q, k)));
+          subst (λ (x : Float). T (finite x))
+          (sym (ap (λ (o : List Float). getD o i nan) b ∙ List·getD-append l (drop (length l) out) nan i (omega (arith, q, k))))
+          (converted.finite-at (g l refl) i (omega (arith, q, k)));
       beyond = λ i k. ap (λ (o : List Float). getD o i nan) b ∙ beyond-stays l out i (omega (arith, q, k));
     }
 wrote (refuses r) need out out′ z a b f g n h = never (cc)
@@ -87,37 +89,46 @@ convert-spline-wrote κs a z e p n h =
 -- ---- the windows of a conversion, step by step
 applied-steps : (m : Matrix) (cv : List Float) → Small 3 m → Four 40 cv → Finite (appliedSteps m cv)
 applied-steps m cv s k =
-    joined (joined (joined (row-finite 3 cv (row m 0) (lit≤ tt) k (s .r0) .steps) (row-finite 3 cv (row m 1) (lit≤ tt) k (s .r1) .steps)) (row-finite 3 cv (row m 2) (lit≤ tt) k (s .r2) .steps))
+    joined (joined (joined (row-finite 3 cv (row m 0) (lit≤ tt) k (s .r0) .steps) (row-finite 3 cv (row m 1) (lit≤ tt) k (s .r1) .steps))
+    (row-finite 3 cv (row m 2) (lit≤ tt) k (s .r2) .steps))
     (row-finite 3 cv (row m 3) (lit≤ tt) k (s .r3) .steps)
 
 window-steps : (from to : Basis) (ks : List Float) (s : ℕ) → T (allInRange ks) → s * stepOf from + 4 ≤ length ks → Finite (windowSteps from to ks s)
-window-steps from to ks s t h = applied-steps (conversionOf from to) (drop (s * stepOf from) ks) (conversion-small from to) (knots-within ks (s * stepOf from) t h)
+window-steps from to ks s t h =
+    applied-steps (conversionOf from to) (drop (s * stepOf from) ks) (conversion-small from to) (knots-within ks (s * stepOf from) t h)
 
 -- a conversion that wrote has passed every row
 past : (v : Verdict) (l : List Float) (n : ℕ) → answerOf (unless v l) ≡ C.Written n → v ≡ Passed
 past Passed l n h = refl
 past (Failed r) l n h = never (cc)
 
-segment-past : (from to : Basis) (cv : List Float) (room n : ℕ) → answerOf (convertedSegmentOf from to cv room) ≡ C.Written n → first (convertSegmentUses to cv room) ≡ Passed
+segment-past : (from to : Basis) (cv : List Float) (room n : ℕ) → answerOf (convertedSegmentOf from to cv room) ≡ C.Written n
+    → first (convertSegmentUses to cv room) ≡ Passed
 unfolding convertedSegmentOf
 segment-past from to cv room n h = past (first (convertSegmentUses to cv room)) (segmentOutput from to cv) n h
 
-curve-past : (from to : Basis) (ks : List Float) (room n : ℕ) → answerOf (convertedOf from to ks room) ≡ C.Written n → first (convertUses from to ks room) ≡ Passed
+curve-past : (from to : Basis) (ks : List Float) (room n : ℕ) → answerOf (convertedOf from to ks room) ≡ C.Written n
+    → first (convertUses from to ks room) ≡ Passed
 unfolding convertedOf
 curve-past from to ks room n h = past (first (convertUses from to ks room)) (splineOutput from to ks) n h
 
 reach : (s step n : ℕ) → s * step ≤ n - 4 → 4 ≤ n → s * step + 4 ≤ n
 reach s step n h g = omega arith
 
-pub convert-segment-steps-finite : Keeps convert_segment.Learnt (λ κs a z e. (n : ℕ) → z ≡ C.Written n → Finite (appliedSteps (conversionOf (a .0) (a .1 .0)) (now (a .1 .1 .0))))
+pub convert-segment-steps-finite : Keeps convert_segment.Learnt
+    (λ κs a z e. (n : ℕ) → z ≡ C.Written n → Finite (appliedSteps (conversionOf (a .0) (a .1 .0)) (now (a .1 .1 .0))))
 convert-segment-steps-finite κs a z e p n h =
     let cv = now (a .1 .1 .0) in
     let r = segment-passed (a .1 .0) cv (length (now (a .1 .1 .1 .0))) (segment-past (a .0) (a .1 .0) cv (length (now (a .1 .1 .1 .0))) n (sym (p .0) ∙ h)) in
     applied-steps (conversionOf (a .0) (a .1 .0)) cv (conversion-small (a .0) (a .1 .0)) (knots-within cv 0 (holds (r .1 .in-range)) (omega (arith, r .0)))
 
 pub convert-spline-steps-finite : Keeps convert_spline.Learnt
-    (λ κs a z e. (n : ℕ) → z ≡ C.Written n → (s : ℕ) → s < segmentsOf (a .0) (length (now (a .1 .1 .0))) → Finite (windowSteps (a .0) (a .1 .0) (now (a .1 .1 .0)) s))
+    (λ κs a z e. (n : ℕ) → z ≡ C.Written n → (s : ℕ) → s < segmentsOf (a .0) (length (now (a .1 .1 .0)))
+    → Finite (windowSteps (a .0) (a .1 .0) (now (a .1 .1 .0)) s))
 convert-spline-steps-finite κs a z e p n h s k =
     let ks = now (a .1 .1 .0) in
-    let r = spline-passed (a .0) (a .1 .0) ks (length (now (a .1 .1 .1 .0))) (curve-past (a .0) (a .1 .0) ks (length (now (a .1 .1 .1 .0))) n (sym (p .0) ∙ h)) in
-    window-steps (a .0) (a .1 .0) ks s (holds (r .1 .in-range)) (reach s (stepOf (a .0)) (length ks) (inside s (stepOf (a .0)) (length ks - 4) (omega (arith, k))) (r .0 .least))
+    let r =
+    spline-passed (a .0) (a .1 .0) ks (length (now (a .1 .1 .1 .0))) (curve-past (a .0) (a .1 .0) ks (length (now (a .1 .1 .1 .0))) n (sym (p .0) ∙ h))
+    in
+    window-steps (a .0) (a .1 .0) ks s (holds (r .1 .in-range))
+    (reach s (stepOf (a .0)) (length ks) (inside s (stepOf (a .0)) (length ks - 4) (omega (arith, k))) (r .0 .least))

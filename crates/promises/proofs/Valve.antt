@@ -111,8 +111,10 @@ one-of : (j : ℕ) → T (at-step j) → (i : ℕ) → i < 4 → T (weighs j i)
 unfolding at-step
 one-of j t zero h = and-l (weighs j 0) (weighs j 1 && (weighs j 2 && weighs j 3)) t
 one-of j t (suc zero) h = and-l (weighs j 1) (weighs j 2 && weighs j 3) (and-r (weighs j 0) (weighs j 1 && (weighs j 2 && weighs j 3)) t)
-one-of j t (suc (suc zero)) h = and-l (weighs j 2) (weighs j 3) (and-r (weighs j 1) (weighs j 2 && weighs j 3) (and-r (weighs j 0) (weighs j 1 && (weighs j 2 && weighs j 3)) t))
-one-of j t (suc (suc (suc zero))) h = and-r (weighs j 2) (weighs j 3) (and-r (weighs j 1) (weighs j 2 && weighs j 3) (and-r (weighs j 0) (weighs j 1 && (weighs j 2 && weighs j 3)) t))
+one-of j t (suc (suc zero)) h =
+    and-l (weighs j 2) (weighs j 3) (and-r (weighs j 1) (weighs j 2 && weighs j 3) (and-r (weighs j 0) (weighs j 1 && (weighs j 2 && weighs j 3)) t))
+one-of j t (suc (suc (suc zero))) h =
+    and-r (weighs j 2) (weighs j 3) (and-r (weighs j 1) (weighs j 2 && weighs j 3) (and-r (weighs j 0) (weighs j 1 && (weighs j 2 && weighs j 3)) t))
 one-of j t (suc (suc (suc (suc i)))) h = absurd (omega arith)
 
 -- the weight of knot i at a step is what the B-spline's whole numbers give for it, multiplied by 6 × 256³

@@ -39,7 +39,8 @@ no-minus (b ∷ s) h = absurd (omega arith)
 below : (s : List ℕ) → 0 < length s → take (length s - 1) (drop 1 s) ≡ drop 1 s
 below s h = take-all (length s - 1) (drop 1 s) (rw length-drop (omega arith))
 
-pub minus-depth : (s : List ℕ) {r : Hexed} {t : Bool} → t ≡ eqb (getD s 0 0) MINUS → t ≡ true → r ≡ thousandthsOf (take (length s - 1) (drop 1 s)) → signed true r ≡ depthIn s
+pub minus-depth : (s : List ℕ) {r : Hexed} {t : Bool} → t ≡ eqb (getD s 0 0) MINUS → t ≡ true → r ≡ thousandthsOf (take (length s - 1) (drop 1 s))
+    → signed true r ≡ depthIn s
 unfolding depthIn
 minus-depth s {r} {t} e f g =
     let m : eqb (getD s 0 0) MINUS ≡ true = sym e ∙ f in
@@ -66,7 +67,8 @@ module _ (l : List ℕ) (t : ℕ) (is : t ≡ tabOf l) where
   pub labelled : {r : Depth} → t < length l → 1 ≤ t → t ≤ 16 → r ≡ depthIn (take (length l - (t + 1)) (drop (t + 1) l)) → r ≡ depthLine l
   unfolding depthLine
   labelled {r} h k m e =
-      let p : take (length l - (t + 1)) (drop (t + 1) l) ≡ drop (suc t) l = take-all (length l - (t + 1)) (drop (t + 1) l) (rw length-drop (omega arith)) ∙ ap (λ (x : ℕ). drop x l) (add-one t) in
+      let p : take (length l - (t + 1)) (drop (t + 1) l) ≡ drop (suc t) l =
+      take-all (length l - (t + 1)) (drop (t + 1) l) (rw length-drop (omega arith)) ∙ ap (λ (x : ℕ). drop x l) (add-one t) in
       e ∙ ap depthIn p ∙ rw (← is, lt-ltb t (length l) h, le-leb 1 t k, le-leb t 16 m) refl
 
 -- a depth that a line says has at most nine digits and three
@@ -88,13 +90,16 @@ depth-small l b n e = go (ltb (tabOf l) (length l) && leb 1 (tabOf l) && leb (ta
     in-field s true h = signed-small true b (thousandthsOf (drop 1 s)) (drop 1 s) n refl h
     in-field s false h = signed-small false b (thousandthsOf s) s n refl h
 
-    go : (t : Bool) → cond t (cond (eqb (getD (drop (suc (tabOf l)) l) 0 0) MINUS) (signed true (thousandthsOf (drop 1 (drop (suc (tabOf l)) l)))) (signed false (thousandthsOf (drop (suc (tabOf l)) l)))) Nothing ≡ Is b n → n ≤ 999999999999
+    go : (t : Bool)
+        → cond t (cond (eqb (getD (drop (suc (tabOf l)) l) 0 0) MINUS) (signed true (thousandthsOf (drop 1 (drop (suc (tabOf l)) l))))
+        (signed false (thousandthsOf (drop (suc (tabOf l)) l)))) Nothing ≡ Is b n → n ≤ 999999999999
     go true h = in-field (drop (suc (tabOf l)) l) (eqb (getD (drop (suc (tabOf l)) l) 0 0) MINUS) h
     go false h = never h
 
 -- ---- a knot more
 module _ (b : Basis) (n : ℕ) (table : List Float) (few : n ≤ most) (full : length table ≡ most) where
-  pub room : (minus : Bool) (k : ℕ) {x : Float} {d : Depth} {e : Depth} → d ≡ e → d ≡ Is minus k → n < most → x ≡ depthOf minus k → on b (take (n + 1) (set table n x)) ≡ added b (take n table) e
+  pub room : (minus : Bool) (k : ℕ) {x : Float} {d : Depth} {e : Depth} → d ≡ e → d ≡ Is minus k → n < most → x ≡ depthOf minus k
+      → on b (take (n + 1) (set table n x)) ≡ added b (take n table) e
   room minus k {x} {d} {e} p q h r =
       let z : length (take n table) < most = rw (length-take-le n table (omega arith)) h in
       let w : e ≡ Is minus k = sym p ∙ q in
@@ -120,7 +125,8 @@ pub named-line : (n : ℕ) (line : List ℕ) {s : Sheet} → n ≤ widest → s 
 unfolding afterOf
 named-line n line h e = rw (open-so n line h) e
 
-pub added-line : (b : Basis) (ks : List Float) (n : ℕ) (line : List ℕ) {s : Sheet} → n ≤ widest → s ≡ added b ks (depthLine (take (n - 0) line)) → s ≡ afterOf (on b ks) (openOf n line)
+pub added-line : (b : Basis) (ks : List Float) (n : ℕ) (line : List ℕ) {s : Sheet} → n ≤ widest → s ≡ added b ks (depthLine (take (n - 0) line))
+    → s ≡ afterOf (on b ks) (openOf n line)
 unfolding afterOf
 added-line b ks n line h e = rw (open-so n line h) e
 

@@ -135,7 +135,8 @@ record Behind (b : Basis) (ks : List Float) (ls : List (List ℕ)) (c : Basis) (
 never : {A : Type 0} {r : Refusal} {c : Basis} {ns : List Float} → faulty r ≡ on c ns → A
 never e = let z : _≡_ {A = ℕ} 0 1 = cc in absurd (omega arith)
 
-behind : (b : Basis) (ks : List Float) (ls : List (List ℕ)) (c : Basis) (ns : List Float) → length ks ≤ most → sheetAfter (on b ks) ls ≡ on c ns → Behind b ks ls c ns
+behind : (b : Basis) (ks : List Float) (ls : List (List ℕ)) (c : Basis) (ns : List Float) → length ks ≤ most → sheetAfter (on b ks) ls ≡ on c ns
+    → Behind b ks ls c ns
 unfolding sheetAfter
 behind b ks [] c ns h e =
     let p : ks ≡ ns = cc in
@@ -151,7 +152,13 @@ behind b ks (l ∷ ls) c ns h e =
     room next minus n d true f g =
         let z : length ks < most = ltb-true (length ks) most f in
         let q : Behind b (ks ++ (depthOf minus n ∷ [])) ls c ns = next (depthOf minus n) (simp length-append (omega arith)) g in
-        record { xs = depthOf minus n ∷ (q .xs); depths = (rw d refl, q .depths); all = sym (append-assoc ks (depthOf minus n ∷ []) (q .xs)) ∙ q .all; basis = q .basis; few = q .few }
+        record {
+          xs = depthOf minus n ∷ (q .xs);
+          depths = (rw d refl, q .depths);
+          all = sym (append-assoc ks (depthOf minus n ∷ []) (q .xs)) ∙ q .all;
+          basis = q .basis;
+          few = q .few;
+        }
     room next minus n d false f g = never (sym (fault-stays TooMany ls) ∙ g)
 
     go : Next → (d : Depth) → depthSaid (lineOf l) ≡ d → sheetAfter (added b ks d) ls ≡ on c ns → Behind b ks (l ∷ ls) c ns

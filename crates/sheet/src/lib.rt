@@ -87,7 +87,8 @@ fn first(l: &[u8]) -> Held
 // A depth, into the next place, if there is one.
 fn add(b: Basis, n: usize, l: &[u8], table: &mut [f64]) -> Held
     requires { ⌜ (n ≤ most) × (length (now table) ≡ most) ⌝ }
-    ensures { λ r. ⌜ (sheetOf r (now (table .exit)) ≡ added b (take n (now (table .entry))) (depthLine (now (l .entry)))) × (countOf r ≤ most) ⌝ }
+    ensures { λ r. ⌜ (sheetOf r (now (table .exit)) ≡ added b (take n (now (table .entry))) (depthLine (now (l .entry))))
+        × (countOf r ≤ most) ⌝ }
 {
     let Depth::Is(minus, k) = depth_line(l) else {
         return Held::Faulty(Refusal::BadSheet);
@@ -103,7 +104,8 @@ fn add(b: Basis, n: usize, l: &[u8], table: &mut [f64]) -> Held
 // A line of len bytes, the first ones of the lent 64; 65 for one that is too long.
 pub fn line(h: Held, len: usize, line: &[u8], table: &mut [f64]) -> Held
     requires { ⌜ (length (now line) ≡ widest) × (countOf h ≤ most) × (length (now table) ≡ most) ⌝ }
-    ensures { λ r. ⌜ (sheetOf r (now (table .exit)) ≡ afterOf (sheetOf h (now (table .entry))) (openOf len (now (line .entry)))) × (countOf r ≤ most) ⌝ }
+    ensures { λ r. ⌜ (sheetOf r (now (table .exit)) ≡ afterOf (sheetOf h (now (table .entry))) (openOf len (now (line .entry))))
+        × (countOf r ≤ most) ⌝ }
 {
     match h {
         Held::Unbegun => {

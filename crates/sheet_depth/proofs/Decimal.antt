@@ -4,7 +4,23 @@ use mathlib.Core.Logic.{inl, inr}
 use mathlib.Core.Bool.{Bool, true, false, cond, not, _&&_, _||_, Bool·beq}
 use borrow.Author.Tests.{ne-eqb}
 use Prim.Native.Nat.{ℕ, zero, suc, _+_, _-_, _*_, _/_, _%_, _^_, _≤_, _<_}
-use native.Mathlib.Nat.{add-mul, one-mul, le-trans, le-of-eq, lt-of-le-of-lt, mul-one, mul-comm, mul-assoc, mul-right-comm, zero-mul, mul-pos, mul-le-mul-right, le-of-mul-le-mul-right, eq-of-mul-eq-mul-right, div-add-mod'}
+use native.Mathlib.Nat.{
+  add-mul,
+  one-mul,
+  le-trans,
+  le-of-eq,
+  lt-of-le-of-lt,
+  mul-one,
+  mul-comm,
+  mul-assoc,
+  mul-right-comm,
+  zero-mul,
+  mul-pos,
+  mul-le-mul-right,
+  le-of-mul-le-mul-right,
+  eq-of-mul-eq-mul-right,
+  div-add-mod',
+}
 use native.Mathlib.Omega.{arith}
 use lib.IntN.{ℤ, pos}
 use lib.Dec.{T, T-not, eqb, lit<, lit≤}
@@ -36,10 +52,14 @@ clash N l w k few W e =
           omega arith
       | inr h ↦
           let j = l - (k + 2) in
-          let p : N * 2 ^ j * 2 ^ (k + 2) ≡ N * 2 ^ l = mul-assoc N (2 ^ j) (2 ^ (k + 2)) ∙ ap (λ (x : ℕ). N * x) (sym (pow-add 2 j (k + 2)) ∙ ap (λ (x : ℕ). 2 ^ x) (back l (k + 2) (omega arith))) in
+          let p : N * 2 ^ j * 2 ^ (k + 2) ≡ N * 2 ^ l =
+          mul-assoc N (2 ^ j) (2 ^ (k + 2)) ∙ ap (λ (x : ℕ). N * x) (sym (pow-add 2 j (k + 2)) ∙ ap (λ (x : ℕ). 2 ^ x) (back l (k + 2) (omega arith)))
+          in
           let q : N * 2 ^ j ≡ (2 * w + 1) * 125 = eq-of-mul-eq-mul-right (2 ^ (k + 2)) (pow-pos (k + 2)) (N * 2 ^ j) ((2 * w + 1) * 125) (p ∙ e) in
           let i = j - 1 in
-          let s : N * 2 ^ j ≡ 2 * (N * 2 ^ i) = ap (λ (x : ℕ). N * x) (ap (λ (x : ℕ). 2 ^ x) (sym (back j 1 (omega arith))) ∙ pow-add 2 i 1) ∙ (sym (mul-assoc N (2 ^ i) 2) ∙ mul-comm (N * 2 ^ i) 2) in
+          let s : N * 2 ^ j ≡ 2 * (N * 2 ^ i) =
+          ap (λ (x : ℕ). N * x) (ap (λ (x : ℕ). 2 ^ x) (sym (back j 1 (omega arith))) ∙ pow-add 2 i 1)
+          ∙ (sym (mul-assoc N (2 ^ i) 2) ∙ mul-comm (N * 2 ^ i) 2) in
           odd-even w (N * 2 ^ i) (sym q ∙ s)
     ]
   where
@@ -69,7 +89,8 @@ no-tie N few h =
     unscale : (n o p q : ℕ) → q ≡ p * 2 ^ 2 → n * 2 ≡ o * (1000 * p) → n ≡ o * 125 * q
     unscale n o p q e f =
         let a : o * (1000 * p) ≡ o * p * 1000 = ap (λ (x : ℕ). o * x) (mul-comm 1000 p) ∙ sym (mul-assoc o p 1000) in
-        let b : o * 125 * q ≡ o * p * 500 = ap (λ (x : ℕ). o * 125 * x) e ∙ (mul-right-comm o 125 (p * 4) ∙ (ap (λ (x : ℕ). x * 125) (sym (mul-assoc o p 4)) ∙ mul-assoc (o * p) 4 125)) in
+        let b : o * 125 * q ≡ o * p * 500 =
+        ap (λ (x : ℕ). o * 125 * x) e ∙ (mul-right-comm o 125 (p * 4) ∙ (ap (λ (x : ℕ). x * 125) (sym (mul-assoc o p 4)) ∙ mul-assoc (o * p) 4 125)) in
         omega arith
 
 fine : (N : ℕ) → N ≤ greatest → grid binary64 N 1000 < overflow binary64
@@ -89,7 +110,8 @@ nearer-nought s (fin u k d) ne =
       | inl l ↦
           let e : k * up d * 1 ≡ 0 = omega arith in
           absurd (T-not (eqb (0 * 1 * down d) (k * up d * 1) && (Bool·beq false u || eqb (0 * 1 * down d) 0)) ne
-          (and-i (eqb (0 * 1 * down d) (k * up d * 1)) (Bool·beq false u || eqb (0 * 1 * down d) 0) (eq→eqb (z ∙ sym e)) (or-right (Bool·beq false u) (eqb (0 * 1 * down d) 0) (eq→eqb z))))
+          (and-i (eqb (0 * 1 * down d) (k * up d * 1)) (Bool·beq false u || eqb (0 * 1 * down d) 0) (eq→eqb (z ∙ sym e))
+          (or-right (Bool·beq false u) (eqb (0 * 1 * down d) 0) (eq→eqb z))))
       | inr l ↦ go s u l zd
     ]
   where
@@ -109,7 +131,8 @@ unfolding depthOf
 some minus n ne = rw (ne-eqb n 0 ne) refl
 
 -- every other double lies further from the decimal
-pub depth-nearest : (minus : Bool) (n : ℕ) → n ≤ greatest → (y : Float) → T (fits binary64 y) → T (not (eq (depthOf minus n) y)) → Nearer (depthOf minus n) y minus n 1000
+pub depth-nearest : (minus : Bool) (n : ℕ) → n ≤ greatest → (y : Float) → T (fits binary64 y) → T (not (eq (depthOf minus n) y))
+    → Nearer (depthOf minus n) y minus n 1000
 unfolding depthOf
 depth-nearest minus zero h y f ne = nearer-nought minus y ne
 depth-nearest minus (suc n) h y f ne =

@@ -3,7 +3,28 @@ use mathlib.Core.Path.{_≡_, refl, sym, ap, _∙_, subst}
 use mathlib.Core.Logic.{_⊎_, inl, inr}
 use mathlib.Core.Bool.{Bool, true, false, cond, not, _&&_, _||_, Bool·beq}
 use Prim.Native.Nat.{ℕ, zero, suc, _+_, _-_, _*_, _/_, _%_, _^_, _≤_, _<_, compare, Ordering, Ordering·lt, Ordering·eq, Ordering·gt}
-use native.Mathlib.Nat.{le-trans, le-of-eq, le-of-lt, lt-of-le-of-lt, lt-of-lt-of-le, mul-comm, mul-assoc, mul-right-comm, mul-sub, add-mul, suc-mul, zero-mul, mul-pos, mul-le-mul-right, mul-lt-mul-of-pos-right, lt-of-mul-lt-mul-right, eq-of-mul-eq-mul-right, div-add-mod', div-div-eq-div-mul, mod-lt}
+use native.Mathlib.Nat.{
+  le-trans,
+  le-of-eq,
+  le-of-lt,
+  lt-of-le-of-lt,
+  lt-of-lt-of-le,
+  mul-comm,
+  mul-assoc,
+  mul-right-comm,
+  mul-sub,
+  add-mul,
+  suc-mul,
+  zero-mul,
+  mul-pos,
+  mul-le-mul-right,
+  mul-lt-mul-of-pos-right,
+  lt-of-mul-lt-mul-right,
+  eq-of-mul-eq-mul-right,
+  div-add-mod',
+  div-div-eq-div-mul,
+  mod-lt,
+}
 use native.Mathlib.Omega.{arith}
 use lib.Arith.{lt-of-le-ne}
 use lib.IntN.{ℤ}
@@ -35,7 +56,8 @@ sides p w k q j P Q W =
     same : k ≤ j → w * 2 ^ k < q * 2 ^ j → w * 2 ^ k + 2 ^ k ≤ q * 2 ^ j
     same l g =
         let m = q * 2 ^ (j - k) in
-        let e : m * 2 ^ k ≡ q * 2 ^ j = mul-assoc q (2 ^ (j - k)) (2 ^ k) ∙ ap (λ (x : ℕ). q * x) (sym (pow-add 2 (j - k) k) ∙ ap (λ (x : ℕ). 2 ^ x) (back j k l)) in
+        let e : m * 2 ^ k ≡ q * 2 ^ j =
+        mul-assoc q (2 ^ (j - k)) (2 ^ k) ∙ ap (λ (x : ℕ). q * x) (sym (pow-add 2 (j - k) k) ∙ ap (λ (x : ℕ). 2 ^ x) (back j k l)) in
         let h : w < m = lt-of-mul-lt-mul-right (2 ^ k) (lt-of-lt-of-le g (le-of-eq (sym e))) in
         le-trans (le-of-eq (sym (suc-mul w (2 ^ k)))) (le-trans (mul-le-mul-right (2 ^ k) h) (le-of-eq e))
 
@@ -90,7 +112,8 @@ NoTie f a c = a * 2 ^ low f % (c * 2 ^ drop (prec f) (a * 2 ^ low f) c) * 2 ≡ 
 
 -- the digits kept are all of the format's, where some are dropped
 pub all-digits : (f : Format) (n c : ℕ) → 0 < drop (prec f) n c → 2 ^ (prec f - 1) ≤ n / (c * 2 ^ drop (prec f) n c)
-all-digits f n c K = subst (λ (x : ℕ). 2 ^ (prec f - 1) ≤ x) (div-div-eq-div-mul n c (2 ^ drop (prec f) n c)) (full (prec f) (n / c) (lt-of-lt-of-le (lit< tt) (two f)) K)
+all-digits f n c K =
+    subst (λ (x : ℕ). 2 ^ (prec f - 1) ≤ x) (div-div-eq-div-mul n c (2 ^ drop (prec f) n c)) (full (prec f) (n / c) (lt-of-lt-of-le (lit< tt) (two f)) K)
 
 chosen : (c w k n r h : ℕ) (o : Ordering) → 0 < c → n ≡ w * 2 ^ k * c + r → r < c * 2 ^ k → (h ≤ w * 2 ^ k) ⊎ (w * 2 ^ k + 2 ^ k ≤ h)
     → Cmp o (r * 2) (c * 2 ^ k) → (r * 2 ≡ c * 2 ^ k → ⊥) → (h ≡ nearest w o * 2 ^ k → ⊥) → gap (nearest w o * 2 ^ k * c) n < gap (h * c) n
@@ -109,8 +132,11 @@ grid-nearest f a c h C nt s ne =
     let w = n / u in
     let r = n % u in
     let U : 0 < u = mul-pos C (pow-pos k) in
-    let is : n ≡ w * 2 ^ k * c + r = sym (div-add-mod' n u) ∙ ap (λ (x : ℕ). x + r) (ap (λ (x : ℕ). w * x) (mul-comm c (2 ^ k)) ∙ sym (mul-assoc w (2 ^ k) c)) in
-    let side : (h ≤ w * 2 ^ k) ⊎ (w * 2 ^ k + 2 ^ k ≤ h) = subst (λ (x : ℕ). (x ≤ w * 2 ^ k) ⊎ (w * 2 ^ k + 2 ^ k ≤ x)) (sym (s .whole)) (sides (prec f) w k (s .q) (s .j) (lt-of-lt-of-le (lit< tt) (two f)) (s .short) (all-digits f n c)) in
+    let is : n ≡ w * 2 ^ k * c + r =
+    sym (div-add-mod' n u) ∙ ap (λ (x : ℕ). x + r) (ap (λ (x : ℕ). w * x) (mul-comm c (2 ^ k)) ∙ sym (mul-assoc w (2 ^ k) c)) in
+    let side : (h ≤ w * 2 ^ k) ⊎ (w * 2 ^ k + 2 ^ k ≤ h) =
+    subst (λ (x : ℕ). (x ≤ w * 2 ^ k) ⊎ (w * 2 ^ k + 2 ^ k ≤ x)) (sym (s .whole))
+    (sides (prec f) w k (s .q) (s .j) (lt-of-lt-of-le (lit< tt) (two f)) (s .short) (all-digits f n c)) in
     chosen c w k n r h (compare (r * 2) u) C is (mod-lt n U) side (cmp (r * 2) u) nt ne
 
 -- ---- doubles, by their values in units
@@ -137,8 +163,10 @@ core : (s u : Bool) (X E Y D U G h a c : ℕ) → 0 < U → 0 < E → 0 < D → 
 core s u X E Y D U G h a c p e d v w l =
     let P = apart s (G * c) s (a * U) in
     let Q = apart u (h * c) s (a * U) in
-    let x : apart s (X * c) s (a * E) * D * U ≡ P * E * D = mul-right-comm (apart s (X * c) s (a * E)) D U ∙ ap (λ (z : ℕ). z * D) (in-units s X E U G s a c v) in
-    let y : apart u (Y * c) s (a * D) * E * U ≡ Q * E * D = mul-right-comm (apart u (Y * c) s (a * D)) E U ∙ ap (λ (z : ℕ). z * E) (in-units u Y D U h s a c w) ∙ mul-right-comm Q D E in
+    let x : apart s (X * c) s (a * E) * D * U ≡ P * E * D =
+    mul-right-comm (apart s (X * c) s (a * E)) D U ∙ ap (λ (z : ℕ). z * D) (in-units s X E U G s a c v) in
+    let y : apart u (Y * c) s (a * D) * E * U ≡ Q * E * D =
+    mul-right-comm (apart u (Y * c) s (a * D)) E U ∙ ap (λ (z : ℕ). z * E) (in-units u Y D U h s a c w) ∙ mul-right-comm Q D E in
     let m : P * E * D < Q * E * D = mul-lt-mul-of-pos-right (mul-lt-mul-of-pos-right l e) d in
     lt-of-mul-lt-mul-right U (lt-of-le-of-lt (le-of-eq x) (lt-of-lt-of-le m (le-of-eq (sym y))))
 
@@ -182,7 +210,8 @@ signed f a c h s u C nt short ne zs = go s u ne
               let e : grid f a c * c ≡ 0 = ap (λ (x : ℕ). x * c) z ∙ zero-mul c in
               omega arith
           | inr g ↦
-              let l : gap (grid f a c * c) (a * 2 ^ low f) < gap (0 * c) (a * 2 ^ low f) = grid-nearest f a c 0 C nt nothing (λ (e : 0 ≡ grid f a c). omega arith) in
+              let l : gap (grid f a c * c) (a * 2 ^ low f) < gap (0 * c) (a * 2 ^ low f) =
+              grid-nearest f a c 0 C nt nothing (λ (e : 0 ≡ grid f a c). omega arith) in
               let e : 0 * c ≡ 0 = zero-mul c in
               omega arith
         ]
@@ -221,7 +250,8 @@ nearer-than f s m e (fin u k d) a c C nt v h ne =
     let x0 : X * down d ≡ 0 = ap (λ (t : ℕ). t * down d) x ∙ zero-mul (down d) in
     let z0 : Z * down e ≡ 0 = ap (λ (t : ℕ). t * down e) z ∙ zero-mul (down e) in
     T-not (eqb (X * down d) (Z * down e) && (Bool·beq s u || eqb (X * down d) 0)) ne
-    (and-i (eqb (X * down d) (Z * down e)) (Bool·beq s u || eqb (X * down d) 0) (eq→eqb (x0 ∙ sym z0)) (or-right (Bool·beq s u) (eqb (X * down d) 0) (eq→eqb x0))) in
+    (and-i (eqb (X * down d) (Z * down e)) (Bool·beq s u || eqb (X * down d) 0) (eq→eqb (x0 ∙ sym z0))
+    (or-right (Bool·beq s u) (eqb (X * down d) 0) (eq→eqb x0))) in
     core s u X (down e) Z (down d) U (grid f a c) (Y .h) a c P (down-pos e) (down-pos d) v w
     (signed f a c (Y .h) s u C nt (Y .digits) same zeros)
 
@@ -230,11 +260,13 @@ from-value : (f : Format) (x : Float) (s : Bool) (y : Float) (a c : ℕ) → 0 <
 from-value f nan s y a c C nt v h ne = absurd v
 from-value f (inf t) s y a c C nt v h ne = absurd v
 from-value f (fin t m e) s y a c C nt v h ne =
-    subst (λ (b : Bool). T (not (eq (fin b m e) y)) → Nearer (fin b m e) y s a c) (sym (v .0)) (λ (g : T (not (eq (fin s m e) y))). nearer-than f s m e y a c C nt (v .1) h g) ne
+    subst (λ (b : Bool). T (not (eq (fin b m e) y)) → Nearer (fin b m e) y s a c) (sym (v .0))
+    (λ (g : T (not (eq (fin s m e) y))). nearer-than f s m e y a c C nt (v .1) h g) ne
 
 pub rounded-value : (f : Format) (s : Bool) (a c : ℕ) → grid f a c < overflow f → HasValue (round f s a c) s (grid f a c) (2 ^ low f)
 rounded-value f s a c h =
-    subst (λ (z : Float). HasValue z s (grid f a c) (2 ^ low f)) (sym (round-is f s a c)) (units-val f s (kept (prec f) (a * 2 ^ low f) c) (drop (prec f) (a * 2 ^ low f) c) h)
+    subst (λ (z : Float). HasValue z s (grid f a c) (2 ^ low f)) (sym (round-is f s a c))
+    (units-val f s (kept (prec f) (a * 2 ^ low f) c) (drop (prec f) (a * 2 ^ low f) c) h)
 
 -- what ±a / c rounds to is nearer to it than any value of the format that is another number
 pub round-nearest : (f : Format) (s : Bool) (a c : ℕ) → 0 < c → grid f a c < overflow f → NoTie f a c

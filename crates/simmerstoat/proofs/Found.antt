@@ -18,7 +18,8 @@ pub unfound : {A : Type 0} {c k : Chosen} (d : A) (f : Basis → A) → c ≡ k 
 unfound d f asked unknown = sym (ap (λ x. chosen x d f) (sym asked ∙ unknown))
 
 -- ---- the same of a way
-pub way-found : {A : Type 0} {c k : Way} {e : EndsBy} {m : Method} {r : A} (d : A) (f : EndsBy → Method → A) → c ≡ k → c ≡ W.Known e m → r ≡ f e m → r ≡ way k d f
+pub way-found : {A : Type 0} {c k : Way} {e : EndsBy} {m : Method} {r : A} (d : A) (f : EndsBy → Method → A) → c ≡ k → c ≡ W.Known e m → r ≡ f e m
+    → r ≡ way k d f
 way-found d f asked known answered = answered ∙ sym (ap (λ x. way x d f) (sym asked ∙ known))
 
 pub way-unfound : {A : Type 0} {c k : Way} (d : A) (f : EndsBy → Method → A) → c ≡ k → c ≡ W.Unknown → d ≡ way k d f

@@ -34,8 +34,10 @@ pub extern "C" fn simmerstoat_check_claim(
     knots: &[f64],
     holds: &mut bool,
 ) -> u32
-    ensures answer { λ r. ⌜ r ≡ chosen (chosenOf basis) noBasis (λ b. claimedReply (claimOf b y segment x precision (now (knots .entry)))) ⌝ }
-    ensures holds { λ _. ⌜ now (holds .exit) ≡ chosen (chosenOf basis) (now (holds .entry)) (λ b. holdsLeft (claimOf b y segment x precision (now (knots .entry))) (now (holds .entry))) ⌝ }
+    ensures answer { λ r. ⌜ r ≡ chosen (chosenOf basis) noBasis
+        (λ b. claimedReply (claimOf b y segment x precision (now (knots .entry)))) ⌝ }
+    ensures holds { λ _. ⌜ now (holds .exit) ≡ chosen (chosenOf basis) (now (holds .entry))
+        (λ b. holdsLeft (claimOf b y segment x precision (now (knots .entry))) (now (holds .entry))) ⌝ }
 {
     let c = crate::basis_of(basis);
     let Chosen::Known(b) = c else {

@@ -61,10 +61,18 @@ pub extern "C" fn simmerstoat_depth_at(
     place: &mut [f64; 4],
     whole: &mut [usize; 4],
 ) -> u32
-    ensures answer { λ r. ⌜ r ≡ chosen (chosenOf tb) noBasis (λ t. chosen (chosenOf db) noBasis (λ d. soundedReply (depthOf t (now (times .entry)) d (now (depths .entry)) y limit precision))) ⌝ }
-    ensures value { λ _. ⌜ now (depth .exit) ≡ chosen (chosenOf tb) (now (depth .entry)) (λ t. chosen (chosenOf db) (now (depth .entry)) (λ d. depthLeft (depthOf t (now (times .entry)) d (now (depths .entry)) y limit precision) (now (depth .entry)))) ⌝ }
-    ensures place { λ _. ⌜ now (place .exit) ≡ chosen (chosenOf tb) (now (place .entry)) (λ t. chosen (chosenOf db) (now (place .entry)) (λ d. depthPlaceLeft (depthOf t (now (times .entry)) d (now (depths .entry)) y limit precision) (now (place .entry)))) ⌝ }
-    ensures whole { λ _. ⌜ now (whole .exit) ≡ chosen (chosenOf tb) (now (whole .entry)) (λ t. chosen (chosenOf db) (now (whole .entry)) (λ d. depthWholeLeft (depthOf t (now (times .entry)) d (now (depths .entry)) y limit precision) (now (whole .entry)))) ⌝ }
+    ensures answer { λ r. ⌜ r ≡ chosen (chosenOf tb) noBasis
+        (λ t. chosen (chosenOf db) noBasis
+        (λ d. soundedReply (depthOf t (now (times .entry)) d (now (depths .entry)) y limit precision))) ⌝ }
+    ensures value { λ _. ⌜ now (depth .exit) ≡ chosen (chosenOf tb) (now (depth .entry))
+        (λ t. chosen (chosenOf db) (now (depth .entry))
+        (λ d. depthLeft (depthOf t (now (times .entry)) d (now (depths .entry)) y limit precision) (now (depth .entry)))) ⌝ }
+    ensures place { λ _. ⌜ now (place .exit) ≡ chosen (chosenOf tb) (now (place .entry))
+        (λ t. chosen (chosenOf db) (now (place .entry))
+        (λ d. depthPlaceLeft (depthOf t (now (times .entry)) d (now (depths .entry)) y limit precision) (now (place .entry)))) ⌝ }
+    ensures whole { λ _. ⌜ now (whole .exit) ≡ chosen (chosenOf tb) (now (whole .entry))
+        (λ t. chosen (chosenOf db) (now (whole .entry))
+        (λ d. depthWholeLeft (depthOf t (now (times .entry)) d (now (depths .entry)) y limit precision) (now (whole .entry)))) ⌝ }
 {
     let c = crate::basis_of(tb);
     let Chosen::Known(t) = c else {

@@ -98,7 +98,8 @@ pub fn value_told(e: Evaluated, value: &mut f64) -> u32
 #[no_mangle]
 pub extern "C" fn simmerstoat_spline(basis: u8, x: f64, knots: &[f64], value: &mut f64) -> u32
     ensures answer { λ r. ⌜ r ≡ chosen (chosenOf basis) noBasis (λ b. evaluatedReply (splineOf b x (now (knots .entry)))) ⌝ }
-    ensures value { λ _. ⌜ now (value .exit) ≡ chosen (chosenOf basis) (now (value .entry)) (λ b. valueLeft (splineOf b x (now (knots .entry))) (now (value .entry))) ⌝ }
+    ensures value { λ _. ⌜ now (value .exit) ≡ chosen (chosenOf basis) (now (value .entry))
+        (λ b. valueLeft (splineOf b x (now (knots .entry))) (now (value .entry))) ⌝ }
 {
     let c = basis_of(basis);
     let Chosen::Known(b) = c else {
@@ -111,7 +112,8 @@ pub extern "C" fn simmerstoat_spline(basis: u8, x: f64, knots: &[f64], value: &m
 #[no_mangle]
 pub extern "C" fn simmerstoat_spline_segment(basis: u8, x: f64, cv: &[f64], value: &mut f64) -> u32
     ensures answer { λ r. ⌜ r ≡ chosen (chosenOf basis) noBasis (λ b. evaluatedReply (splineSegmentOf b x (now (cv .entry)))) ⌝ }
-    ensures value { λ _. ⌜ now (value .exit) ≡ chosen (chosenOf basis) (now (value .entry)) (λ b. valueLeft (splineSegmentOf b x (now (cv .entry))) (now (value .entry))) ⌝ }
+    ensures value { λ _. ⌜ now (value .exit) ≡ chosen (chosenOf basis) (now (value .entry))
+        (λ b. valueLeft (splineSegmentOf b x (now (cv .entry))) (now (value .entry))) ⌝ }
 {
     let c = basis_of(basis);
     let Chosen::Known(b) = c else {
@@ -122,7 +124,8 @@ pub extern "C" fn simmerstoat_spline_segment(basis: u8, x: f64, cv: &[f64], valu
 
 // A place leaves parameter, local place, lower and upper end, and ground, segment and count; refusal 11 its count.
 pub fn place_told(a: Inverted, place: &mut [f64; 4], whole: &mut [usize; 3]) -> u32
-    ensures { λ r. ⌜ (r ≡ invertedReply a) × (now (place .exit) ≡ placeLeft a (now (place .entry))) × (now (whole .exit) ≡ wholeLeft a (now (whole .entry))) ⌝ }
+    ensures { λ r. ⌜ (r ≡ invertedReply a) × (now (place .exit) ≡ placeLeft a (now (place .entry)))
+        × (now (whole .exit) ≡ wholeLeft a (now (whole .entry))) ⌝ }
 {
     match a {
         Inverted::At(p) => {
@@ -149,9 +152,12 @@ pub extern "C" fn simmerstoat_spline_inverse(
     place: &mut [f64; 4],
     whole: &mut [usize; 3],
 ) -> u32
-    ensures answer { λ r. ⌜ r ≡ chosen (chosenOf basis) noBasis (λ b. invertedReply (inverseOf b y (now (knots .entry)) check defaultLimit defaultPrecision)) ⌝ }
-    ensures place { λ _. ⌜ now (place .exit) ≡ chosen (chosenOf basis) (now (place .entry)) (λ b. placeLeft (inverseOf b y (now (knots .entry)) check defaultLimit defaultPrecision) (now (place .entry))) ⌝ }
-    ensures whole { λ _. ⌜ now (whole .exit) ≡ chosen (chosenOf basis) (now (whole .entry)) (λ b. wholeLeft (inverseOf b y (now (knots .entry)) check defaultLimit defaultPrecision) (now (whole .entry))) ⌝ }
+    ensures answer { λ r. ⌜ r ≡ chosen (chosenOf basis) noBasis
+        (λ b. invertedReply (inverseOf b y (now (knots .entry)) check defaultLimit defaultPrecision)) ⌝ }
+    ensures place { λ _. ⌜ now (place .exit) ≡ chosen (chosenOf basis) (now (place .entry))
+        (λ b. placeLeft (inverseOf b y (now (knots .entry)) check defaultLimit defaultPrecision) (now (place .entry))) ⌝ }
+    ensures whole { λ _. ⌜ now (whole .exit) ≡ chosen (chosenOf basis) (now (whole .entry))
+        (λ b. wholeLeft (inverseOf b y (now (knots .entry)) check defaultLimit defaultPrecision) (now (whole .entry))) ⌝ }
 {
     let c = basis_of(basis);
     let Chosen::Known(b) = c else {
@@ -172,9 +178,12 @@ pub extern "C" fn simmerstoat_spline_inverse_with(
     place: &mut [f64; 4],
     whole: &mut [usize; 3],
 ) -> u32
-    ensures answer { λ r. ⌜ r ≡ chosen (chosenOf basis) noBasis (λ b. invertedReply (inverseOf b y (now (knots .entry)) check limit precision)) ⌝ }
-    ensures place { λ _. ⌜ now (place .exit) ≡ chosen (chosenOf basis) (now (place .entry)) (λ b. placeLeft (inverseOf b y (now (knots .entry)) check limit precision) (now (place .entry))) ⌝ }
-    ensures whole { λ _. ⌜ now (whole .exit) ≡ chosen (chosenOf basis) (now (whole .entry)) (λ b. wholeLeft (inverseOf b y (now (knots .entry)) check limit precision) (now (whole .entry))) ⌝ }
+    ensures answer { λ r. ⌜ r ≡ chosen (chosenOf basis) noBasis
+        (λ b. invertedReply (inverseOf b y (now (knots .entry)) check limit precision)) ⌝ }
+    ensures place { λ _. ⌜ now (place .exit) ≡ chosen (chosenOf basis) (now (place .entry))
+        (λ b. placeLeft (inverseOf b y (now (knots .entry)) check limit precision) (now (place .entry))) ⌝ }
+    ensures whole { λ _. ⌜ now (whole .exit) ≡ chosen (chosenOf basis) (now (whole .entry))
+        (λ b. wholeLeft (inverseOf b y (now (knots .entry)) check limit precision) (now (whole .entry))) ⌝ }
 {
     let c = basis_of(basis);
     let Chosen::Known(b) = c else {
@@ -196,9 +205,12 @@ pub extern "C" fn simmerstoat_spline_inverse_segment(
     place: &mut [f64; 4],
     whole: &mut [usize; 3],
 ) -> u32
-    ensures answer { λ r. ⌜ r ≡ chosen (chosenOf basis) noBasis (λ b. invertedReply (inverseSegmentOf b y (now (cv .entry)) defaultLimit defaultPrecision)) ⌝ }
-    ensures place { λ _. ⌜ now (place .exit) ≡ chosen (chosenOf basis) (now (place .entry)) (λ b. placeLeft (inverseSegmentOf b y (now (cv .entry)) defaultLimit defaultPrecision) (now (place .entry))) ⌝ }
-    ensures whole { λ _. ⌜ now (whole .exit) ≡ chosen (chosenOf basis) (now (whole .entry)) (λ b. wholeLeft (inverseSegmentOf b y (now (cv .entry)) defaultLimit defaultPrecision) (now (whole .entry))) ⌝ }
+    ensures answer { λ r. ⌜ r ≡ chosen (chosenOf basis) noBasis
+        (λ b. invertedReply (inverseSegmentOf b y (now (cv .entry)) defaultLimit defaultPrecision)) ⌝ }
+    ensures place { λ _. ⌜ now (place .exit) ≡ chosen (chosenOf basis) (now (place .entry))
+        (λ b. placeLeft (inverseSegmentOf b y (now (cv .entry)) defaultLimit defaultPrecision) (now (place .entry))) ⌝ }
+    ensures whole { λ _. ⌜ now (whole .exit) ≡ chosen (chosenOf basis) (now (whole .entry))
+        (λ b. wholeLeft (inverseSegmentOf b y (now (cv .entry)) defaultLimit defaultPrecision) (now (whole .entry))) ⌝ }
 {
     let c = basis_of(basis);
     let Chosen::Known(b) = c else {
@@ -222,9 +234,12 @@ pub extern "C" fn simmerstoat_spline_inverse_segment_with(
     place: &mut [f64; 4],
     whole: &mut [usize; 3],
 ) -> u32
-    ensures answer { λ r. ⌜ r ≡ chosen (chosenOf basis) noBasis (λ b. invertedReply (inverseSegmentOf b y (now (cv .entry)) limit precision)) ⌝ }
-    ensures place { λ _. ⌜ now (place .exit) ≡ chosen (chosenOf basis) (now (place .entry)) (λ b. placeLeft (inverseSegmentOf b y (now (cv .entry)) limit precision) (now (place .entry))) ⌝ }
-    ensures whole { λ _. ⌜ now (whole .exit) ≡ chosen (chosenOf basis) (now (whole .entry)) (λ b. wholeLeft (inverseSegmentOf b y (now (cv .entry)) limit precision) (now (whole .entry))) ⌝ }
+    ensures answer { λ r. ⌜ r ≡ chosen (chosenOf basis) noBasis
+        (λ b. invertedReply (inverseSegmentOf b y (now (cv .entry)) limit precision)) ⌝ }
+    ensures place { λ _. ⌜ now (place .exit) ≡ chosen (chosenOf basis) (now (place .entry))
+        (λ b. placeLeft (inverseSegmentOf b y (now (cv .entry)) limit precision) (now (place .entry))) ⌝ }
+    ensures whole { λ _. ⌜ now (whole .exit) ≡ chosen (chosenOf basis) (now (whole .entry))
+        (λ b. wholeLeft (inverseSegmentOf b y (now (cv .entry)) limit precision) (now (whole .entry))) ⌝ }
 {
     let c = basis_of(basis);
     let Chosen::Known(b) = c else {
@@ -262,8 +277,12 @@ pub fn conversion_reply(a: Converted) -> u32
 // One segment's conversion, into the first four places of out.
 #[no_mangle]
 pub extern "C" fn simmerstoat_convert_segment(from: u8, to: u8, cv: &[f64], out: &mut [f64]) -> u32
-    ensures answer { λ r. ⌜ r ≡ chosen (chosenOf from) noBasis (λ f. chosen (chosenOf to) noBasis (λ t. convertedReply (answerOf (convertedSegmentOf f t (now (cv .entry)) (length (now (out .entry))))))) ⌝ }
-    ensures buffer { λ _. ⌜ now (out .exit) ≡ chosen (chosenOf from) (now (out .entry)) (λ f. chosen (chosenOf to) (now (out .entry)) (λ t. bufferOf (convertedSegmentOf f t (now (cv .entry)) (length (now (out .entry)))) (now (out .entry)))) ⌝ }
+    ensures answer { λ r. ⌜ r ≡ chosen (chosenOf from) noBasis
+        (λ f. chosen (chosenOf to) noBasis
+        (λ t. convertedReply (answerOf (convertedSegmentOf f t (now (cv .entry)) (length (now (out .entry))))))) ⌝ }
+    ensures buffer { λ _. ⌜ now (out .exit) ≡ chosen (chosenOf from) (now (out .entry))
+        (λ f. chosen (chosenOf to) (now (out .entry))
+        (λ t. bufferOf (convertedSegmentOf f t (now (cv .entry)) (length (now (out .entry)))) (now (out .entry)))) ⌝ }
 {
     let c = basis_of(from);
     let Chosen::Known(f) = c else {
@@ -285,9 +304,15 @@ pub extern "C" fn simmerstoat_convert_spline(
     out: &mut [f64],
     written: &mut usize,
 ) -> u32
-    ensures answer { λ r. ⌜ r ≡ chosen (chosenOf from) noBasis (λ f. chosen (chosenOf to) noBasis (λ t. convertedReply (answerOf (convertedOf f t (now (knots .entry)) (length (now (out .entry))))))) ⌝ }
-    ensures length { λ _. ⌜ now (written .exit) ≡ chosen (chosenOf from) (now (written .entry)) (λ f. chosen (chosenOf to) (now (written .entry)) (λ t. lengthLeft (answerOf (convertedOf f t (now (knots .entry)) (length (now (out .entry))))) (now (written .entry)))) ⌝ }
-    ensures buffer { λ _. ⌜ now (out .exit) ≡ chosen (chosenOf from) (now (out .entry)) (λ f. chosen (chosenOf to) (now (out .entry)) (λ t. bufferOf (convertedOf f t (now (knots .entry)) (length (now (out .entry)))) (now (out .entry)))) ⌝ }
+    ensures answer { λ r. ⌜ r ≡ chosen (chosenOf from) noBasis
+        (λ f. chosen (chosenOf to) noBasis
+        (λ t. convertedReply (answerOf (convertedOf f t (now (knots .entry)) (length (now (out .entry))))))) ⌝ }
+    ensures length { λ _. ⌜ now (written .exit) ≡ chosen (chosenOf from) (now (written .entry))
+        (λ f. chosen (chosenOf to) (now (written .entry))
+        (λ t. lengthLeft (answerOf (convertedOf f t (now (knots .entry)) (length (now (out .entry))))) (now (written .entry)))) ⌝ }
+    ensures buffer { λ _. ⌜ now (out .exit) ≡ chosen (chosenOf from) (now (out .entry))
+        (λ f. chosen (chosenOf to) (now (out .entry))
+        (λ t. bufferOf (convertedOf f t (now (knots .entry)) (length (now (out .entry)))) (now (out .entry)))) ⌝ }
 {
     let c = basis_of(from);
     let Chosen::Known(f) = c else {

@@ -51,9 +51,12 @@ pub extern "C" fn simmerstoat_spline_inverse_by(
     place: &mut [f64; 4],
     whole: &mut [usize; 3],
 ) -> u32
-    ensures answer { λ r. ⌜ r ≡ chosenBy basis ends method noBasis (λ b e m. invertedReply (inverseBy e m b y (now (knots .entry)) check limit precision)) ⌝ }
-    ensures place { λ _. ⌜ now (place .exit) ≡ chosenBy basis ends method (now (place .entry)) (λ b e m. placeLeft (inverseBy e m b y (now (knots .entry)) check limit precision) (now (place .entry))) ⌝ }
-    ensures whole { λ _. ⌜ now (whole .exit) ≡ chosenBy basis ends method (now (whole .entry)) (λ b e m. wholeLeft (inverseBy e m b y (now (knots .entry)) check limit precision) (now (whole .entry))) ⌝ }
+    ensures answer { λ r. ⌜ r ≡ chosenBy basis ends method noBasis
+        (λ b e m. invertedReply (inverseBy e m b y (now (knots .entry)) check limit precision)) ⌝ }
+    ensures place { λ _. ⌜ now (place .exit) ≡ chosenBy basis ends method (now (place .entry))
+        (λ b e m. placeLeft (inverseBy e m b y (now (knots .entry)) check limit precision) (now (place .entry))) ⌝ }
+    ensures whole { λ _. ⌜ now (whole .exit) ≡ chosenBy basis ends method (now (whole .entry))
+        (λ b e m. wholeLeft (inverseBy e m b y (now (knots .entry)) check limit precision) (now (whole .entry))) ⌝ }
 {
     let c = crate::basis_of(basis);
     let Chosen::Known(b) = c else {
@@ -85,9 +88,12 @@ pub extern "C" fn simmerstoat_spline_inverse_segment_by(
     place: &mut [f64; 4],
     whole: &mut [usize; 3],
 ) -> u32
-    ensures answer { λ r. ⌜ r ≡ chosenBy basis 0 method noBasis (λ b _ m. invertedReply (inverseSegmentBy (ruleOf m) b y (now (cv .entry)) limit precision)) ⌝ }
-    ensures place { λ _. ⌜ now (place .exit) ≡ chosenBy basis 0 method (now (place .entry)) (λ b _ m. placeLeft (inverseSegmentBy (ruleOf m) b y (now (cv .entry)) limit precision) (now (place .entry))) ⌝ }
-    ensures whole { λ _. ⌜ now (whole .exit) ≡ chosenBy basis 0 method (now (whole .entry)) (λ b _ m. wholeLeft (inverseSegmentBy (ruleOf m) b y (now (cv .entry)) limit precision) (now (whole .entry))) ⌝ }
+    ensures answer { λ r. ⌜ r ≡ chosenBy basis 0 method noBasis
+        (λ b _ m. invertedReply (inverseSegmentBy (ruleOf m) b y (now (cv .entry)) limit precision)) ⌝ }
+    ensures place { λ _. ⌜ now (place .exit) ≡ chosenBy basis 0 method (now (place .entry))
+        (λ b _ m. placeLeft (inverseSegmentBy (ruleOf m) b y (now (cv .entry)) limit precision) (now (place .entry))) ⌝ }
+    ensures whole { λ _. ⌜ now (whole .exit) ≡ chosenBy basis 0 method (now (whole .entry))
+        (λ b _ m. wholeLeft (inverseSegmentBy (ruleOf m) b y (now (cv .entry)) limit precision) (now (whole .entry))) ⌝ }
 {
     let c = crate::basis_of(basis);
     let Chosen::Known(b) = c else {

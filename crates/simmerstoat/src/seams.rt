@@ -16,9 +16,16 @@ pub extern "C" fn simmerstoat_convert_spline_strict(
     out: &mut [f64],
     written: &mut usize,
 ) -> u32
-    ensures answer { λ r. ⌜ r ≡ chosen (chosenOf from) noBasis (λ f. chosen (chosenOf to) noBasis (λ t. convertedReply (answerOf (strictOf f t (now (knots .entry)) allowance (length (now (out .entry))))))) ⌝ }
-    ensures length { λ _. ⌜ now (written .exit) ≡ chosen (chosenOf from) (now (written .entry)) (λ f. chosen (chosenOf to) (now (written .entry)) (λ t. lengthLeft (answerOf (strictOf f t (now (knots .entry)) allowance (length (now (out .entry))))) (now (written .entry)))) ⌝ }
-    ensures buffer { λ _. ⌜ now (out .exit) ≡ chosen (chosenOf from) (now (out .entry)) (λ f. chosen (chosenOf to) (now (out .entry)) (λ t. bufferOf (strictOf f t (now (knots .entry)) allowance (length (now (out .entry)))) (now (out .entry)))) ⌝ }
+    ensures answer { λ r. ⌜ r ≡ chosen (chosenOf from) noBasis
+        (λ f. chosen (chosenOf to) noBasis
+        (λ t. convertedReply (answerOf (strictOf f t (now (knots .entry)) allowance (length (now (out .entry))))))) ⌝ }
+    ensures length { λ _. ⌜ now (written .exit) ≡ chosen (chosenOf from) (now (written .entry))
+        (λ f. chosen (chosenOf to) (now (written .entry))
+        (λ t. lengthLeft (answerOf (strictOf f t (now (knots .entry)) allowance (length (now (out .entry)))))
+        (now (written .entry)))) ⌝ }
+    ensures buffer { λ _. ⌜ now (out .exit) ≡ chosen (chosenOf from) (now (out .entry))
+        (λ f. chosen (chosenOf to) (now (out .entry))
+        (λ t. bufferOf (strictOf f t (now (knots .entry)) allowance (length (now (out .entry)))) (now (out .entry)))) ⌝ }
 {
     let c = crate::basis_of(from);
     let Chosen::Known(f) = c else {

@@ -34,8 +34,10 @@ pub extern "C" fn simmerstoat_table_spline(
     knots: &[f64],
     value: &mut f64,
 ) -> u32
-    ensures answer { λ r. ⌜ r ≡ chosen (chosenOf basis) noBasis (λ b. evaluatedReply (tableSplineOf (tableOf span b) x (now (knots .entry)))) ⌝ }
-    ensures value { λ _. ⌜ now (value .exit) ≡ chosen (chosenOf basis) (now (value .entry)) (λ b. valueLeft (tableSplineOf (tableOf span b) x (now (knots .entry))) (now (value .entry))) ⌝ }
+    ensures answer { λ r. ⌜ r ≡ chosen (chosenOf basis) noBasis
+        (λ b. evaluatedReply (tableSplineOf (tableOf span b) x (now (knots .entry)))) ⌝ }
+    ensures value { λ _. ⌜ now (value .exit) ≡ chosen (chosenOf basis) (now (value .entry))
+        (λ b. valueLeft (tableSplineOf (tableOf span b) x (now (knots .entry))) (now (value .entry))) ⌝ }
 {
     let c = crate::basis_of(basis);
     let Chosen::Known(b) = c else {
@@ -50,7 +52,8 @@ pub extern "C" fn simmerstoat_table_spline(
 
 // A place leaves what it leaves without a span, and its second; refusal 11 its count.
 pub fn timed_told(a: Timed, place: &mut [f64; 4], whole: &mut [usize; 4]) -> u32
-    ensures { λ r. ⌜ (r ≡ timedReply a) × (now (place .exit) ≡ timedPlace a (now (place .entry))) × (now (whole .exit) ≡ timedWhole a (now (whole .entry))) ⌝ }
+    ensures { λ r. ⌜ (r ≡ timedReply a) × (now (place .exit) ≡ timedPlace a (now (place .entry)))
+        × (now (whole .exit) ≡ timedWhole a (now (whole .entry))) ⌝ }
 {
     match a {
         Timed::At(p, s) => {
@@ -83,9 +86,14 @@ pub extern "C" fn simmerstoat_table_spline_inverse(
     place: &mut [f64; 4],
     whole: &mut [usize; 4],
 ) -> u32
-    ensures answer { λ r. ⌜ r ≡ chosen (chosenOf basis) noBasis (λ b. timedReply (tableInverseBy Knots AsCrate (tableOf span b) y (now (knots .entry)) check defaultLimit defaultPrecision)) ⌝ }
-    ensures place { λ _. ⌜ now (place .exit) ≡ chosen (chosenOf basis) (now (place .entry)) (λ b. timedPlace (tableInverseBy Knots AsCrate (tableOf span b) y (now (knots .entry)) check defaultLimit defaultPrecision) (now (place .entry))) ⌝ }
-    ensures whole { λ _. ⌜ now (whole .exit) ≡ chosen (chosenOf basis) (now (whole .entry)) (λ b. timedWhole (tableInverseBy Knots AsCrate (tableOf span b) y (now (knots .entry)) check defaultLimit defaultPrecision) (now (whole .entry))) ⌝ }
+    ensures answer { λ r. ⌜ r ≡ chosen (chosenOf basis) noBasis
+        (λ b. timedReply (tableInverseBy Knots AsCrate (tableOf span b) y (now (knots .entry)) check defaultLimit defaultPrecision)) ⌝ }
+    ensures place { λ _. ⌜ now (place .exit) ≡ chosen (chosenOf basis) (now (place .entry))
+        (λ b. timedPlace (tableInverseBy Knots AsCrate (tableOf span b) y (now (knots .entry)) check defaultLimit defaultPrecision)
+        (now (place .entry))) ⌝ }
+    ensures whole { λ _. ⌜ now (whole .exit) ≡ chosen (chosenOf basis) (now (whole .entry))
+        (λ b. timedWhole (tableInverseBy Knots AsCrate (tableOf span b) y (now (knots .entry)) check defaultLimit defaultPrecision)
+        (now (whole .entry))) ⌝ }
 {
     let c = crate::basis_of(basis);
     let Chosen::Known(b) = c else {
@@ -117,9 +125,12 @@ pub extern "C" fn simmerstoat_table_spline_inverse_by(
     place: &mut [f64; 4],
     whole: &mut [usize; 4],
 ) -> u32
-    ensures answer { λ r. ⌜ r ≡ chosenBy basis ends method noBasis (λ b e m. timedReply (tableInverseBy e m (tableOf span b) y (now (knots .entry)) check limit precision)) ⌝ }
-    ensures place { λ _. ⌜ now (place .exit) ≡ chosenBy basis ends method (now (place .entry)) (λ b e m. timedPlace (tableInverseBy e m (tableOf span b) y (now (knots .entry)) check limit precision) (now (place .entry))) ⌝ }
-    ensures whole { λ _. ⌜ now (whole .exit) ≡ chosenBy basis ends method (now (whole .entry)) (λ b e m. timedWhole (tableInverseBy e m (tableOf span b) y (now (knots .entry)) check limit precision) (now (whole .entry))) ⌝ }
+    ensures answer { λ r. ⌜ r ≡ chosenBy basis ends method noBasis
+        (λ b e m. timedReply (tableInverseBy e m (tableOf span b) y (now (knots .entry)) check limit precision)) ⌝ }
+    ensures place { λ _. ⌜ now (place .exit) ≡ chosenBy basis ends method (now (place .entry))
+        (λ b e m. timedPlace (tableInverseBy e m (tableOf span b) y (now (knots .entry)) check limit precision) (now (place .entry))) ⌝ }
+    ensures whole { λ _. ⌜ now (whole .exit) ≡ chosenBy basis ends method (now (whole .entry))
+        (λ b e m. timedWhole (tableInverseBy e m (tableOf span b) y (now (knots .entry)) check limit precision) (now (whole .entry))) ⌝ }
 {
     let c = crate::basis_of(basis);
     let Chosen::Known(b) = c else {
@@ -144,7 +155,8 @@ pub extern "C" fn simmerstoat_table_spline_inverse_by(
 }
 
 fn handed_told(a: Handed, handed: &mut u32, written: &mut usize) -> u32
-    ensures { λ r. ⌜ (r ≡ handedReply a) × (now (handed .exit) ≡ handedSpan a (now (handed .entry))) × (now (written .exit) ≡ handedLength a (now (written .entry))) ⌝ }
+    ensures { λ r. ⌜ (r ≡ handedReply a) × (now (handed .exit) ≡ handedSpan a (now (handed .entry)))
+        × (now (written .exit) ≡ handedLength a (now (written .entry))) ⌝ }
 {
     match a {
         Handed::On(t, n) => {
@@ -167,10 +179,23 @@ pub extern "C" fn simmerstoat_table_convert_spline(
     handed: &mut u32,
     written: &mut usize,
 ) -> u32
-    ensures answer { λ r. ⌜ r ≡ chosen (chosenOf from) noBasis (λ f. chosen (chosenOf to) noBasis (λ t. handedReply (handedOf span t (answerOf (tableConvertedOf (tableOf span f) t (now (knots .entry)) (length (now (out .entry)))))))) ⌝ }
-    ensures span { λ _. ⌜ now (handed .exit) ≡ chosen (chosenOf from) (now (handed .entry)) (λ f. chosen (chosenOf to) (now (handed .entry)) (λ t. handedSpan (handedOf span t (answerOf (tableConvertedOf (tableOf span f) t (now (knots .entry)) (length (now (out .entry)))))) (now (handed .entry)))) ⌝ }
-    ensures length { λ _. ⌜ now (written .exit) ≡ chosen (chosenOf from) (now (written .entry)) (λ f. chosen (chosenOf to) (now (written .entry)) (λ t. handedLength (handedOf span t (answerOf (tableConvertedOf (tableOf span f) t (now (knots .entry)) (length (now (out .entry)))))) (now (written .entry)))) ⌝ }
-    ensures buffer { λ _. ⌜ now (out .exit) ≡ chosen (chosenOf from) (now (out .entry)) (λ f. chosen (chosenOf to) (now (out .entry)) (λ t. bufferOf (tableConvertedOf (tableOf span f) t (now (knots .entry)) (length (now (out .entry)))) (now (out .entry)))) ⌝ }
+    ensures answer { λ r. ⌜ r ≡ chosen (chosenOf from) noBasis
+        (λ f. chosen (chosenOf to) noBasis
+        (λ t. handedReply (handedOf span t
+        (answerOf (tableConvertedOf (tableOf span f) t (now (knots .entry)) (length (now (out .entry)))))))) ⌝ }
+    ensures span { λ _. ⌜ now (handed .exit) ≡ chosen (chosenOf from) (now (handed .entry))
+        (λ f. chosen (chosenOf to) (now (handed .entry))
+        (λ t. handedSpan (handedOf span t
+        (answerOf (tableConvertedOf (tableOf span f) t (now (knots .entry)) (length (now (out .entry))))))
+        (now (handed .entry)))) ⌝ }
+    ensures length { λ _. ⌜ now (written .exit) ≡ chosen (chosenOf from) (now (written .entry))
+        (λ f. chosen (chosenOf to) (now (written .entry))
+        (λ t. handedLength (handedOf span t
+        (answerOf (tableConvertedOf (tableOf span f) t (now (knots .entry)) (length (now (out .entry))))))
+        (now (written .entry)))) ⌝ }
+    ensures buffer { λ _. ⌜ now (out .exit) ≡ chosen (chosenOf from) (now (out .entry))
+        (λ f. chosen (chosenOf to) (now (out .entry))
+        (λ t. bufferOf (tableConvertedOf (tableOf span f) t (now (knots .entry)) (length (now (out .entry)))) (now (out .entry)))) ⌝ }
 {
     let c = crate::basis_of(from);
     let Chosen::Known(f) = c else {
@@ -203,10 +228,24 @@ pub extern "C" fn simmerstoat_table_convert_spline_strict(
     handed: &mut u32,
     written: &mut usize,
 ) -> u32
-    ensures answer { λ r. ⌜ r ≡ chosen (chosenOf from) noBasis (λ f. chosen (chosenOf to) noBasis (λ t. handedReply (handedOf span t (answerOf (tableStrictOf (tableOf span f) t (now (knots .entry)) allowance (length (now (out .entry)))))))) ⌝ }
-    ensures span { λ _. ⌜ now (handed .exit) ≡ chosen (chosenOf from) (now (handed .entry)) (λ f. chosen (chosenOf to) (now (handed .entry)) (λ t. handedSpan (handedOf span t (answerOf (tableStrictOf (tableOf span f) t (now (knots .entry)) allowance (length (now (out .entry)))))) (now (handed .entry)))) ⌝ }
-    ensures length { λ _. ⌜ now (written .exit) ≡ chosen (chosenOf from) (now (written .entry)) (λ f. chosen (chosenOf to) (now (written .entry)) (λ t. handedLength (handedOf span t (answerOf (tableStrictOf (tableOf span f) t (now (knots .entry)) allowance (length (now (out .entry)))))) (now (written .entry)))) ⌝ }
-    ensures buffer { λ _. ⌜ now (out .exit) ≡ chosen (chosenOf from) (now (out .entry)) (λ f. chosen (chosenOf to) (now (out .entry)) (λ t. bufferOf (tableStrictOf (tableOf span f) t (now (knots .entry)) allowance (length (now (out .entry)))) (now (out .entry)))) ⌝ }
+    ensures answer { λ r. ⌜ r ≡ chosen (chosenOf from) noBasis
+        (λ f. chosen (chosenOf to) noBasis
+        (λ t. handedReply (handedOf span t
+        (answerOf (tableStrictOf (tableOf span f) t (now (knots .entry)) allowance (length (now (out .entry)))))))) ⌝ }
+    ensures span { λ _. ⌜ now (handed .exit) ≡ chosen (chosenOf from) (now (handed .entry))
+        (λ f. chosen (chosenOf to) (now (handed .entry))
+        (λ t. handedSpan (handedOf span t
+        (answerOf (tableStrictOf (tableOf span f) t (now (knots .entry)) allowance (length (now (out .entry))))))
+        (now (handed .entry)))) ⌝ }
+    ensures length { λ _. ⌜ now (written .exit) ≡ chosen (chosenOf from) (now (written .entry))
+        (λ f. chosen (chosenOf to) (now (written .entry))
+        (λ t. handedLength (handedOf span t
+        (answerOf (tableStrictOf (tableOf span f) t (now (knots .entry)) allowance (length (now (out .entry))))))
+        (now (written .entry)))) ⌝ }
+    ensures buffer { λ _. ⌜ now (out .exit) ≡ chosen (chosenOf from) (now (out .entry))
+        (λ f. chosen (chosenOf to) (now (out .entry))
+        (λ t. bufferOf (tableStrictOf (tableOf span f) t (now (knots .entry)) allowance (length (now (out .entry))))
+        (now (out .entry)))) ⌝ }
 {
     let c = crate::basis_of(from);
     let Chosen::Known(f) = c else {

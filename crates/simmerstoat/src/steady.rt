@@ -19,8 +19,10 @@ pub extern "C" fn simmerstoat_spline_inverse_steady(
     whole: &mut [usize; 3],
 ) -> u32
     ensures answer { λ r. ⌜ r ≡ chosen (chosenOf basis) noBasis (λ b. invertedReply (steadyOf b y (now (knots .entry)) check)) ⌝ }
-    ensures place { λ _. ⌜ now (place .exit) ≡ chosen (chosenOf basis) (now (place .entry)) (λ b. placeLeft (steadyOf b y (now (knots .entry)) check) (now (place .entry))) ⌝ }
-    ensures whole { λ _. ⌜ now (whole .exit) ≡ chosen (chosenOf basis) (now (whole .entry)) (λ b. wholeLeft (steadyOf b y (now (knots .entry)) check) (now (whole .entry))) ⌝ }
+    ensures place { λ _. ⌜ now (place .exit) ≡ chosen (chosenOf basis) (now (place .entry))
+        (λ b. placeLeft (steadyOf b y (now (knots .entry)) check) (now (place .entry))) ⌝ }
+    ensures whole { λ _. ⌜ now (whole .exit) ≡ chosen (chosenOf basis) (now (whole .entry))
+        (λ b. wholeLeft (steadyOf b y (now (knots .entry)) check) (now (whole .entry))) ⌝ }
 {
     let c = crate::basis_of(basis);
     let Chosen::Known(b) = c else {
@@ -43,8 +45,10 @@ pub extern "C" fn simmerstoat_spline_inverse_segment_steady(
     whole: &mut [usize; 3],
 ) -> u32
     ensures answer { λ r. ⌜ r ≡ chosen (chosenOf basis) noBasis (λ b. invertedReply (steadySegmentOf b y (now (cv .entry)))) ⌝ }
-    ensures place { λ _. ⌜ now (place .exit) ≡ chosen (chosenOf basis) (now (place .entry)) (λ b. placeLeft (steadySegmentOf b y (now (cv .entry))) (now (place .entry))) ⌝ }
-    ensures whole { λ _. ⌜ now (whole .exit) ≡ chosen (chosenOf basis) (now (whole .entry)) (λ b. wholeLeft (steadySegmentOf b y (now (cv .entry))) (now (whole .entry))) ⌝ }
+    ensures place { λ _. ⌜ now (place .exit) ≡ chosen (chosenOf basis) (now (place .entry))
+        (λ b. placeLeft (steadySegmentOf b y (now (cv .entry))) (now (place .entry))) ⌝ }
+    ensures whole { λ _. ⌜ now (whole .exit) ≡ chosen (chosenOf basis) (now (whole .entry))
+        (λ b. wholeLeft (steadySegmentOf b y (now (cv .entry))) (now (whole .entry))) ⌝ }
 {
     let c = crate::basis_of(basis);
     let Chosen::Known(b) = c else {
@@ -68,9 +72,12 @@ pub extern "C" fn simmerstoat_table_spline_inverse_steady(
     place: &mut [f64; 4],
     whole: &mut [usize; 4],
 ) -> u32
-    ensures answer { λ r. ⌜ r ≡ chosen (chosenOf basis) noBasis (λ b. timedReply (tableSteadyOf (tableOf span b) y (now (knots .entry)) check)) ⌝ }
-    ensures place { λ _. ⌜ now (place .exit) ≡ chosen (chosenOf basis) (now (place .entry)) (λ b. timedPlace (tableSteadyOf (tableOf span b) y (now (knots .entry)) check) (now (place .entry))) ⌝ }
-    ensures whole { λ _. ⌜ now (whole .exit) ≡ chosen (chosenOf basis) (now (whole .entry)) (λ b. timedWhole (tableSteadyOf (tableOf span b) y (now (knots .entry)) check) (now (whole .entry))) ⌝ }
+    ensures answer { λ r. ⌜ r ≡ chosen (chosenOf basis) noBasis
+        (λ b. timedReply (tableSteadyOf (tableOf span b) y (now (knots .entry)) check)) ⌝ }
+    ensures place { λ _. ⌜ now (place .exit) ≡ chosen (chosenOf basis) (now (place .entry))
+        (λ b. timedPlace (tableSteadyOf (tableOf span b) y (now (knots .entry)) check) (now (place .entry))) ⌝ }
+    ensures whole { λ _. ⌜ now (whole .exit) ≡ chosen (chosenOf basis) (now (whole .entry))
+        (λ b. timedWhole (tableSteadyOf (tableOf span b) y (now (knots .entry)) check) (now (whole .entry))) ⌝ }
 {
     let c = crate::basis_of(basis);
     let Chosen::Known(b) = c else {

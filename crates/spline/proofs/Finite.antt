@@ -137,7 +137,8 @@ row-finite a cv r h k e =
       steps = more p0 (more p1 (more s1 (more p2 (more s2 (more p3 (more s3 none))))));
     }
 
-horner-finite : (w : Weights) {t : Float} → Within 0 t → Within 46 (w .w0) → Within 46 (w .w1) → Within 46 (w .w2) → Within 46 (w .w3) → Within 49 (hornerOf w t) × Finite (hornerSteps w t)
+horner-finite : (w : Weights) {t : Float} → Within 0 t → Within 46 (w .w0) → Within 46 (w .w1) → Within 46 (w .w2) → Within 46 (w .w3)
+    → Within 49 (hornerOf w t) × Finite (hornerSteps w t)
 unfolding hornerSteps
 horner-finite w u x0 x1 x2 x3 =
     let a = times {a = 46} {b = 0} (lit≤ tt) x0 u in
@@ -148,7 +149,8 @@ horner-finite w u x0 x1 x2 x3 =
     let v = plus 48 (lit≤ tt) (lit≤ tt) (lit< tt) e x3 in
     (v, more a (more b (more c (more d (more e (more v none))))))
 
-pub segment-finite : (b : Basis) (cv : List Float) (t : Float) → Four 40 cv → T (le nought t) → T (le t one) → Within 49 (segmentValue (matrixOf b) cv t) × Finite (segmentSteps (matrixOf b) cv t)
+pub segment-finite : (b : Basis) (cv : List Float) (t : Float) → Four 40 cv → T (le nought t) → T (le t one)
+    → Within 49 (segmentValue (matrixOf b) cv t) × Finite (segmentSteps (matrixOf b) cv t)
 unfolding segmentSteps
 segment-finite b cv t k l h =
     let m = matrixOf b in

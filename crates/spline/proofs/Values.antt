@@ -47,9 +47,12 @@ module _ (b : Basis) (x : Float) (ks : List Float) (s : Sound b x ks) where
   local : InOne (localAt (segmentsOf b (length ks)) x)
   local = let f = few (length ks) (stepOf b) (s .few) in local-in-one (segmentsOf b (length ks)) x (omega arith) (omega (arith, f)) (fails (s .number))
 
-  pub curve-finite : Within 49 (curveValue b x ks) × Finite (segmentSteps (matrixOf b) (drop (segmentAt (segmentsOf b (length ks)) x * stepOf b) ks) (localAt (segmentsOf b (length ks)) x))
+  pub curve-finite : Within 49 (curveValue b x ks)
+      × Finite (segmentSteps (matrixOf b) (drop (segmentAt (segmentsOf b (length ks)) x * stepOf b) ks) (localAt (segmentsOf b (length ks)) x))
   unfolding curveValue
-  curve-finite = segment-finite b (drop (segmentAt (segmentsOf b (length ks)) x * stepOf b) ks) (localAt (segmentsOf b (length ks)) x) (knots-within ks (segmentAt (segmentsOf b (length ks)) x * stepOf b) (holds (s .tame)) at) (local .low) (local .high)
+  curve-finite =
+      segment-finite b (drop (segmentAt (segmentsOf b (length ks)) x * stepOf b) ks) (localAt (segmentsOf b (length ks)) x)
+      (knots-within ks (segmentAt (segmentsOf b (length ks)) x * stepOf b) (holds (s .tame)) at) (local .low) (local .high)
 
 -- ---- every value told is finite
 -- a value is told only where the verdict is passed, and then it is the value

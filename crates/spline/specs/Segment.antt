@@ -20,7 +20,8 @@ rowSum cv r =
 
 -- the four row sums w0 to w3
 abbrev pub weightsOf : List (List Float) → List Float → Weights
-weightsOf m cv = record { w0 = rowSum cv (getD m 0 []); w1 = rowSum cv (getD m 1 []); w2 = rowSum cv (getD m 2 []); w3 = rowSum cv (getD m 3 []) }
+weightsOf m cv =
+    record { w0 = rowSum cv (getD m 0 []); w1 = rowSum cv (getD m 1 []); w2 = rowSum cv (getD m 2 []); w3 = rowSum cv (getD m 3 []) }
 
 -- ((w0·t + w1)·t + w2)·t + w3
 abbrev pub hornerOf : Weights → Float → Float
@@ -53,4 +54,5 @@ hornerSteps w t =
 
 unfoldable pub segmentSteps : List (List Float) → List Float → Float → List Float
 segmentSteps m cv t =
-    rowSteps cv (getD m 0 []) ++ rowSteps cv (getD m 1 []) ++ rowSteps cv (getD m 2 []) ++ rowSteps cv (getD m 3 []) ++ hornerSteps (weightsOf m cv) t
+    rowSteps cv (getD m 0 []) ++ rowSteps cv (getD m 1 []) ++ rowSteps cv (getD m 2 []) ++ rowSteps cv (getD m 3 []) ++ hornerSteps
+    (weightsOf m cv) t

@@ -44,7 +44,8 @@ one-in-range x z v h =
     let w = within-between (exactly-within 40 (lit≤ tt) (of-number 1048576 h v)) in
     and-i (le (neg bound) x) (le x bound) (w .0) (w .1)
 
-all-in-range : (ks : List Float) (z : ℕ → ℤ) → ((i : ℕ) → i < length ks → Number (getD ks i nan) (z i) 0) → ((i : ℕ) → i < length ks → natAbs (z i) ≤ 2 ^ 20) → T (allInRange ks)
+all-in-range : (ks : List Float) (z : ℕ → ℤ) → ((i : ℕ) → i < length ks → Number (getD ks i nan) (z i) 0)
+    → ((i : ℕ) → i < length ks → natAbs (z i) ≤ 2 ^ 20) → T (allInRange ks)
 unfolding allInRange
 all-in-range [] z v h = tt
 all-in-range (x ∷ ks) z v h =
@@ -60,10 +61,12 @@ in-one x j v h =
     true-of (le nought x && le x one) (and-i (le nought x) (le x one) (number-above v) (within-between (exactly-within 0 (lit≤ tt) (of-number 256 h v)) .1))
 
 -- ---- one segment
-segment-passes : (x : Float) (cv : List Float) → length cv ≡ 4 → (le nought x && le x one) ≡ true → allInRange cv ≡ true → first (splineSegmentUses x cv) ≡ Passed
+segment-passes : (x : Float) (cv : List Float) → length cv ≡ 4 → (le nought x && le x one) ≡ true → allInRange cv ≡ true
+    → first (splineSegmentUses x cv) ≡ Passed
 segment-passes x cv e l t = simp (e, l, t)
 
-pub segment-answers : (b : Basis) → T (isExact b) → (x : Float) (cv : List Float) (z : List ℤ) (j : ℕ) → length cv ≡ 4 → WholeKnots cv z → Number x (pos j) 8 → j ≤ 256
+pub segment-answers : (b : Basis) → T (isExact b) → (x : Float) (cv : List Float) (z : List ℤ) (j : ℕ) → length cv ≡ 4 → WholeKnots cv z
+    → Number x (pos j) 8 → j ≤ 256
     → Answers (splineSegmentOf b x cv) (exactOf b z j)
 unfolding splineSegmentOf
 segment-answers b w x cv z j e k u h =
@@ -95,8 +98,10 @@ module _ (b : Basis) (x : Float) (ks : List Float) where
   unfolding place
   starts l = let i = inside (segmentAt (segmentsOf b (length ks)) x) (stepOf b) (length ks - 4) (le-trans (whole-le _ _) (omega arith)) in omega (arith, i)
 
-pub curve-answers : (b : Basis) → T (isExact b) → (x : Float) (ks : List Float) (z : List ℤ) (j : ℕ) → first (curveLength b (length ks)) ≡ Passed → WholeKnots ks z
-    → Number (localAt (segmentsOf b (length ks)) x) (pos j) 8 → j ≤ 256 → Answers (splineOf b x ks) (exactOf b (drop (segmentAt (segmentsOf b (length ks)) x * stepOf b) z) j)
+pub curve-answers : (b : Basis) → T (isExact b) → (x : Float) (ks : List Float) (z : List ℤ) (j : ℕ) → first (curveLength b (length ks)) ≡ Passed
+    → WholeKnots ks z
+    → Number (localAt (segmentsOf b (length ks)) x) (pos j) 8 → j ≤ 256
+    → Answers (splineOf b x ks) (exactOf b (drop (segmentAt (segmentsOf b (length ks)) x * stepOf b) z) j)
 unfolding splineOf curveValue place
 curve-answers b w x ks z j e k u h =
     let s = place b x ks in
@@ -104,7 +109,9 @@ curve-answers b w x ks z j e k u h =
     let many = starts b x ks (length-passed b (length ks) e .least) in
     record {
       value = curveValue b x ks;
-      told = ap (λ v. evaluated v (curveValue b x ks)) (sym (curve-passes b x ks refl e (ne-itself x ∙ number-of (segmentsOf b (length ks)) x (pos j) 8 u) (tame ks z k)));
+      told =
+          ap (λ v. evaluated v (curveValue b x ks))
+          (sym (curve-passes b x ks refl e (ne-itself x ∙ number-of (segmentsOf b (length ks)) x (pos j) 8 u) (tame ks z k)));
       exact = whole-knots-exact b w (drop s ks) (drop s z) t j (omega (arith, length-drop s ks)) (part ks z s k) u h;
     }
 

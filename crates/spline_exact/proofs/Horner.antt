@@ -32,9 +32,13 @@ sum-times a b (suc j) =
 
 -- both summands by j
 spread : (a b : ℤ) (i k j : ℕ) → (a *ℤ pos i +ℤ b *ℤ pos k) *ℤ pos j ≡ a *ℤ pos (i * j) +ℤ b *ℤ pos (k * j)
-spread a b i k j = sum-times (a *ℤ pos i) (b *ℤ pos k) j ∙ ap (λ (x : ℤ). x +ℤ b *ℤ pos k *ℤ pos j) (times-times a i j) ∙ ap (λ (x : ℤ). a *ℤ pos (i * j) +ℤ x) (times-times b k j)
+spread a b i k j =
+    sum-times (a *ℤ pos i) (b *ℤ pos k) j ∙ ap (λ (x : ℤ). x +ℤ b *ℤ pos k *ℤ pos j) (times-times a i j)
+    ∙ ap (λ (x : ℤ). a *ℤ pos (i * j) +ℤ x) (times-times b k j)
 
-pub horner : (a b c d : ℤ) (k l n j : ℕ) → ((a *ℤ pos j +ℤ b *ℤ pos k) *ℤ pos j +ℤ c *ℤ pos l) *ℤ pos j +ℤ d *ℤ pos n ≡ a *ℤ pos (j * j * j) +ℤ b *ℤ pos (k * j * j) +ℤ c *ℤ pos (l * j) +ℤ d *ℤ pos n
+pub horner : (a b c d : ℤ) (k l n j : ℕ)
+    → ((a *ℤ pos j +ℤ b *ℤ pos k) *ℤ pos j +ℤ c *ℤ pos l) *ℤ pos j +ℤ d *ℤ pos n ≡ a *ℤ pos (j * j * j) +ℤ b *ℤ pos (k * j * j) +ℤ c *ℤ pos (l * j) +ℤ d *ℤ
+    pos n
 horner a b c d k l n j =
     ap (λ (x : ℤ). x +ℤ d *ℤ pos n)
     (ap (λ (x : ℤ). (x +ℤ c *ℤ pos l) *ℤ pos j) (spread a b j k j)

@@ -44,7 +44,8 @@ row-exact cv r z h k e =
     let p3 = times (lit< tt) (lit≤ tt) (k .n3) (e .n3) in
     plus (lit< tt) (lit≤ tt) (plus (lit< tt) (lit≤ tt) (plus (lit< tt) (lit≤ tt) p0 p1) p2) p3
 
-pub segment-exactly : (m : List (List Float)) (h : List (List ℤ)) (cv : List Float) (z : List ℤ) (t : Float) (j : ℕ) → Halves m h → Four 0 1048576 cv z → Exactly t (pos j) 8 256 → Exactly (segmentValue m cv t) (cubic h z j) 25 3377699720527872
+pub segment-exactly : (m : List (List Float)) (h : List (List ℤ)) (cv : List Float) (z : List ℤ) (t : Float) (j : ℕ) → Halves m h → Four 0 1048576 cv z
+    → Exactly t (pos j) 8 256 → Exactly (segmentValue m cv t) (cubic h z j) 25 3377699720527872
 unfolding cubic
 segment-exactly m h cv z t j s k u =
     let w0 = row-exact cv (getD m 0 []) z (getD h 0 []) k (s .r0) in
@@ -58,7 +59,8 @@ segment-exactly m h cv z t j s k u =
     (horner (wholeSum z (getD h 0 [])) (wholeSum z (getD h 1 [])) (wholeSum z (getD h 2 [])) (wholeSum z (getD h 3 [])) 256 (256 * 256) (256 * 256 * 256) j) v
 
 -- the double, multiplied by 2^25, is the whole number that the cubic gives
-pub segment-exact : (m : List (List Float)) (h : List (List ℤ)) (cv : List Float) (z : List ℤ) (t : Float) (j : ℕ) → Halves m h → Four 0 1048576 cv z → Exactly t (pos j) 8 256 → Number (segmentValue m cv t) (cubic h z j) 25
+pub segment-exact : (m : List (List Float)) (h : List (List ℤ)) (cv : List Float) (z : List ℤ) (t : Float) (j : ℕ) → Halves m h → Four 0 1048576 cv z
+    → Exactly t (pos j) 8 256 → Number (segmentValue m cv t) (cubic h z j) 25
 segment-exact m h cv z t j s k u = forget (segment-exactly m h cv z t j s k u)
 
 -- ---- the five bases: a test that is computed
@@ -116,7 +118,9 @@ half-row r h t =
     }
 
 abbrev halfMatrix : List (List Float) → List (List ℤ) → Bool
-halfMatrix m h = halfRow (getD m 0 []) (getD h 0 []) && (halfRow (getD m 1 []) (getD h 1 []) && (halfRow (getD m 2 []) (getD h 2 []) && halfRow (getD m 3 []) (getD h 3 [])))
+halfMatrix m h =
+    halfRow (getD m 0 []) (getD h 0 []) &&
+    (halfRow (getD m 1 []) (getD h 1 []) && (halfRow (getD m 2 []) (getD h 2 []) && halfRow (getD m 3 []) (getD h 3 [])))
 
 half-matrix : (m : List (List Float)) (h : List (List ℤ)) → T (halfMatrix m h) → Halves m h
 half-matrix m h t =
@@ -153,6 +157,8 @@ whole-knots cv z l k =
     }
 
 -- at j/256: 2^25 times the double is the whole number, and so nothing was rounded
-pub whole-knots-exact : (b : Basis) → T (isExact b) → (cv : List Float) (z : List ℤ) (t : Float) (j : ℕ) → 4 ≤ length cv → WholeKnots cv z → Number t (pos j) 8 → j ≤ 256
+pub whole-knots-exact : (b : Basis) → T (isExact b) → (cv : List Float) (z : List ℤ) (t : Float) (j : ℕ) → 4 ≤ length cv → WholeKnots cv z
+    → Number t (pos j) 8 → j ≤ 256
     → Number (segmentValue (matrixOf b) cv t) (exactOf b z j) parts
-whole-knots-exact b w cv z t j l k u h = segment-exact (matrixOf b) (twice b) cv z t j (half-matrix (matrixOf b) (twice b) (halves b w)) (whole-knots cv z l k) (of-number 256 h u)
+whole-knots-exact b w cv z t j l k u h =
+    segment-exact (matrixOf b) (twice b) cv z t j (half-matrix (matrixOf b) (twice b) (halves b w)) (whole-knots cv z l k) (of-number 256 h u)

@@ -63,7 +63,9 @@ second-largest span x few u =
           elim (le-or-lt j span) [
             | inl l ↦ most-up-to span y j l h
             | inr g ↦
-                let a : T (le (double (span + 1)) (double span)) = le-trans-float (double (span + 1)) y (double span) (le-trans-float (double (span + 1)) (double j) y (double-mono (omega arith)) h) (v .1) in
+                let a : T (le (double (span + 1)) (double span)) =
+                le-trans-float (double (span + 1)) y (double span) (le-trans-float (double (span + 1)) (double j) y (double-mono (omega arith)) h)
+                (v .1) in
                 let b : span + 1 ≤ span = order (span + 1) span (le-trans {m = day + 1} (omega arith) (lit≤ tt)) (le-trans few (lit≤ tt)) a in
                 absurd (omega arith)
           ];

@@ -34,7 +34,18 @@ use Rattle.table.specs.declared.Timed.the-variants as T
 use Rattle.table.specs.declared.Handed.{Handed}
 use Rattle.table.specs.declared.Handed.the-variants as H
 use Rattle.table.specs.Second.{day, goodSpan, badSpan}
-use Rattle.table.specs.Calls.{verdictOf, valueUnless, tableSplineOf, timedOf, timedUnless, tableInverseBy, conversionUnless, tableConvertedOf, tableStrictOf, handedOf}
+use Rattle.table.specs.Calls.{
+  verdictOf,
+  valueUnless,
+  tableSplineOf,
+  timedOf,
+  timedUnless,
+  tableInverseBy,
+  conversionUnless,
+  tableConvertedOf,
+  tableStrictOf,
+  handedOf,
+}
 
 -- ---- a good span
 pub good-least : (s : ℕ) → goodSpan s ≡ true → (1 ≤ s) × (s ≤ day)
@@ -70,9 +81,10 @@ length-first b n us = go (ltb n 4) (regular b n) (ltb 4096 n)
     go false true true = refl
     go false true false = refl
 
-module _ (t : Table) (n : ℕ) (us : Uses) (r : Refusal) (g : goodSpan (t .span) ≡ false) (e : Failed r ≡ first ((BadSpan, true) ∷ curveLength (t .basis) n)) where
-  pub bad-verdict : verdictOf t (curveLength (t .basis) n ++ us) ≡ Failed r
-  bad-verdict = rw g (length-first (t .basis) n us ∙ sym e)
+module _ (t : Table) (n : ℕ) (us : Uses) (r : Refusal) (g : goodSpan (t .span) ≡ false) (e : Failed r ≡ first ((BadSpan, true) ∷ curveLength (t .basis) n))
+  where
+    pub bad-verdict : verdictOf t (curveLength (t .basis) n ++ us) ≡ Failed r
+    bad-verdict = rw g (length-first (t .basis) n us ∙ sym e)
 
 -- what `without_span` answers
 module _ (b : Basis) (n : ℕ) where
@@ -118,7 +130,8 @@ timed-again (Failed r) s a = refl
 module _ (m : EndsBy) (how : Method) (t : Table) (y : Float) (ks : List Float) (check : Bool) (limit : ℕ) (ε : Float) where
   pub inverse-base : goodSpan (t .span) ≡ true → tableInverseBy m how t y ks check limit ε ≡ timedOf (t .span) (inverseBy m how (t .basis) y ks check limit ε)
   unfolding tableInverseBy inverseBy
-  inverse-base g = rw (good-verdict t (inverseUses (t .basis) y ks check limit ε) refl g) (timed-again (first (inverseUses (t .basis) y ks check limit ε)) (t .span) _)
+  inverse-base g =
+      rw (good-verdict t (inverseUses (t .basis) y ks check limit ε) refl g) (timed-again (first (inverseUses (t .basis) y ks check limit ε)) (t .span) _)
 
   pub inverse-spanless : (r : Refusal) → goodSpan (t .span) ≡ false → Failed r ≡ first ((BadSpan, true) ∷ curveLength (t .basis) (length ks))
       → T.Refused r ≡ tableInverseBy m how t y ks check limit ε
@@ -160,7 +173,8 @@ module _ (span : ℕ) (to : Basis) (out : List Float) (x : Conversion) where
   abbrev Tells : Handed → List Float → Type 0
   Tells a o = (a ≡ handedOf span to (answerOf x)) × (o ≡ bufferOf x out)
 
-  pub tells-base : (y : Conversion) {c : Converted} {a : Handed} {o : List Float} → x ≡ y → a ≡ handedOf span to c → c ≡ answerOf y → o ≡ bufferOf y out → Tells a o
+  pub tells-base : (y : Conversion) {c : Converted} {a : Handed} {o : List Float} → x ≡ y → a ≡ handedOf span to c → c ≡ answerOf y → o ≡ bufferOf y out
+      → Tells a o
   tells-base y e p q b = (p ∙ ap (handedOf span to) (q ∙ ap answerOf (sym e)), b ∙ ap (λ (c : Conversion). bufferOf c out) (sym e))
 
   pub tells-refusal : (r : Refusal) → x ≡ refuses r → Tells (H.Refused r) out
@@ -174,7 +188,8 @@ pub inverse-order : (t : Table) (y : Float) (ks : List Float) (check : Bool) (li
     → orderOf (badSpan (t .span) ∷ inverseUses (t .basis) y ks check limit ε) ≡ 1 ∷ 2 ∷ 3 ∷ 14 ∷ 5 ∷ 6 ∷ 7 ∷ 4 ∷ 10 ∷ []
 inverse-order t y ks check limit ε = refl
 
-pub convert-order : (t : Table) (to : Basis) (ks : List Float) (room : ℕ) → orderOf (badSpan (t .span) ∷ convertUses (t .basis) to ks room) ≡ 1 ∷ 2 ∷ 3 ∷ 14 ∷ 8 ∷ 9 ∷ 4 ∷ []
+pub convert-order : (t : Table) (to : Basis) (ks : List Float) (room : ℕ)
+    → orderOf (badSpan (t .span) ∷ convertUses (t .basis) to ks room) ≡ 1 ∷ 2 ∷ 3 ∷ 14 ∷ 8 ∷ 9 ∷ 4 ∷ []
 convert-order t to ks room = refl
 
 pub strict-order : (t : Table) (to : Basis) (ks : List Float) (allowance : Float) (room : ℕ)

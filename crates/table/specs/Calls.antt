@@ -56,7 +56,8 @@ timedUnless (Failed r) a = T.Refused r
 
 unfoldable pub tableInverseBy : EndsBy → Method → Table → Float → List Float → Bool → ℕ → Float → Timed
 tableInverseBy m how t y ks check limit ε =
-    timedUnless (verdictOf t (inverseUses (t .basis) y ks check limit ε)) (timedOf (t .span) (inverseBy m how (t .basis) y ks check limit ε))
+    timedUnless (verdictOf t (inverseUses (t .basis) y ks check limit ε))
+    (timedOf (t .span) (inverseBy m how (t .basis) y ks check limit ε))
 
 -- by the knots and by the steady method, with its defaults
 abbrev pub tableSteadyOf : Table → Float → List Float → Bool → Timed

@@ -159,8 +159,10 @@ fn handed_on(span: u32, to: Basis, c: Converted) -> Handed
 
 // The curve over another basis, into the lent buffer; the new table has the old one's span.
 pub fn table_convert_spline(t: Table, to: Basis, knots: &[f64], out: &mut [f64]) -> Handed
-    ensures answer { λ r. ⌜ r ≡ handedOf (t .span) to (answerOf (tableConvertedOf t to (now (knots .entry)) (length (now (out .entry))))) ⌝ }
-    ensures buffer { λ r. ⌜ now (out .exit) ≡ bufferOf (tableConvertedOf t to (now (knots .entry)) (length (now (out .entry)))) (now (out .entry)) ⌝ }
+    ensures answer { λ r. ⌜ r ≡ handedOf (t .span) to
+        (answerOf (tableConvertedOf t to (now (knots .entry)) (length (now (out .entry))))) ⌝ }
+    ensures buffer { λ r. ⌜ now (out .exit) ≡ bufferOf (tableConvertedOf t to (now (knots .entry)) (length (now (out .entry))))
+        (now (out .entry)) ⌝ }
 {
     let b = t.basis;
     let span = t.span;
@@ -178,8 +180,10 @@ pub fn table_convert_spline_strict(
     allowance: f64,
     out: &mut [f64],
 ) -> Handed
-    ensures answer { λ r. ⌜ r ≡ handedOf (t .span) to (answerOf (tableStrictOf t to (now (knots .entry)) allowance (length (now (out .entry))))) ⌝ }
-    ensures buffer { λ r. ⌜ now (out .exit) ≡ bufferOf (tableStrictOf t to (now (knots .entry)) allowance (length (now (out .entry)))) (now (out .entry)) ⌝ }
+    ensures answer { λ r. ⌜ r ≡ handedOf (t .span) to
+        (answerOf (tableStrictOf t to (now (knots .entry)) allowance (length (now (out .entry))))) ⌝ }
+    ensures buffer { λ r. ⌜ now (out .exit) ≡ bufferOf (tableStrictOf t to (now (knots .entry)) allowance (length (now (out .entry))))
+        (now (out .entry)) ⌝ }
 {
     let b = t.basis;
     let span = t.span;

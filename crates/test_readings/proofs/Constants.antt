@@ -6,6 +6,8 @@ use lib.Ieee.{binary64, ofBits, round}
 use Rattle.doubles.specs.Numbers.{half, two, hundredth, ninetyNineHundredths, trillionth}
 use Rattle.inverse_segment.specs.Answer.{defaultPrecision}
 
-pub constants : (half ≡ round binary64 false 1 2) × (two ≡ round binary64 false 2 1) × (hundredth ≡ round binary64 false 1 100) × (ninetyNineHundredths ≡ round binary64 false 99 100) × (trillionth ≡ round binary64 false 1 (10 ^ 12)) × (defaultPrecision ≡ round binary64 false 1 (10 ^ 10))
+pub constants : (half ≡ round binary64 false 1 2) × (two ≡ round binary64 false 2 1) × (hundredth ≡ round binary64 false 1 100)
+    × (ninetyNineHundredths ≡ round binary64 false 99 100) × (trillionth ≡ round binary64 false 1 (10 ^ 12))
+    × (defaultPrecision ≡ round binary64 false 1 (10 ^ 10))
 unfolding ofBits round
 constants = (refl, refl, refl, refl, refl, refl)

@@ -22,10 +22,27 @@ use Rattle.inverse.specs.Order.{ordered, turnsAt}
 use Rattle.inverse.specs.Curve.{parameterOf, located, evaluations}
 use Rattle.inverse.specs.Inverse.{inverseBy, evaluationsBy}
 use Rattle.convert.specs.Conversion.{convertedOf}
-use Rattle.test_readings.specs.Readings.{minusFourTenths, fourTenths, nineTenths, nineteenTenths, Reading, tells, Hold, lengths, values, longest, places, halvings, brackets, conversions, table}
+use Rattle.test_readings.specs.Readings.{
+  minusFourTenths,
+  fourTenths,
+  nineTenths,
+  nineteenTenths,
+  Reading,
+  tells,
+  Hold,
+  lengths,
+  values,
+  longest,
+  places,
+  halvings,
+  brackets,
+  conversions,
+  table,
+}
 
 -- each is the double nearest to its decimal
-pub decimals : (minusFourTenths ≡ round binary64 true 4 10) × (fourTenths ≡ round binary64 false 4 10) × (nineTenths ≡ round binary64 false 9 10) × (nineteenTenths ≡ round binary64 false 19 10)
+pub decimals : (minusFourTenths ≡ round binary64 true 4 10) × (fourTenths ≡ round binary64 false 4 10) × (nineTenths ≡ round binary64 false 9 10)
+    × (nineteenTenths ≡ round binary64 false 19 10)
 unfolding ofBits round
 decimals = (refl, refl, refl, refl)
 
@@ -43,15 +60,20 @@ unfolding longest splineOf inRange allInRange firstBad curveValue wholeUpTo clam
 longest-hold = (refl, (refl, tt))
 
 places-hold : Hold places
-unfolding places inverseBy located find tries last halve bitsOf enter entered rounds turn probed settled moved fraction kept weighed halving chord narrow ordered turnsAt precise parameterOf inRange allInRange firstBad magnitudeOf lerpOf matrixOf ofBits ofInt round add sub mul div lt le eq neg isNan leadingZeros
+unfolding places inverseBy located find tries last halve bitsOf enter entered rounds turn probed settled moved fraction kept weighed halving chord narrow
+    ordered turnsAt precise parameterOf inRange allInRange firstBad magnitudeOf lerpOf matrixOf ofBits ofInt round add sub mul div lt le eq neg isNan
+    leadingZeros
 places-hold = (refl, (refl, (refl, (refl, (refl, (refl, tt))))))
 
 halvings-hold : Hold halvings
-unfolding halvings inverseBy evaluationsBy located evaluations find tries last halve bitsOf enter entered rounds turn probed settled moved fraction kept weighed halving chord narrow ordered turnsAt precise parameterOf inRange allInRange firstBad magnitudeOf lerpOf matrixOf ofBits ofInt round add sub mul div lt le eq neg isNan leadingZeros
+unfolding halvings inverseBy evaluationsBy located evaluations find tries last halve bitsOf enter entered rounds turn probed settled moved fraction kept
+    weighed halving chord narrow ordered turnsAt precise parameterOf inRange allInRange firstBad magnitudeOf lerpOf matrixOf ofBits ofInt round add sub mul
+    div lt le eq neg isNan leadingZeros
 halvings-hold = (refl, (refl, (refl, (refl, tt))))
 
 brackets-hold : Hold brackets
-unfolding brackets inverseSegmentBy enter entered rounds turn probed settled moved fraction kept weighed halving toward chord narrow allowed inner secant paced precise inRange allInRange firstBad magnitudeOf lerpOf matrixOf ofBits ofInt round add sub mul div lt le eq neg isNan
+unfolding brackets inverseSegmentBy enter entered rounds turn probed settled moved fraction kept weighed halving toward chord narrow allowed inner secant
+    paced precise inRange allInRange firstBad magnitudeOf lerpOf matrixOf ofBits ofInt round add sub mul div lt le eq neg isNan
 brackets-hold = (refl, (refl, (refl, tt)))
 
 conversions-hold : Hold conversions
@@ -63,4 +85,7 @@ both [] qs h k = k
 both (tells a t ∷ rs) qs h k = (h .0, both rs qs (h .1) k)
 
 pub readings : Hold table
-readings = both lengths _ lengths-hold (both values _ values-hold (both longest _ longest-hold (both places _ places-hold (both halvings _ halvings-hold (both brackets _ brackets-hold conversions-hold)))))
+readings =
+    both lengths _ lengths-hold
+    (both values _ values-hold
+    (both longest _ longest-hold (both places _ places-hold (both halvings _ halvings-hold (both brackets _ brackets-hold conversions-hold)))))

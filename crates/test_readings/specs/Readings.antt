@@ -29,7 +29,8 @@ use Rattle.inverse_methods.specs.declared.Method.the-variants.{AsCrate, Taught,
 use Rattle.inverse_methods.specs.Method.{ruleOf}
 use Rattle.convert.specs.Conversion.{Conversion, gives, refuses, convertedOf}
 
--- ---- what a reading tells: a value or the knots, a place by its parameter, ground and count, a bracket, or a refusal's number, 11 with its count; that a length is accepted; segments
+-- ---- what a reading tells: a value or the knots, a place by its parameter, ground and count, a bracket, or a refusal's number, 11 with
+-- its count; that a length is accepted; segments
 pub data Told : Type 0 where
   value : Float → Told
   place : Float → Ground → ℕ → Told
@@ -162,7 +163,8 @@ lengths =
 unfoldable pub values : List Reading
 unfolding copies
 values =
-    tells (at CatmullRom (minusFourTenths ∷ nought ∷ fourTenths ∷ half ∷ nineTenths ∷ one ∷ nineteenTenths ∷ []) quarter) (value (fourTenths))
+    tells (at CatmullRom (minusFourTenths ∷ nought ∷ fourTenths ∷ half ∷ nineTenths ∷ one ∷ nineteenTenths ∷ []) quarter)
+    (value (fourTenths))
     ∷ tells (at Bezier (copies 4 one) half) (value one)
     ∷ tells (at Bezier (copies 7 one) half) (value one)
     ∷ tells (at Bezier (copies 3 one) half) (refused 1)
@@ -204,9 +206,12 @@ halvings =
 -- the square of the local place, at 1/4, after four rounds: three methods, three brackets
 unfoldable pub brackets : List Reading
 brackets =
-    tells (bracket-of AsCrate Power (nought ∷ one ∷ nought ∷ nought ∷ []) quarter 4) (bracket (ofBits binary64 0x3fdd_25d7_ee30_f953) (ofBits binary64 0x3fe0_590b_2164_2c86) Spent 6)
-    ∷ tells (bracket-of Taught Power (nought ∷ one ∷ nought ∷ nought ∷ []) quarter 4) (bracket (ofBits binary64 0x3fdd_50ed_d50e_dd51) (ofBits binary64 0x3fe0_8421_0842_1084) Spent 6)
-    ∷ tells (bracket-of Steady Power (nought ∷ one ∷ nought ∷ nought ∷ []) quarter 4) (bracket (ofBits binary64 0x3fdf_e327_a976_fc65) (ofBits binary64 0x3fe0_8421_0842_1084) Spent 6)
+    tells (bracket-of AsCrate Power (nought ∷ one ∷ nought ∷ nought ∷ []) quarter 4)
+    (bracket (ofBits binary64 0x3fdd_25d7_ee30_f953) (ofBits binary64 0x3fe0_590b_2164_2c86) Spent 6)
+    ∷ tells (bracket-of Taught Power (nought ∷ one ∷ nought ∷ nought ∷ []) quarter 4)
+    (bracket (ofBits binary64 0x3fdd_50ed_d50e_dd51) (ofBits binary64 0x3fe0_8421_0842_1084) Spent 6)
+    ∷ tells (bracket-of Steady Power (nought ∷ one ∷ nought ∷ nought ∷ []) quarter 4)
+    (bracket (ofBits binary64 0x3fdf_e327_a976_fc65) (ofBits binary64 0x3fe0_8421_0842_1084) Spent 6)
     ∷ []
 
 -- conversions; the last loses a slope at its seam
@@ -214,7 +219,8 @@ unfoldable pub conversions : List Reading
 conversions =
     tells (turned Bezier Power (nought ∷ nought ∷ nought ∷ one ∷ [])) (knots (one ∷ nought ∷ nought ∷ nought ∷ []))
     ∷ tells (turned Linear Power (whole 9 ∷ one ∷ whole 3 ∷ whole 9 ∷ [])) (knots (nought ∷ nought ∷ whole 2 ∷ one ∷ []))
-    ∷ tells (turned Bezier Hermite (nought ∷ nought ∷ nought ∷ nought ∷ one ∷ one ∷ one ∷ [])) (knots (nought ∷ nought ∷ nought ∷ nought ∷ one ∷ nought ∷ []))
+    ∷ tells (turned Bezier Hermite (nought ∷ nought ∷ nought ∷ nought ∷ one ∷ one ∷ one ∷ []))
+    (knots (nought ∷ nought ∷ nought ∷ nought ∷ one ∷ nought ∷ []))
     ∷ []
 
 abbrev pub table : List Reading

@@ -31,7 +31,8 @@ digits-at : (n : ℕ) (s : List ℕ) (i : ℕ) → i < length s
 unfolding digitsOf
 digits-at n s i h = rw (add-one i, drop-cons s i 0 h) refl
 
-pub digits-step : (n d : ℕ) (s : List ℕ) (i : ℕ) → i < length s → d ≡ digitIn (getD s i 0) → (d ≡ 10 → ⊥) → digitsOf (n * 10 + d) (drop (i + 1) s) ≡ digitsOf n (drop i s)
+pub digits-step : (n d : ℕ) (s : List ℕ) (i : ℕ) → i < length s → d ≡ digitIn (getD s i 0) → (d ≡ 10 → ⊥)
+    → digitsOf (n * 10 + d) (drop (i + 1) s) ≡ digitsOf n (drop i s)
 digits-step n d s i h e k = sym (digits-at n s i h ∙ rw (← e) (simp (ne-eqb d 10 k)))
 
 pub digits-stop : (n d : ℕ) (s : List ℕ) (i : ℕ) → i < length s → d ≡ digitIn (getD s i 0) → d ≡ 10 → digitsOf n (drop i s) ≡ Nothing
@@ -98,7 +99,8 @@ unfolding digitsOf
 digits-small [] m n i h e = let z : m ≡ n = cc in let w : i + 0 ≡ i = omega arith in rw (w, ← z) h
 digits-small (b ∷ s) m n i h e = go (eqb (digitIn b) 10) refl (digits-small s (m * 10 + digitIn b) n (i + 1))
   where
-    go : (t : Bool) → eqb (digitIn b) 10 ≡ t → (m * 10 + digitIn b < 10 ^ (i + 1) → digitsOf (m * 10 + digitIn b) s ≡ Is n → n < 10 ^ (i + 1 + length s)) → n < 10 ^ (i + suc (length s))
+    go : (t : Bool) → eqb (digitIn b) 10 ≡ t → (m * 10 + digitIn b < 10 ^ (i + 1) → digitsOf (m * 10 + digitIn b) s ≡ Is n → n < 10 ^ (i + 1 + length s))
+        → n < 10 ^ (i + suc (length s))
     go true f ih = let w : Nothing ≡ Is n = rw f at e in unread w
     go false f ih =
         let w : digitsOf (m * 10 + digitIn b) s ≡ Is n = rw f at e in
@@ -198,20 +200,26 @@ module _ (s : List ℕ) (p : ℕ) (is : p ≡ placeOf POINT s) where
       let w : numberIn 9 (take p s) ≡ Nothing = sym (ap (λ (x : ℕ). numberIn 9 (take x s)) z) ∙ sym e ∙ f in
       rw (← is, lt-ltb p (length s) h, w) refl
 
-  pub no-rest : {r q : Hexed} {w : ℕ} → p < length s → r ≡ numberIn 9 (take (p - 0) s) → r ≡ Is w → q ≡ behindOf (take (length s - (p + 1)) (drop (p + 1) s)) → q ≡ Nothing → Nothing ≡ thousandthsOf s
+  pub no-rest : {r q : Hexed} {w : ℕ} → p < length s → r ≡ numberIn 9 (take (p - 0) s) → r ≡ Is w
+      → q ≡ behindOf (take (length s - (p + 1)) (drop (p + 1) s)) → q ≡ Nothing → Nothing ≡ thousandthsOf s
   unfolding thousandthsOf
   no-rest {r} {q} {w} h e f g k =
       let z : p - 0 ≡ p = omega arith in
       let a : numberIn 9 (take p s) ≡ Is w = sym (ap (λ (x : ℕ). numberIn 9 (take x s)) z) ∙ sym e ∙ f in
-      let b : behindOf (drop (suc p) s) ≡ Nothing = sym (ap behindOf (take-all (length s - (p + 1)) (drop (p + 1) s) (rw length-drop (omega arith)) ∙ ap (λ (x : ℕ). drop x s) (add-one p))) ∙ sym g ∙ k in
+      let b : behindOf (drop (suc p) s) ≡ Nothing =
+      sym (ap behindOf (take-all (length s - (p + 1)) (drop (p + 1) s) (rw length-drop (omega arith)) ∙ ap (λ (x : ℕ). drop x s) (add-one p))) ∙ sym g
+      ∙ k in
       rw (← is, lt-ltb p (length s) h, a, b) refl
 
-  pub with-point : {r q : Hexed} {w f : ℕ} → p < length s → r ≡ numberIn 9 (take (p - 0) s) → r ≡ Is w → q ≡ behindOf (take (length s - (p + 1)) (drop (p + 1) s)) → q ≡ Is f → Is (w * 1000 + f) ≡ thousandthsOf s
+  pub with-point : {r q : Hexed} {w f : ℕ} → p < length s → r ≡ numberIn 9 (take (p - 0) s) → r ≡ Is w
+      → q ≡ behindOf (take (length s - (p + 1)) (drop (p + 1) s)) → q ≡ Is f → Is (w * 1000 + f) ≡ thousandthsOf s
   unfolding thousandthsOf
   with-point {r} {q} {w} {f} h e j g k =
       let z : p - 0 ≡ p = omega arith in
       let a : numberIn 9 (take p s) ≡ Is w = sym (ap (λ (x : ℕ). numberIn 9 (take x s)) z) ∙ sym e ∙ j in
-      let b : behindOf (drop (suc p) s) ≡ Is f = sym (ap behindOf (take-all (length s - (p + 1)) (drop (p + 1) s) (rw length-drop (omega arith)) ∙ ap (λ (x : ℕ). drop x s) (add-one p))) ∙ sym g ∙ k in
+      let b : behindOf (drop (suc p) s) ≡ Is f =
+      sym (ap behindOf (take-all (length s - (p + 1)) (drop (p + 1) s) (rw length-drop (omega arith)) ∙ ap (λ (x : ℕ). drop x s) (add-one p))) ∙ sym g
+      ∙ k in
       rw (← is, lt-ltb p (length s) h, a, b) refl
 
   pub plain-none : {r : Hexed} → length s ≤ p → r ≡ numberIn 9 s → r ≡ Nothing → Nothing ≡ thousandthsOf s
@@ -239,6 +247,10 @@ thousandths-small s n e = go (ltb (placeOf POINT s) (length s)) e
     none : (f : ℕ) → Is 0 ≡ Is f → f < 1000
     none f h = let z : 0 ≡ f = cc in omega arith
 
-    go : (t : Bool) → cond t (joined (numberIn 9 (take (placeOf POINT s) s)) (behindOf (drop (suc (placeOf POINT s)) s))) (joined (numberIn 9 s) (Is 0)) ≡ Is n → n ≤ 999999999999
-    go true h = both (numberIn 9 (take (placeOf POINT s) s)) (behindOf (drop (suc (placeOf POINT s)) s)) (take (placeOf POINT s) s) (drop (suc (placeOf POINT s)) s) refl (behind-small (drop (suc (placeOf POINT s)) s)) h
+    go : (t : Bool)
+        → cond t (joined (numberIn 9 (take (placeOf POINT s) s)) (behindOf (drop (suc (placeOf POINT s)) s))) (joined (numberIn 9 s) (Is 0)) ≡ Is n
+        → n ≤ 999999999999
+    go true h =
+        both (numberIn 9 (take (placeOf POINT s) s)) (behindOf (drop (suc (placeOf POINT s)) s)) (take (placeOf POINT s) s) (drop (suc (placeOf POINT s)) s)
+        refl (behind-small (drop (suc (placeOf POINT s)) s)) h
     go false h = both (numberIn 9 s) (Is 0) s s refl none h

@@ -67,7 +67,8 @@ module _ (high low half : ℕ) (few : low < 2048) (some : 0 < half) where
   split : high * 2048 + low ≡ high / unit * (half * 4096) + rest
   split =
       let e : high / unit * unit + high % unit ≡ high = div-add-mod' high unit in
-      let f : high / unit * (half * 4096) ≡ high / unit * unit * 2048 = ap (λ (x : ℕ). high / unit * x) (sym (mul-assoc half 2 2048)) ∙ sym (mul-assoc (high / unit) unit 2048) in
+      let f : high / unit * (half * 4096) ≡ high / unit * unit * 2048 =
+      ap (λ (x : ℕ). high / unit * x) (sym (mul-assoc half 2 2048)) ∙ sym (mul-assoc (high / unit) unit 2048) in
       omega arith
 
   left : rest < half * 4096

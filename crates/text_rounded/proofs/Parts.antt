@@ -2,7 +2,18 @@
 use mathlib.Core.Path.{_≡_, refl, sym, ap, _∙_}
 use mathlib.Core.Bool.{Bool, true, false}
 use Prim.Native.Nat.{ℕ, suc, _+_, _*_, _-_, _/_, _%_, _≤_, _<_, _^_}
-use native.Mathlib.Nat.{add-mul, mul-assoc, mul-comm, mul-right-comm, pow-suc, pow-le-pow-right, mul-le-mul-right, mul-lt-mul-of-pos-right, div-add-mod', div-lt-iff-lt-mul}
+use native.Mathlib.Nat.{
+  add-mul,
+  mul-assoc,
+  mul-comm,
+  mul-right-comm,
+  pow-suc,
+  pow-le-pow-right,
+  mul-le-mul-right,
+  mul-lt-mul-of-pos-right,
+  div-add-mod',
+  div-lt-iff-lt-mul,
+}
 use native.Mathlib.Numerals.{add-one}
 use native.Mathlib.Omega.{arith}
 use borrow.Author.Tests.{lt-ltb, le-ltb}

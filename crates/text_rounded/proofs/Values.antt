@@ -34,15 +34,19 @@ rescaled (fin t n e) s m k l v = (
 below-hidden : (s : Bool) (a : ℕ) → a < 2 ^ 52 → HasValue (ofFields binary64 s (a / 2 ^ 52) (a % 2 ^ 52)) s (significandOf a) (2 ^ shiftOf a)
 unfolding ofFields
 below-hidden s a h =
-    rw (div-eq-of-lt h, mod-eq-of-lt h, ← small-significand a h, ← small-shift a h) (subst (λ (x : ℕ). HasValue (odd 53 s a 0 1074) s x (2 ^ 1074)) (mul-one a) (odd-sign 53 s a 0 1074))
+    rw (div-eq-of-lt h, mod-eq-of-lt h, ← small-significand a h, ← small-shift a h)
+    (subst (λ (x : ℕ). HasValue (odd 53 s a 0 1074) s x (2 ^ 1074)) (mul-one a) (odd-sign 53 s a 0 1074))
 
-with-hidden : (s : Bool) (a x : ℕ) → 2 ^ 52 ≤ a → a / 2 ^ 52 ≡ suc x → x < 1074 → HasValue (ofFields binary64 s (a / 2 ^ 52) (a % 2 ^ 52)) s (significandOf a) (2 ^ shiftOf a)
+with-hidden : (s : Bool) (a x : ℕ) → 2 ^ 52 ≤ a → a / 2 ^ 52 ≡ suc x → x < 1074
+    → HasValue (ofFields binary64 s (a / 2 ^ 52) (a % 2 ^ 52)) s (significandOf a) (2 ^ shiftOf a)
 unfolding ofFields
 with-hidden s a x h e l =
     let k : 1075 - a / 2 ^ 52 ≡ 1074 - x = omega arith in
     let b : 1074 - x + x ≡ 1074 = omega arith in
-    let v : HasValue (odd 53 s (2 ^ 52 + a % 2 ^ 52) x 1074) s ((2 ^ 52 + a % 2 ^ 52) * 2 ^ x) (2 ^ (1074 - x + x)) = rw b (odd-sign 53 s (2 ^ 52 + a % 2 ^ 52) x 1074) in
-    rw (← large-significand a h, ← large-shift a h, k, e, ne-eqb (suc x) 2047 (λ (z : suc x ≡ 2047). omega arith)) (rescaled (odd 53 s (2 ^ 52 + a % 2 ^ 52) x 1074) s (2 ^ 52 + a % 2 ^ 52) x (1074 - x) v)
+    let v : HasValue (odd 53 s (2 ^ 52 + a % 2 ^ 52) x 1074) s ((2 ^ 52 + a % 2 ^ 52) * 2 ^ x) (2 ^ (1074 - x + x)) =
+    rw b (odd-sign 53 s (2 ^ 52 + a % 2 ^ 52) x 1074) in
+    rw (← large-significand a h, ← large-shift a h, k, e, ne-eqb (suc x) 2047 (λ (z : suc x ≡ 2047). omega arith))
+    (rescaled (odd 53 s (2 ^ 52 + a % 2 ^ 52) x 1074) s (2 ^ 52 + a % 2 ^ 52) x (1074 - x) v)
 
 fields-value : (s : Bool) (a : ℕ) → a ≤ largest → HasValue (ofFields binary64 s (a / 2 ^ 52) (a % 2 ^ 52)) s (significandOf a) (2 ^ shiftOf a)
 fields-value s a h = go (ltb a (2 ^ 52)) refl
@@ -54,7 +58,8 @@ fields-value s a h = go (ltb a (2 ^ 52)) refl
 pub pattern-value : (n : ℕ) → sizeIn n ≤ largest → HasValue (doubleOf n) (minusIn n) (significandOf (sizeIn n)) (2 ^ shiftOf (sizeIn n))
 unfolding doubleOf ofBits
 pattern-value n h =
-    subst (λ (t : ℕ). HasValue (ofFields binary64 (minusIn n) (sizeIn n / 2 ^ 52) t) (minusIn n) (significandOf (sizeIn n)) (2 ^ shiftOf (sizeIn n))) (mod-mod-pow n 11 52)
+    subst (λ (t : ℕ). HasValue (ofFields binary64 (minusIn n) (sizeIn n / 2 ^ 52) t) (minusIn n) (significandOf (sizeIn n)) (2 ^ shiftOf (sizeIn n)))
+    (mod-mod-pow n 11 52)
     (fields-value (minusIn n) (sizeIn n) h)
 
 -- ---- the texts, by the pattern
@@ -86,4 +91,5 @@ infinite-text d n e = rw (le-ltb infinite (sizeIn n) (omega arith), lt-leb (size
 
 pub large-text : (d n : ℕ) → largest < sizeIn n → sizeIn n < infinite → roundedText d n ≡ signText (minusIn n) ++ bytes "large"
 unfolding roundedText
-large-text d n l h = rw (le-ltb infinite (sizeIn n) (omega arith), lt-leb (sizeIn n) largest l, ne-eqb (sizeIn n) infinite (λ (z : sizeIn n ≡ infinite). omega arith)) refl
+large-text d n l h =
+    rw (le-ltb infinite (sizeIn n) (omega arith), lt-leb (sizeIn n) largest l, ne-eqb (sizeIn n) infinite (λ (z : sizeIn n ≡ infinite). omega arith)) refl

@@ -72,7 +72,8 @@ module _ (d n : ℕ) where
   unfolding roundedText
   is-large b h l e f u v = rw (le-ltb infinite (sizeIn n) h, lt-leb (sizeIn n) largest l, ne-eqb (sizeIn n) infinite e, ← f) (then u v)
 
-  pub is-number : {o o₁ o₂ : List ℕ} {at r₁ r₂ : ℕ} (b : Bool) (w : ℕ) → sizeIn n ≤ infinite → sizeIn n ≤ largest → w ≡ unitsOf d (sizeIn n) → b ≡ (minusIn n && ltb 0 w)
+  pub is-number : {o o₁ o₂ : List ℕ} {at r₁ r₂ : ℕ} (b : Bool) (w : ℕ) → sizeIn n ≤ infinite → sizeIn n ≤ largest → w ≡ unitsOf d (sizeIn n)
+      → b ≡ (minusIn n && ltb 0 w)
       → Wrote o at (signText b) o₁ r₁ → Wrote o₁ r₁ (fixedText d w) o₂ r₂ → Wrote o at (roundedText d n) o₂ r₂
   unfolding roundedText
   is-number {o} {o₁} {o₂} {at} {r₁} {r₂} b w h l e f u v =

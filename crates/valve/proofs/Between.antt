@@ -49,10 +49,18 @@ times-sum x a (suc b) =
     ∙ ap (λ (y : ℤ). x *ℤ pos a +ℤ y) (sym (once-more x b))
 
 up-times : (w : ℕ) (a b : ℤ) → Up a b → Up (pos w *ℤ a) (pos w *ℤ b)
-up-times w a b u = record { by = u .by * w; is = *ℤ-comm (pos w) b ∙ ap (λ (x : ℤ). x *ℤ pos w) (u .is) ∙ sum-times a (pos (u .by)) w ∙ ap (λ (x : ℤ). x +ℤ pos (u .by * w)) (*ℤ-comm a (pos w)) }
+up-times w a b u =
+    record {
+      by = u .by * w;
+      is =
+          *ℤ-comm (pos w) b ∙ ap (λ (x : ℤ). x *ℤ pos w) (u .is) ∙ sum-times a (pos (u .by)) w
+          ∙ ap (λ (x : ℤ). x +ℤ pos (u .by * w)) (*ℤ-comm a (pos w));
+    }
 
 up-plus : (a b c d : ℤ) → Up a b → Up c d → Up (a +ℤ c) (b +ℤ d)
-up-plus a b c d u v = record { by = u .by + v .by; is = ap (λ (x : ℤ). x +ℤ d) (u .is) ∙ ap (λ (x : ℤ). a +ℤ pos (u .by) +ℤ x) (v .is) ∙ swap a (pos (u .by)) c (pos (v .by)) }
+up-plus a b c d u v =
+    record
+    { by = u .by + v .by; is = ap (λ (x : ℤ). x +ℤ d) (u .is) ∙ ap (λ (x : ℤ). a +ℤ pos (u .by) +ℤ x) (v .is) ∙ swap a (pos (u .by)) c (pos (v .by)) }
 
 up-le : (a : ℤ) (n : ℕ) → T (leZ a (a +ℤ pos n))
 up-le (pos a) n = le→leb a (a + n) (le-add-right a n)
@@ -77,8 +85,11 @@ together x a b c d =
     ∙ ap (λ (y : ℤ). y +ℤ pos b *ℤ x +ℤ pos c *ℤ x +ℤ pos d *ℤ x) (*ℤ-comm x (pos a)))
 
 mixes : (j : ℕ) (a b c d x y z u : ℤ) → Up a x → Up b y → Up c z → Up d u
-    → Up (pos (weightOf j 0) *ℤ a +ℤ pos (weightOf j 1) *ℤ b +ℤ pos (weightOf j 2) *ℤ c +ℤ pos (weightOf j 3) *ℤ d) (pos (weightOf j 0) *ℤ x +ℤ pos (weightOf j 1) *ℤ y +ℤ pos (weightOf j 2) *ℤ z +ℤ pos (weightOf j 3) *ℤ u)
-mixes j a b c d x y z u p q r s = up-plus _ _ _ _ (up-plus _ _ _ _ (up-plus _ _ _ _ (up-times (weightOf j 0) a x p) (up-times (weightOf j 1) b y q)) (up-times (weightOf j 2) c z r)) (up-times (weightOf j 3) d u s)
+    → Up (pos (weightOf j 0) *ℤ a +ℤ pos (weightOf j 1) *ℤ b +ℤ pos (weightOf j 2) *ℤ c +ℤ pos (weightOf j 3) *ℤ d)
+    (pos (weightOf j 0) *ℤ x +ℤ pos (weightOf j 1) *ℤ y +ℤ pos (weightOf j 2) *ℤ z +ℤ pos (weightOf j 3) *ℤ u)
+mixes j a b c d x y z u p q r s =
+    up-plus _ _ _ _ (up-plus _ _ _ _ (up-plus _ _ _ _ (up-times (weightOf j 0) a x p) (up-times (weightOf j 1) b y q)) (up-times (weightOf j 2) c z r))
+    (up-times (weightOf j 3) d u s)
 
 -- ---- from the order of whole numbers
 up-of : (a b : ℤ) → T (leZ a b) → Up a b

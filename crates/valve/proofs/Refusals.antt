@@ -91,15 +91,18 @@ all-small : (ks : List ℤ) → 4 ≤ firstLarge ks → SmallKnots ks
 unfolding firstLarge
 all-small ks h = go (small (knotOf ks 0)) (small (knotOf ks 1)) (small (knotOf ks 2)) (small (knotOf ks 3)) refl refl refl refl h
   where
-    at : natAbs (knotOf ks 0) ≤ 1000000 → natAbs (knotOf ks 1) ≤ 1000000 → natAbs (knotOf ks 2) ≤ 1000000 → natAbs (knotOf ks 3) ≤ 1000000 → (i : ℕ) → i < 4 → natAbs (knotOf ks i) ≤ 1000000
+    at : natAbs (knotOf ks 0) ≤ 1000000 → natAbs (knotOf ks 1) ≤ 1000000 → natAbs (knotOf ks 2) ≤ 1000000 → natAbs (knotOf ks 3) ≤ 1000000 → (i : ℕ) → i < 4
+        → natAbs (knotOf ks i) ≤ 1000000
     at p q r s zero l = p
     at p q r s (suc zero) l = q
     at p q r s (suc (suc zero)) l = r
     at p q r s (suc (suc (suc zero))) l = s
     at p q r s (suc (suc (suc (suc i)))) l = absurd (omega arith)
 
-    go : (a b c d : Bool) → small (knotOf ks 0) ≡ a → small (knotOf ks 1) ≡ b → small (knotOf ks 2) ≡ c → small (knotOf ks 3) ≡ d → 4 ≤ cond a (cond b (cond c (cond d 4 3) 2) 1) 0 → SmallKnots ks
-    go true true true true p q r s h = record { each = at (small-le (knotOf ks 0) p) (small-le (knotOf ks 1) q) (small-le (knotOf ks 2) r) (small-le (knotOf ks 3) s) }
+    go : (a b c d : Bool) → small (knotOf ks 0) ≡ a → small (knotOf ks 1) ≡ b → small (knotOf ks 2) ≡ c → small (knotOf ks 3) ≡ d
+        → 4 ≤ cond a (cond b (cond c (cond d 4 3) 2) 1) 0 → SmallKnots ks
+    go true true true true p q r s h =
+        record { each = at (small-le (knotOf ks 0) p) (small-le (knotOf ks 1) q) (small-le (knotOf ks 2) r) (small-le (knotOf ks 3) s) }
     go true true true false p q r s h = absurd (omega arith)
     go true true false d p q r s h = absurd (omega arith)
     go true false c d p q r s h = absurd (omega arith)

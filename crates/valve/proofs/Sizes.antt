@@ -75,7 +75,9 @@ module _ (a b : ℤ) (m n : ℕ) (h : natAbs a ≤ m) (k : natAbs b ≤ n) (l : 
   sum-size = le-trans (abs-plus a b) (add-le-add h k)
 
   sum-back : held a +ℤ held b ≡ a +ℤ b
-  sum-back = ap (λ (x : ℤ). x +ℤ held b) (back a m h (lt-of-le-of-lt (le-add-right m n) l)) ∙ ap (λ (x : ℤ). a +ℤ x) (back b n k (lt-of-le-of-lt (le-add-left n m) l))
+  sum-back =
+      ap (λ (x : ℤ). x +ℤ held b) (back a m h (lt-of-le-of-lt (le-add-right m n) l))
+      ∙ ap (λ (x : ℤ). a +ℤ x) (back b n k (lt-of-le-of-lt (le-add-left n m) l))
 
   pub plus-fit : SFits w64 (held a +ℤ held b)
   plus-fit = subst (λ (x : ℤ). SFits w64 x) (sym sum-back) (sfits-of (fits (a +ℤ b) (m + n) sum-size l))

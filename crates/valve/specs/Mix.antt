@@ -54,7 +54,9 @@ firstLarge ks = cond (small (knotOf ks 0)) (cond (small (knotOf ks 1)) (cond (sm
 
 -- fewer than 4 knots; more than 4; a step above 256; a knot too large
 abbrev pub mixUses : ℕ → List ℤ → Uses
-mixUses j ks = (TooFew, ltb (length ks) 4) ∷ (BadPattern, ltb 4 (length ks)) ∷ (BadStep, ltb 256 j) ∷ (BadKnot (firstLarge ks), ltb (firstLarge ks) 4) ∷ []
+mixUses j ks =
+    (TooFew, ltb (length ks) 4) ∷ (BadPattern, ltb 4 (length ks)) ∷ (BadStep, ltb 256 j)
+    ∷ (BadKnot (firstLarge ks), ltb (firstLarge ks) 4) ∷ []
 
 abbrev pub mixture : Verdict → ℤ → Mixture
 mixture Passed z = Mixed z

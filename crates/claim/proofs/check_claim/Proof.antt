@@ -18,16 +18,33 @@ enum-told : tie.Need-enum-told
 enum-told c = search needs
 
 is-accepted-requires : tie.Need-is-accepted-requires
-is-accepted-requires c κs = let s = sound (c .before .before .before .before .args .b) (c .before .before .before .before .args .y) (c .before .before .before .before .args .s) (c .before .before .before .before .args .x) (c .before .before .before .before .args .precision) (c .before .before .before .before .args .knots .now) (c .before .before .verdict .ensures) (c .enum-told .given .1) in (s .four, s .few)
+is-accepted-requires c κs = let s =
+    sound (c .before .before .before .before .args .b) (c .before .before .before .before .args .y) (c .before .before .before .before .args .s)
+    (c .before .before .before .before .args .x) (c .before .before .before .before .args .precision)
+    (c .before .before .before .before .args .knots .now) (c .before .before .verdict .ensures) (c .enum-told .given .1) in (s .four, s .few)
 
 returns : tie.Need-returns
-returns c = refused-is (c .before .before .before .before .before .args .b) (c .before .before .before .before .before .args .y) (c .before .before .before .before .before .args .s) (c .before .before .before .before .before .args .x) (c .before .before .before .before .before .args .precision) (c .before .before .before .before .before .args .knots .now) (c .before .before .before .verdict .ensures) (c .before .v .given .1)
+returns c =
+    refused-is (c .before .before .before .before .before .args .b) (c .before .before .before .before .before .args .y)
+    (c .before .before .before .before .before .args .s) (c .before .before .before .before .before .args .x)
+    (c .before .before .before .before .before .args .precision) (c .before .before .before .before .before .args .knots .now)
+    (c .before .before .before .verdict .ensures) (c .before .v .given .1)
 
 returns-2 : tie.Need-returns-2
-returns-2 c = holds-is (c .before .before .before .before .before .before .args .b) (c .before .before .before .before .before .before .args .y) (c .before .before .before .before .before .before .args .s) (c .before .before .before .before .before .before .args .x) (c .before .before .before .before .before .before .args .precision) (c .before .before .before .before .before .before .args .knots .now) (c .before .before .before .before .verdict .ensures) (c .before .before .enum-told .given .1) (c .before .is-accepted .ensures) (c .if1 .taken)
+returns-2 c =
+    holds-is (c .before .before .before .before .before .before .args .b) (c .before .before .before .before .before .before .args .y)
+    (c .before .before .before .before .before .before .args .s) (c .before .before .before .before .before .before .args .x)
+    (c .before .before .before .before .before .before .args .precision) (c .before .before .before .before .before .before .args .knots .now)
+    (c .before .before .before .before .verdict .ensures) (c .before .before .enum-told .given .1) (c .before .is-accepted .ensures)
+    (c .if1 .taken)
 
 returns-3 : tie.Need-returns-3
-returns-3 c = differs-is (c .before .before .before .before .before .before .args .b) (c .before .before .before .before .before .before .args .y) (c .before .before .before .before .before .before .args .s) (c .before .before .before .before .before .before .args .x) (c .before .before .before .before .before .before .args .precision) (c .before .before .before .before .before .before .args .knots .now) (c .before .before .before .before .verdict .ensures) (c .before .before .enum-told .given .1) (c .before .is-accepted .ensures) (c .if1 .left)
+returns-3 c =
+    differs-is (c .before .before .before .before .before .before .args .b) (c .before .before .before .before .before .before .args .y)
+    (c .before .before .before .before .before .before .args .s) (c .before .before .before .before .before .before .args .x)
+    (c .before .before .before .before .before .before .args .precision) (c .before .before .before .before .before .before .args .knots .now)
+    (c .before .before .before .before .verdict .ensures) (c .before .before .enum-told .given .1) (c .before .is-accepted .ensures)
+    (c .if1 .left)
 
 pub check-claim-spec : {M : Type 1} → statement M
 check-claim-spec =

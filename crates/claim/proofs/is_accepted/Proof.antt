@@ -38,15 +38,26 @@ is-near-requires c κs = search needs
 
 returns : tie.Need-returns
 unfolding ofBits
-returns c = in-unit (c .before .before .before .before .before .before .before .args .b) (c .before .before .before .before .before .before .before .args .y) (c .before .before .before .before .before .before .before .args .s) (c .before .before .before .before .before .before .before .args .x) (c .before .before .before .before .before .before .before .args .precision) (c .before .before .before .before .before .before .before .args .knots .now) (c .before .before .before .before .before .if1 .taken) (c .before .before .before .before .if2 .taken) (c .before .before .before .step .ensures .0) (c .before .segment-value .ensures) (c .is-near .ensures)
+returns c =
+    in-unit (c .before .before .before .before .before .before .before .args .b) (c .before .before .before .before .before .before .before .args .y)
+    (c .before .before .before .before .before .before .before .args .s) (c .before .before .before .before .before .before .before .args .x)
+    (c .before .before .before .before .before .before .before .args .precision)
+    (c .before .before .before .before .before .before .before .args .knots .now) (c .before .before .before .before .before .if1 .taken)
+    (c .before .before .before .before .if2 .taken) (c .before .before .before .step .ensures .0) (c .before .segment-value .ensures)
+    (c .is-near .ensures)
 
 returns-2 : tie.Need-returns-2
 unfolding ofBits
-returns-2 c = above-one (c .before .before .before .args .b) (c .before .before .before .args .y) (c .before .before .before .args .s) (c .before .before .before .args .x) (c .before .before .before .args .precision) (c .before .before .before .args .knots .now) (c .before .if1 .taken) (c .if2 .left)
+returns-2 c =
+    above-one (c .before .before .before .args .b) (c .before .before .before .args .y) (c .before .before .before .args .s)
+    (c .before .before .before .args .x) (c .before .before .before .args .precision) (c .before .before .before .args .knots .now)
+    (c .before .if1 .taken) (c .if2 .left)
 
 returns-3 : tie.Need-returns-3
 unfolding ofBits
-returns-3 c = below-nought (c .before .before .args .b) (c .before .before .args .y) (c .before .before .args .s) (c .before .before .args .x) (c .before .before .args .precision) (c .before .before .args .knots .now) (c .if1 .left)
+returns-3 c =
+    below-nought (c .before .before .args .b) (c .before .before .args .y) (c .before .before .args .s) (c .before .before .args .x)
+    (c .before .before .args .precision) (c .before .before .args .knots .now) (c .if1 .left)
 
 pub is-accepted-spec : {M : Type 1} → statement M
 is-accepted-spec =

@@ -13,13 +13,22 @@ tab-at-requires : tie.Need-tab-at-requires
 tab-at-requires c κs = search needs
 
 returns : tie.Need-returns
-returns c = five-fields (c .before .before .before .before .before .before .args .y .now) (c .before .before .before .before .before .before .args .s .now) (c .before .before .before .before .before .before .args .x .now) (c .before .before .before .before .before .before .args .rest .now) (rw (c .before .tab-at .ensures .0) at (c .if1 .taken))
+returns c =
+    five-fields (c .before .before .before .before .before .before .args .y .now) (c .before .before .before .before .before .before .args .s .now)
+    (c .before .before .before .before .before .before .args .x .now) (c .before .before .before .before .before .before .args .rest .now)
+    (rw (c .before .tab-at .ensures .0) at (c .if1 .taken))
 
 claim-with-requires : tie.Need-claim-with-requires
 claim-with-requires c κs = search needs
 
 returns-2 : tie.Need-returns-2
-returns-2 c = c .claim-with .ensures ∙ four-fields (c .before .before .before .before .before .before .before .args .y .now) (c .before .before .before .before .before .before .before .args .s .now) (c .before .before .before .before .before .before .before .args .x .now) (c .before .before .before .before .before .before .before .args .rest .now) (rw (c .before .before .tab-at .ensures .0) at (c .before .if1 .left))
+returns-2 c =
+    c .claim-with .ensures
+    ∙ four-fields (c .before .before .before .before .before .before .before .args .y .now)
+    (c .before .before .before .before .before .before .before .args .s .now)
+    (c .before .before .before .before .before .before .before .args .x .now)
+    (c .before .before .before .before .before .before .before .args .rest .now)
+    (rw (c .before .before .tab-at .ensures .0) at (c .before .if1 .left))
 
 pub after-place-spec : {M : Type 1} → statement M
 after-place-spec = tie.close (tie.spec tab-at-requires returns claim-with-requires returns-2)

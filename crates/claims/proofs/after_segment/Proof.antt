@@ -41,7 +41,13 @@ after-place-requires : tie.Need-after-place-requires
 after-place-requires c κs = search needs
 
 returns : tie.Need-returns
-returns c = c .after-place .ensures ∙ ap (λ (fs : List (List ℕ)). claimIn (c .before .before .before .before .before .before .before .before .args .y .now ∷ c .before .before .before .before .before .before .before .before .args .s .now ∷ fs)) (sym (parted _ (c .before .before .before .before .before .before .before .before .args .rest .now) (c .before .before .before .before .tab-at .ensures .0) (omega arith)))
+returns c =
+    c .after-place .ensures
+    ∙ ap (λ (fs : List (List ℕ)). claimIn
+    (c .before .before .before .before .before .before .before .before .args .y .now
+    ∷ c .before .before .before .before .before .before .before .before .args .s .now ∷ fs))
+    (sym (parted _ (c .before .before .before .before .before .before .before .before .args .rest .now)
+    (c .before .before .before .before .tab-at .ensures .0) (omega arith)))
 
 returns-2 : tie.Need-returns-2
 returns-2 c = three-fields _ _ (c .before .before .before .before .before .args .rest .now) (rw (c .before .tab-at .ensures .0) at (c .if1 .left))

@@ -41,7 +41,11 @@ after-segment-requires : tie.Need-after-segment-requires
 after-segment-requires c κs = search needs
 
 returns : tie.Need-returns
-returns c = c .after-segment .ensures ∙ ap (λ (fs : List (List ℕ)). claimIn (c .before .before .before .before .before .before .before .args .y .now ∷ fs)) (sym (parted _ (c .before .before .before .before .before .before .before .args .rest .now) (c .before .before .before .before .tab-at .ensures .0) (omega arith)))
+returns c =
+    c .after-segment .ensures
+    ∙ ap (λ (fs : List (List ℕ)). claimIn (c .before .before .before .before .before .before .before .args .y .now ∷ fs))
+    (sym (parted _ (c .before .before .before .before .before .before .before .args .rest .now)
+    (c .before .before .before .before .tab-at .ensures .0) (omega arith)))
 
 returns-2 : tie.Need-returns-2
 returns-2 c = two-fields _ (c .before .before .before .before .args .rest .now) (rw (c .before .tab-at .ensures .0) at (c .if1 .left))

@@ -39,7 +39,10 @@ after-target-requires : tie.Need-after-target-requires
 after-target-requires c κs = search needs
 
 returns : tie.Need-returns
-returns c = c .after-target .ensures ∙ ap claimIn (sym (parted _ (c .before .before .before .before .before .before .args .rest .now) (c .before .before .before .before .tab-at .ensures .0) (omega arith)))
+returns c =
+    c .after-target .ensures
+    ∙ ap claimIn (sym (parted _ (c .before .before .before .before .before .before .args .rest .now)
+    (c .before .before .before .before .tab-at .ensures .0) (omega arith)))
 
 returns-2 : tie.Need-returns-2
 returns-2 c = one-field (c .before .before .before .args .rest .now) (rw (c .before .tab-at .ensures .0) at (c .if1 .left))

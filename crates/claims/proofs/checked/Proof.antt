@@ -28,7 +28,8 @@ part-check-claim-start : tie.Need-part-check-claim-start
 part-check-claim-start c = search needs
 
 part-check-claim-end : tie.Need-part-check-claim-end
-part-check-claim-end c = let k : c .before .before .held .given .0 .1 .1 .0 ≤ places = rw (c .before .before .held .given .1) at (c .before .before .before .before .before .before .pre .0 .0) in omega arith
+part-check-claim-end c = let k : c .before .before .held .given .0 .1 .1 .0 ≤ places =
+    rw (c .before .before .held .given .1) at (c .before .before .before .before .before .before .pre .0 .0) in omega arith
 
 check-claim-requires : tie.Need-check-claim-requires
 check-claim-requires c κs = search needs
@@ -41,13 +42,29 @@ same-length c = search needs
 
 returns : tie.Need-returns
 unfolding checkText
-returns c = (rw (c .before .before .before .before .enum-told .given .1) (c .before .before .put-claimed .ensures .0), omega (arith, c .before .before .put-claimed .ensures .1))
+returns c = (
+  rw (c .before .before .before .before .enum-told .given .1) (c .before .before .put-claimed .ensures .0),
+  omega (arith, c .before .before .put-claimed .ensures .1),
+)
 
 same-length-2 : tie.Need-same-length-2
 same-length-2 c = search needs
 
 returns-2 : tie.Need-returns-2
-returns-2 c = let w = c .before .before .put-claimed2 .ensures in (rw (c .before .before .before .before .before .before .before .held .given .1) (on-table (c .before .before .before .before .before .before .before .held .given .0 .0) (c .before .before .before .before .before .before .before .held .given .0 .1 .0) (c .before .before .before .before .before .before .before .held .given .0 .1 .1 .0) (c .before .before .before .before .before .before .before .before .before .before .before .args .table .now) (c .before .before .before .before .before .before .before .before .before .before .before .args .y) (c .before .before .before .before .before .before .before .before .before .before .before .args .s) (c .before .before .before .before .before .before .before .before .before .before .before .args .x) (c .before .before .before .before .before .before .before .before .before .before .before .args .precision) (c .before .before .before .check-claim .ensures) (w .0)), omega (arith, w .1))
+returns-2 c = let w = c .before .before .put-claimed2 .ensures
+    in (
+      rw (c .before .before .before .before .before .before .before .held .given .1)
+          (on-table (c .before .before .before .before .before .before .before .held .given .0 .0)
+          (c .before .before .before .before .before .before .before .held .given .0 .1 .0)
+          (c .before .before .before .before .before .before .before .held .given .0 .1 .1 .0)
+          (c .before .before .before .before .before .before .before .before .before .before .before .args .table .now)
+          (c .before .before .before .before .before .before .before .before .before .before .before .args .y)
+          (c .before .before .before .before .before .before .before .before .before .before .before .args .s)
+          (c .before .before .before .before .before .before .before .before .before .before .before .args .x)
+          (c .before .before .before .before .before .before .before .before .before .before .before .args .precision)
+          (c .before .before .before .check-claim .ensures) (w .0)),
+      omega (arith, w .1),
+    )
 
 pub checked-spec : {M : Type 1} → statement M
 checked-spec =

@@ -31,7 +31,11 @@ enum-told-2 : tie.Need-enum-told-2
 enum-told-2 c = search needs
 
 returns-2 : tie.Need-returns-2
-returns-2 c = simp (sym (c .before .before .before .before .before .before .hex .ensures) ∙ c .before .before .before .before .target .given .1, sym (c .before .before .number-in .ensures) ∙ c .enum-told2 .given .1)
+returns-2 c =
+    simp (
+      sym (c .before .before .before .before .before .before .hex .ensures) ∙ c .before .before .before .before .target .given .1,
+      sym (c .before .before .number-in .ensures) ∙ c .enum-told2 .given .1,
+    )
 
 hex-requires-2 : tie.Need-hex-requires-2
 hex-requires-2 c κs = search needs
@@ -43,7 +47,13 @@ enum-told-3 : tie.Need-enum-told-3
 enum-told-3 c = search needs
 
 returns-3 : tie.Need-returns-3
-returns-3 c = simp (sym (c .before .before .before .before .before .before .before .before .before .before .hex .ensures) ∙ c .before .before .before .before .before .before .before .before .target .given .1, sym (c .before .before .before .before .before .before .number-in .ensures) ∙ c .before .before .before .before .segment .given .1, sym (c .before .before .hex2 .ensures) ∙ c .enum-told3 .given .1)
+returns-3 c =
+    simp (
+      sym (c .before .before .before .before .before .before .before .before .before .before .hex .ensures)
+          ∙ c .before .before .before .before .before .before .before .before .target .given .1,
+      sym (c .before .before .before .before .before .before .number-in .ensures) ∙ c .before .before .before .before .segment .given .1,
+      sym (c .before .before .hex2 .ensures) ∙ c .enum-told3 .given .1,
+    )
 
 hex-requires-3 : tie.Need-hex-requires-3
 hex-requires-3 c κs = search needs
@@ -55,7 +65,15 @@ enum-told-4 : tie.Need-enum-told-4
 enum-told-4 c = search needs
 
 returns-4 : tie.Need-returns-4
-returns-4 c = simp (sym (c .before .before .before .before .before .before .before .before .before .before .before .before .before .before .hex .ensures) ∙ c .before .before .before .before .before .before .before .before .before .before .before .before .target .given .1, sym (c .before .before .before .before .before .before .before .before .before .before .number-in .ensures) ∙ c .before .before .before .before .before .before .before .before .segment .given .1, sym (c .before .before .before .before .before .before .hex2 .ensures) ∙ c .before .before .before .before .place .given .1, sym (c .before .before .hex3 .ensures) ∙ c .enum-told4 .given .1)
+returns-4 c =
+    simp (
+      sym (c .before .before .before .before .before .before .before .before .before .before .before .before .before .before .hex .ensures)
+          ∙ c .before .before .before .before .before .before .before .before .before .before .before .before .target .given .1,
+      sym (c .before .before .before .before .before .before .before .before .before .before .number-in .ensures)
+          ∙ c .before .before .before .before .before .before .before .before .segment .given .1,
+      sym (c .before .before .before .before .before .before .hex2 .ensures) ∙ c .before .before .before .before .place .given .1,
+      sym (c .before .before .hex3 .ensures) ∙ c .enum-told4 .given .1,
+    )
 
 of-bits-requires : tie.Need-of-bits-requires
 of-bits-requires c κs = search needs
@@ -67,7 +85,22 @@ of-bits-requires-3 : tie.Need-of-bits-requires-3
 of-bits-requires-3 c κs = search needs
 
 returns-5 : tie.Need-returns-5
-returns-5 c = simp (sym (c .before .before .before .before .before .before .before .before .before .before .before .before .before .before .before .before .before .before .hex .ensures) ∙ c .before .before .before .before .before .before .before .before .before .before .before .before .before .before .before .before .target .given .1, sym (c .before .before .before .before .before .before .before .before .before .before .before .before .before .before .number-in .ensures) ∙ c .before .before .before .before .before .before .before .before .before .before .before .before .segment .given .1, sym (c .before .before .before .before .before .before .before .before .before .before .hex2 .ensures) ∙ c .before .before .before .before .before .before .before .before .place .given .1, sym (c .before .before .before .before .before .before .hex3 .ensures) ∙ c .before .before .before .before .precision .given .1, c .before .before .of-bits .ensures, c .before .of-bits2 .ensures, c .of-bits3 .ensures)
+returns-5 c =
+    simp (
+      sym (c .before .before .before .before .before .before .before .before .before .before .before .before .before .before .before .before .before
+          .before .hex .ensures)
+          ∙ c .before .before .before .before .before .before .before .before .before .before .before .before .before .before .before .before .target
+          .given .1,
+      sym (c .before .before .before .before .before .before .before .before .before .before .before .before .before .before .number-in
+          .ensures) ∙ c .before .before .before .before .before .before .before .before .before .before .before .before .segment .given .1,
+      sym (c .before .before .before .before .before .before .before .before .before .before .hex2 .ensures)
+          ∙ c .before .before .before .before .before .before .before .before .place .given .1,
+      sym (c .before .before .before .before .before .before .hex3 .ensures)
+          ∙ c .before .before .before .before .precision .given .1,
+      c .before .before .of-bits .ensures,
+      c .before .of-bits2 .ensures,
+      c .of-bits3 .ensures,
+    )
 
 pub claim-with-spec : {M : Type 1} → statement M
 claim-with-spec =

@@ -36,7 +36,18 @@ same-length-3 : tie.Need-same-length-3
 same-length-3 c = search needs
 
 returns : tie.Need-returns
-returns c = let k = curveOf (c .before .before .before .before .before .before .before .before .before .before .before .before .before .before .before .before .before .before .args .held) (c .before .before .before .before .before .before .before .before .before .before .before .before .before .before .before .before .before .before .args .table .now) in let o = openOf (c .before .before .before .before .before .before .before .before .before .before .before .before .before .before .before .before .before .before .args .len) (c .before .before .before .before .before .before .before .before .before .before .before .before .before .before .before .before .before .before .args .line .now) in let e = c .before .before .before .before .before .before .before .before .before .before .before .before .before .said-of .ensures in let l = c .before .before .before .before .before .before .before .before .before .before .before .told .given .1 in let a = c .before .before .before .before .before .before .answered .ensures in (listed-leaves k o e l (a .0), (a .1 .0, (listed-wrote k o e l (a .1 .1 .0), a .1 .1 .1)))
+returns c = let k =
+    curveOf (c .before .before .before .before .before .before .before .before .before .before .before .before .before .before .before .before .before
+    .before .args .held) (c .before .before .before .before .before .before .before .before .before .before .before .before .before .before .before
+    .before .before .before .args .table .now) in let o =
+    openOf (c .before .before .before .before .before .before .before .before .before .before .before .before .before .before .before .before
+    .before .before .args .len)
+    (c .before .before .before .before .before .before .before .before .before .before .before .before .before .before .before .before
+    .before .before .args .line .now) in let e =
+    c .before .before .before .before .before .before .before .before .before .before .before .before .before .said-of .ensures
+    in let l = c .before .before .before .before .before .before .before .before .before .before .before .told .given .1
+    in let a = c .before .before .before .before .before .before .answered .ensures
+    in (listed-leaves k o e l (a .0), (a .1 .0, (listed-wrote k o e l (a .1 .1 .0), a .1 .1 .1)))
 
 same-length-4 : tie.Need-same-length-4
 same-length-4 c = search needs
@@ -45,7 +56,20 @@ same-length-5 : tie.Need-same-length-5
 same-length-5 c = search needs
 
 returns-2 : tie.Need-returns-2
-returns-2 c = let k = curveOf (c .before .before .before .before .before .before .before .before .before .before .before .before .before .args .held) (c .before .before .before .before .before .before .before .before .before .before .before .before .before .args .table .now) in let o = openOf (c .before .before .before .before .before .before .before .before .before .before .before .before .before .args .len) (c .before .before .before .before .before .before .before .before .before .before .before .before .before .args .line .now) in let e = c .before .before .before .before .before .before .before .before .said-of .ensures in let l = c .before .before .before .before .before .before .told2 .given .1 in let w = c .before .before .checked .ensures in (claim-leaves k o e l, (c .before .before .before .before .before .before .before .before .before .before .before .before .before .pre .1 .0 .0, (claim-wrote k o e l (w .0), w .1)))
+returns-2 c = let k =
+    curveOf (c .before .before .before .before .before .before .before .before .before .before .before .before .before .args .held)
+    (c .before .before .before .before .before .before .before .before .before .before .before .before .before .args .table .now) in let o =
+    openOf (c .before .before .before .before .before .before .before .before .before .before .before .before .before .args .len)
+    (c .before .before .before .before .before .before .before .before .before .before .before .before .before .args .line .now) in let e =
+    c .before .before .before .before .before .before .before .before .said-of .ensures in let l =
+    c .before .before .before .before .before .before .told2 .given .1 in let w = c .before .before .checked .ensures
+    in (
+      claim-leaves k o e l,
+      (
+        c .before .before .before .before .before .before .before .before .before .before .before .before .before .pre .1 .0 .0,
+        (claim-wrote k o e l (w .0), w .1),
+      ),
+    )
 
 pub line-spec : {M : Type 1} → statement M
 line-spec =

@@ -42,13 +42,19 @@ same-length-2 : tie.Need-same-length-2
 same-length-2 c = search needs
 
 returns-2 : tie.Need-returns-2
-returns-2 c = (rw (c .before .before .before .before .before .enum-told .given .1) (c .before .before .put-word .ensures), omega (arith, c .before .before .put-word .ensures .next))
+returns-2 c = (
+  rw (c .before .before .before .before .before .enum-told .given .1) (c .before .before .put-word .ensures),
+  omega (arith, c .before .before .put-word .ensures .next),
+)
 
 same-length-3 : tie.Need-same-length-3
 same-length-3 c = search needs
 
 returns-3 : tie.Need-returns-3
-returns-3 c = (rw (c .before .before .before .before .before .enum-told2 .given .1) (c .before .before .put-word2 .ensures), omega (arith, c .before .before .put-word2 .ensures .next))
+returns-3 c = (
+  rw (c .before .before .before .before .before .enum-told2 .given .1) (c .before .before .put-word2 .ensures),
+  omega (arith, c .before .before .put-word2 .ensures .next),
+)
 
 pub put-claimed-spec : {M : Type 1} → statement M
 put-claimed-spec =

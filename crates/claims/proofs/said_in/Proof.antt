@@ -47,7 +47,10 @@ after-word-requires : tie.Need-after-word-requires
 after-word-requires c κs = search needs
 
 returns : tie.Need-returns
-returns c = with-word _ (c .before .before .before .before .before .before .before .before .before .args .line .now) (c .before .before .before .before .before .before .before .tab-at .ensures .0) (omega arith) (sym (c .before .before .before .is-word .ensures) ∙ c .before .before .if2 .taken) (c .after-word .ensures)
+returns c =
+    with-word _ (c .before .before .before .before .before .before .before .before .before .args .line .now)
+    (c .before .before .before .before .before .before .before .tab-at .ensures .0) (omega arith)
+    (sym (c .before .before .before .is-word .ensures) ∙ c .before .before .if2 .taken) (c .after-word .ensures)
 
 record-of-requires : tie.Need-record-of-requires
 record-of-requires c κs = search needs
@@ -56,7 +59,10 @@ of-table-requires : tie.Need-of-table-requires
 of-table-requires c κs = search needs
 
 returns-2 : tie.Need-returns-2
-returns-2 c = without-word _ (c .before .before .before .before .before .before .before .before .before .args .line .now) (c .before .before .before .before .before .before .before .tab-at .ensures .0) (omega arith) (sym (c .before .before .before .is-word .ensures) ∙ c .before .before .if2 .left) (c .before .record-of .ensures) (c .of-table .ensures)
+returns-2 c =
+    without-word _ (c .before .before .before .before .before .before .before .before .before .args .line .now)
+    (c .before .before .before .before .before .before .before .tab-at .ensures .0) (omega arith)
+    (sym (c .before .before .before .is-word .ensures) ∙ c .before .before .if2 .left) (c .before .record-of .ensures) (c .of-table .ensures)
 
 returns-3 : tie.Need-returns-3
 returns-3 c = no-tab (c .before .before .before .args .line .now) (rw (c .before .tab-at .ensures .0) at (c .if1 .left))

@@ -17,7 +17,11 @@ rank-requires-2 c κs = search needs
 
 returns : tie.Need-returns
 unfolding basisDifference
-returns c = (rw (eq-eqb (rankOf (c .before .before .before .before .args .b)) (rankOf (c .before .before .before .before .args .c)) (sym (c .before .before .rank .ensures) ∙ c .if1 .taken ∙ c .before .rank2 .ensures)) (no-line _ _), omega arith)
+returns c = (
+  rw (eq-eqb (rankOf (c .before .before .before .before .args .b)) (rankOf (c .before .before .before .before .args .c))
+      (sym (c .before .before .rank .ensures) ∙ c .if1 .taken ∙ c .before .rank2 .ensures)) (no-line _ _),
+  omega arith,
+)
 
 slice-aggregate-put-word : tie.Need-slice-aggregate-put-word
 slice-aggregate-put-word c = search needs
@@ -43,9 +47,37 @@ same-length c = search needs
 returns-2 : tie.Need-returns-2
 unfolding basisDifference
 returns-2 c = (
-  rw (ne-eqb (rankOf (c .before .before .before .before .before .before .before .before .before .before .before .before .before .before .before .before .before .before .before .before .before .before .before .before .before .args .b)) (rankOf (c .before .before .before .before .before .before .before .before .before .before .before .before .before .before .before .before .before .before .before .before .before .before .before .before .before .args .c)) (λ e. c .before .before .before .before .before .before .before .before .before .before .before .before .before .before .before .before .before .before .before .before .before .if1 .left (c .before .before .before .before .before .before .before .before .before .before .before .before .before .before .before .before .before .before .before .before .before .before .before .rank .ensures ∙ e ∙ sym (c .before .before .before .before .before .before .before .before .before .before .before .before .before .before .before .before .before .before .before .before .before .before .rank2 .ensures))))
-      (one-line (basis (c .before .before .before .before .before .before .before .before .before .before .before .before .before .before .before .before .before .before .before .before .before .before .before .before .before .args .b) (c .before .before .before .before .before .before .before .before .before .before .before .before .before .before .before .before .before .before .before .before .before .before .before .before .before .args .c)) (then (then (then (then (c .before .before .before .before .before .before .before .before .before .before .before .before .before .before .before .before .before .before .put-word .ensures) (c .before .before .before .before .before .before .before .before .before .before .before .before .before .before .put-basis .ensures .0)) (c .before .before .before .before .before .before .before .before .before .before .put-byte .ensures)) (c .before .before .before .before .before .before .put-basis2 .ensures .0)) (c .before .before .put-byte2 .ensures))),
-  omega (arith, c .before .before .before .before .before .before .before .before .before .before .before .before .before .before .before .before .before .before .put-word .ensures .next, c .before .before .before .before .before .before .before .before .before .before .before .before .before .before .put-basis .ensures .1, c .before .before .before .before .before .before .before .before .before .before .put-byte .ensures .next, c .before .before .before .before .before .before .put-basis2 .ensures .1, c .before .before .put-byte2 .ensures .next),
+  rw (ne-eqb (rankOf (c .before .before .before .before .before .before .before .before .before .before .before .before .before .before .before .before
+      .before .before .before .before .before .before .before .before .before .args .b))
+      (rankOf (c .before .before .before .before .before .before .before .before .before .before .before .before .before .before .before .before .before
+      .before .before .before .before .before .before .before .before .args .c))
+      (λ e. c .before .before .before .before .before .before .before .before .before .before .before .before .before .before .before .before
+      .before .before .before .before .before .if1 .left
+      (c .before .before .before .before .before .before .before .before .before .before .before .before .before .before .before .before
+      .before .before .before .before .before .before .before .rank .ensures ∙ e
+      ∙ sym (c .before .before .before .before .before .before .before .before .before .before .before .before .before .before
+      .before .before .before .before .before .before .before .before .rank2 .ensures))))
+      (one-line (basis (c .before .before .before .before .before .before .before .before .before .before .before .before .before .before .before .before
+      .before .before .before .before .before .before .before .before .before .args .b)
+      (c .before .before .before .before .before .before .before .before .before .before .before .before .before .before .before .before .before
+      .before .before .before .before .before .before .before .before .args .c))
+      (then (then (then (then
+      (c .before .before .before .before .before .before .before .before .before .before .before .before .before .before .before .before
+      .before .before .put-word .ensures)
+      (c .before .before .before .before .before .before .before .before .before .before .before .before .before .before
+      .put-basis .ensures .0))
+      (c .before .before .before .before .before .before .before .before .before .before .put-byte .ensures))
+      (c .before .before .before .before .before .before .put-basis2 .ensures .0))
+      (c .before .before .put-byte2 .ensures))),
+  omega (
+    arith,
+    c .before .before .before .before .before .before .before .before .before .before .before .before .before .before .before .before .before .before
+        .put-word .ensures .next,
+    c .before .before .before .before .before .before .before .before .before .before .before .before .before .before .put-basis .ensures .1,
+    c .before .before .before .before .before .before .before .before .before .before .put-byte .ensures .next,
+    c .before .before .before .before .before .before .put-basis2 .ensures .1,
+    c .before .before .put-byte2 .ensures .next,
+  ),
 )
 
 pub put-bases-spec : {M : Type 1} → statement M

@@ -22,8 +22,27 @@ same-length c = search needs
 
 returns : tie.Need-returns
 returns c = (
-  compared (c .before .before .before .before .before .before .before .before .before .before .before .before .before .before .before .before .before .before .before .args .t) (c .before .before .before .before .before .before .before .before .before .before .before .before .before .before .before .before .before .before .before .args .old .now) (c .before .before .before .before .before .before .before .before .before .before .before .before .before .before .before .before .before .before .before .args .u) (c .before .before .before .before .before .before .before .before .before .before .before .before .before .before .before .before .before .before .before .args .new .now) (c .before .before .before .before .before .before .before .before .before .before .before .before .before .before .put-bases .ensures .0) (c .before .before .before .before .before .before .before .before .before .before .put-spans .ensures .0) (c .before .before .before .before .before .before .put-places .ensures .0) (c .before .before .before .before .before .before .put-places .ensures .1 .0) (c .before .before .put-last .ensures .0),
-  omega (arith, c .before .before .before .before .before .before .before .before .before .before .before .before .before .before .put-bases .ensures .1, c .before .before .before .before .before .before .before .before .before .before .put-spans .ensures .1, c .before .before .before .before .before .before .put-places .ensures .1 .1 .0, c .before .before .put-last .ensures .1),
+  compared (c .before .before .before .before .before .before .before .before .before .before .before .before .before .before .before .before .before
+      .before .before .args .t)
+      (c .before .before .before .before .before .before .before .before .before .before .before .before .before .before .before .before .before .before
+      .before .args .old .now)
+      (c .before .before .before .before .before .before .before .before .before .before .before .before .before .before .before .before .before
+      .before .before .args .u)
+      (c .before .before .before .before .before .before .before .before .before .before .before .before .before .before .before .before
+      .before .before .before .args .new .now)
+      (c .before .before .before .before .before .before .before .before .before .before .before .before .before .before
+      .put-bases .ensures .0)
+      (c .before .before .before .before .before .before .before .before .before .before .put-spans .ensures .0)
+      (c .before .before .before .before .before .before .put-places .ensures .0)
+      (c .before .before .before .before .before .before .put-places .ensures .1 .0)
+      (c .before .before .put-last .ensures .0),
+  omega (
+    arith,
+    c .before .before .before .before .before .before .before .before .before .before .before .before .before .before .put-bases .ensures .1,
+    c .before .before .before .before .before .before .before .before .before .before .put-spans .ensures .1,
+    c .before .before .before .before .before .before .put-places .ensures .1 .1 .0,
+    c .before .before .put-last .ensures .1,
+  ),
 )
 
 pub put-comparison-spec : {M : Type 1} → statement M

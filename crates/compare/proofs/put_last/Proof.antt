@@ -16,7 +16,12 @@ same-length : tie.Need-same-length
 same-length c = search needs
 
 returns : tie.Need-returns
-returns c = (rw (eq-eqb (c .before .before .before .before .before .before .before .args .c .at) (c .before .before .before .before .before .before .before .args .start) (c .before .before .before .before .before .if1 .taken)) (c .before .before .put-word .ensures), omega (arith, c .before .before .put-word .ensures .next))
+returns c = (
+  rw (eq-eqb (c .before .before .before .before .before .before .before .args .c .at)
+      (c .before .before .before .before .before .before .before .args .start) (c .before .before .before .before .before .if1 .taken))
+      (c .before .before .put-word .ensures),
+  omega (arith, c .before .before .put-word .ensures .next),
+)
 
 put-decimal-requires : tie.Need-put-decimal-requires
 put-decimal-requires c κs = search needs
@@ -29,7 +34,10 @@ same-length-2 c = search needs
 
 returns-2 : tie.Need-returns-2
 returns-2 c = (
-  rw (ne-eqb (c .before .before .before .before .before .before .before .before .before .before .args .c .at) (c .before .before .before .before .before .before .before .before .before .before .args .start) (c .before .before .before .before .before .before .before .before .if1 .left)) (then (c .before .before .before .before .before .before .put-decimal .ensures .0) (c .before .before .put-byte .ensures)),
+  rw (ne-eqb (c .before .before .before .before .before .before .before .before .before .before .args .c .at)
+      (c .before .before .before .before .before .before .before .before .before .before .args .start)
+      (c .before .before .before .before .before .before .before .before .if1 .left))
+      (then (c .before .before .before .before .before .before .put-decimal .ensures .0) (c .before .before .put-byte .ensures)),
   omega (arith, c .before .before .before .before .before .before .put-decimal .ensures .1, c .before .before .put-byte .ensures .next),
 )
 

@@ -24,7 +24,10 @@ shared-slice-read-if3-2 c = search needs
 
 returns : tie.Need-returns
 unfolding placesIn
-returns c = let e = place-same (c .before .before .before .before .before .before .before .before .args .i) (c .before .before .before .before .before .before .before .before .args .old .now) (c .before .before .before .before .before .before .before .before .args .new .now) (omega arith) (omega arith) (c .if3 .taken) in
+returns c = let e =
+    place-same (c .before .before .before .before .before .before .before .before .args .i)
+    (c .before .before .before .before .before .before .before .before .args .old .now)
+    (c .before .before .before .before .before .before .before .before .args .new .now) (omega arith) (omega arith) (c .if3 .taken) in
     (rw e (no-line _ _), (rw e (omega arith), (omega arith, omega arith)))
 
 mul-put-knot : tie.Need-mul-put-knot
@@ -50,7 +53,11 @@ same-length c = search needs
 
 returns-2 : tie.Need-returns-2
 unfolding placesIn
-returns-2 c = let e = place-knot (c .before .before .before .before .before .before .before .before .before .before .before .before .before .before .args .i) (c .before .before .before .before .before .before .before .before .before .before .before .before .before .before .args .old .now) (c .before .before .before .before .before .before .before .before .before .before .before .before .before .before .args .new .now) (omega arith) (omega arith) (c .before .before .before .before .before .before .if3 .left) in
+returns-2 c = let e =
+    place-knot (c .before .before .before .before .before .before .before .before .before .before .before .before .before .before .args .i)
+    (c .before .before .before .before .before .before .before .before .before .before .before .before .before .before .args .old .now)
+    (c .before .before .before .before .before .before .before .before .before .before .before .before .before .before .args .new .now)
+    (omega arith) (omega arith) (c .before .before .before .before .before .before .if3 .left) in
     (rw e (one-line _ (c .before .before .put-knot .ensures .0)), (rw e (omega arith), (c .before .before .put-knot .ensures .1, omega arith)))
 
 mul-put-only : tie.Need-mul-put-only
@@ -70,7 +77,10 @@ same-length-2 c = search needs
 
 returns-3 : tie.Need-returns-3
 unfolding placesIn
-returns-3 c = let e = place-old (c .before .before .before .before .before .before .before .before .before .before .args .i) (c .before .before .before .before .before .before .before .before .before .before .args .old .now) (c .before .before .before .before .before .before .before .before .before .before .args .new .now) (omega arith) (omega arith) in
+returns-3 c = let e =
+    place-old (c .before .before .before .before .before .before .before .before .before .before .args .i)
+    (c .before .before .before .before .before .before .before .before .before .before .args .old .now)
+    (c .before .before .before .before .before .before .before .before .before .before .args .new .now) (omega arith) (omega arith) in
     (rw e (one-line _ (c .before .before .put-only .ensures .0)), (rw e (omega arith), (c .before .before .put-only .ensures .1, omega arith)))
 
 mul-put-only-2 : tie.Need-mul-put-only-2
@@ -90,7 +100,10 @@ same-length-3 c = search needs
 
 returns-4 : tie.Need-returns-4
 unfolding placesIn
-returns-4 c = let e = place-new (c .before .before .before .before .before .before .before .before .before .args .i) (c .before .before .before .before .before .before .before .before .before .args .old .now) (c .before .before .before .before .before .before .before .before .before .args .new .now) (omega arith) in
+returns-4 c = let e =
+    place-new (c .before .before .before .before .before .before .before .before .before .args .i)
+    (c .before .before .before .before .before .before .before .before .before .args .old .now)
+    (c .before .before .before .before .before .before .before .before .before .args .new .now) (omega arith) in
     (rw e (one-line _ (c .before .before .put-only2 .ensures .0)), (rw e (omega arith), (c .before .before .put-only2 .ensures .1, omega arith)))
 
 pub put-place-spec : {M : Type 1} → statement M

@@ -19,7 +19,12 @@ loop-holds : tie.Need-loop-holds Inv-loop μ-loop
 loop-holds c = (omega arith, omega arith, omega arith, upto-none _ _ _ _)
 
 put-place-requires : tie.Need-put-place-requires Inv-loop μ-loop
-put-place-requires c κs = (c .before .before .loop .inv .2, omega (arith, c .before .before .before .longer .ensures), omega (arith, c .before .before .before .longer .ensures, c .before .before .loop .inv .3 .wrote .long), λ h. omega (arith, c .before .before .before .longer .ensures))
+put-place-requires c κs = (
+  c .before .before .loop .inv .2,
+  omega (arith, c .before .before .before .longer .ensures),
+  omega (arith, c .before .before .before .longer .ensures, c .before .before .loop .inv .3 .wrote .long),
+  λ h. omega (arith, c .before .before .before .longer .ensures),
+)
 
 add-i : tie.Need-add-i Inv-loop μ-loop
 add-i c = search needs
@@ -32,14 +37,18 @@ loop-again c = (
   omega arith,
   omega (arith, c .before .before .put-place .ensures .1 .1 .0),
   c .before .before .put-place .ensures .1 .1 .1,
-  upto-more _ _ (c .before .before .before .before .before .loop .i) (λ h. omega (arith, c .before .before .before .before .before .before .longer .ensures)) (c .before .before .before .before .before .loop .inv .3) (c .before .before .put-place .ensures .0) (c .before .before .put-place .ensures .1 .0),
+  upto-more _ _ (c .before .before .before .before .before .loop .i)
+      (λ h. omega (arith, c .before .before .before .before .before .before .longer .ensures)) (c .before .before .before .before .before .loop .inv .3)
+      (c .before .before .put-place .ensures .0) (c .before .before .put-place .ensures .1 .0),
 )
 
 same-length : tie.Need-same-length Inv-loop μ-loop
 same-length c = c .before .loop .inv .3 .wrote .long
 
 returns : tie.Need-returns Inv-loop μ-loop
-returns c = let r = upto-all _ _ (c .before .loop .i) (omega (arith, c .before .before .longer .ensures)) (omega (arith, c .before .before .longer .ensures)) (c .before .loop .inv .3) in
+returns c = let r =
+    upto-all _ _ (c .before .loop .i) (omega (arith, c .before .before .longer .ensures)) (omega (arith, c .before .before .longer .ensures))
+    (c .before .loop .inv .3) in
     (r .0, (r .1, (omega (arith, c .before .before .longer .ensures), omega (arith, c .before .before .longer .ensures))))
 
 pub put-places-spec : {M : Type 1} → statement M

@@ -36,9 +36,33 @@ same-length c = search needs
 returns-2 : tie.Need-returns-2
 unfolding spanDifference
 returns-2 c = (
-  rw (ne-eqb (c .before .before .before .before .before .before .before .before .before .before .before .before .before .before .before .before .before .before .before .before .before .before .before .args .r) (c .before .before .before .before .before .before .before .before .before .before .before .before .before .before .before .before .before .before .before .before .before .before .before .args .s) (c .before .before .before .before .before .before .before .before .before .before .before .before .before .before .before .before .before .before .before .before .before .if1 .left))
-      (one-line (span (c .before .before .before .before .before .before .before .before .before .before .before .before .before .before .before .before .before .before .before .before .before .before .before .args .r) (c .before .before .before .before .before .before .before .before .before .before .before .before .before .before .before .before .before .before .before .before .before .before .before .args .s)) (then (then (then (then (c .before .before .before .before .before .before .before .before .before .before .before .before .before .before .before .before .before .before .put-word .ensures) (c .before .before .before .before .before .before .before .before .before .before .before .before .before .before .put-decimal .ensures .0)) (c .before .before .before .before .before .before .before .before .before .before .put-byte .ensures)) (c .before .before .before .before .before .before .put-decimal2 .ensures .0)) (c .before .before .put-byte2 .ensures))),
-  omega (arith, c .before .before .before .before .before .before .before .before .before .before .before .before .before .before .before .before .before .before .put-word .ensures .next, c .before .before .before .before .before .before .before .before .before .before .before .before .before .before .put-decimal .ensures .1, c .before .before .before .before .before .before .before .before .before .before .put-byte .ensures .next, c .before .before .before .before .before .before .put-decimal2 .ensures .1, c .before .before .put-byte2 .ensures .next),
+  rw (ne-eqb (c .before .before .before .before .before .before .before .before .before .before .before .before .before .before .before .before .before
+      .before .before .before .before .before .before .args .r)
+      (c .before .before .before .before .before .before .before .before .before .before .before .before .before .before .before .before .before .before
+      .before .before .before .before .before .args .s)
+      (c .before .before .before .before .before .before .before .before .before .before .before .before .before .before .before .before .before
+      .before .before .before .before .if1 .left))
+      (one-line (span (c .before .before .before .before .before .before .before .before .before .before .before .before .before .before .before .before
+      .before .before .before .before .before .before .before .args .r)
+      (c .before .before .before .before .before .before .before .before .before .before .before .before .before .before .before .before .before
+      .before .before .before .before .before .before .args .s))
+      (then (then (then (then
+      (c .before .before .before .before .before .before .before .before .before .before .before .before .before .before .before .before
+      .before .before .put-word .ensures)
+      (c .before .before .before .before .before .before .before .before .before .before .before .before .before .before
+      .put-decimal .ensures .0))
+      (c .before .before .before .before .before .before .before .before .before .before .put-byte .ensures))
+      (c .before .before .before .before .before .before .put-decimal2 .ensures .0))
+      (c .before .before .put-byte2 .ensures))),
+  omega (
+    arith,
+    c .before .before .before .before .before .before .before .before .before .before .before .before .before .before .before .before .before .before
+        .put-word .ensures .next,
+    c .before .before .before .before .before .before .before .before .before .before .before .before .before .before .put-decimal .ensures .1,
+    c .before .before .before .before .before .before .before .before .before .before .put-byte .ensures .next,
+    c .before .before .before .before .before .before .put-decimal2 .ensures .1,
+    c .before .before .put-byte2 .ensures .next,
+  ),
 )
 
 pub put-spans-spec : {M : Type 1} → statement M

@@ -17,14 +17,25 @@ enum-known-h : tie.Need-enum-known-h
 enum-known-h c = search needs
 
 end-parted-requires : tie.Need-end-parted-requires
-end-parted-requires c κs = let z : max (knotsOf (c .before .before .h .given .0 .0)) (knotsOf (c .before .before .h .given .0 .1 .0)) ≤ places = rw (c .before .before .h .given .1) at (c .before .before .before .before .before .before .before .pre .0) in (omega arith, omega arith, c .before .before .before .before .before .before .before .pre .1, c .before .before .before .before .before .before .before .pre .2, c .before .before .before .before .before .before .before .pre .3)
+end-parted-requires c κs = let z : max (knotsOf (c .before .before .h .given .0 .0)) (knotsOf (c .before .before .h .given .0 .1 .0)) ≤ places =
+    rw (c .before .before .h .given .1) at (c .before .before .before .before .before .before .before .pre .0)
+    in (
+      omega arith,
+      omega arith,
+      c .before .before .before .before .before .before .before .pre .1,
+      c .before .before .before .before .before .before .before .pre .2,
+      c .before .before .before .before .before .before .before .pre .3,
+    )
 
 same-length : tie.Need-same-length
 same-length c = search needs
 
 returns : tie.Need-returns
 unfolding endsOf
-returns c = (rw (c .before .before .before .before .enum-told .given .1) (c .before .before .put-refused .ensures .0), omega (arith, c .before .before .put-refused .ensures .1))
+returns c = (
+  rw (c .before .before .before .before .enum-told .given .1) (c .before .before .put-refused .ensures .0),
+  omega (arith, c .before .before .put-refused .ensures .1),
+)
 
 same-length-2 : tie.Need-same-length-2
 same-length-2 c = search needs

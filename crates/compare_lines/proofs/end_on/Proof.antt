@@ -33,26 +33,37 @@ part-put-comparison-start-2 : tie.Need-part-put-comparison-start-2
 part-put-comparison-start-2 c = search needs
 
 part-put-comparison-end-2 : tie.Need-part-put-comparison-end-2
-part-put-comparison-end-2 c = let k : c .before .before .l .given .0 .1 .0 ≤ places = rw (c .before .before .l .given .1) at (c .before .before .before .before .before .before .before .pre .1) in omega arith
+part-put-comparison-end-2 c = let k : c .before .before .l .given .0 .1 .0 ≤ places =
+    rw (c .before .before .l .given .1) at (c .before .before .before .before .before .before .before .pre .1) in omega arith
 
 put-comparison-requires : tie.Need-put-comparison-requires
-put-comparison-requires c κs = let k : c .before .before .before .before .l .given .0 .1 .0 ≤ places = rw (c .before .before .before .before .l .given .1) at (c .before .before .before .before .before .before .before .before .before .pre .1) in (simp length-take (omega arith), simp length-take (omega arith), omega arith)
+put-comparison-requires c κs = let k : c .before .before .before .before .l .given .0 .1 .0 ≤ places =
+    rw (c .before .before .before .before .l .given .1) at (c .before .before .before .before .before .before .before .before .before .pre .1)
+    in (simp length-take (omega arith), simp length-take (omega arith), omega arith)
 
 same-length : tie.Need-same-length
 same-length c = search needs
 
 returns : tie.Need-returns
 unfolding endsOf
-returns c = (rw (c .before .before .before .before .enum-told .given .1) (c .before .before .put-refused .ensures .0), omega (arith, c .before .before .put-refused .ensures .1))
+returns c = (
+  rw (c .before .before .before .before .enum-told .given .1) (c .before .before .put-refused .ensures .0),
+  omega (arith, c .before .before .put-refused .ensures .1),
+)
 
 same-length-2 : tie.Need-same-length-2
 same-length-2 c = search needs
 
 returns-2 : tie.Need-returns-2
 unfolding endsOf
-returns-2 c = let z : c .before .before .before .before .before .before .before .before .before .before .before .before .args .n - 0 ≡ c .before .before .before .before .before .before .before .before .before .before .before .before .args .n = omega arith in
-    let y : c .before .before .before .before .before .before .before .l .given .0 .1 .0 - 0 ≡ c .before .before .before .before .before .before .before .l .given .0 .1 .0 = omega arith in
-    (rw (c .before .before .before .before .before .before .before .l .given .1) (rw (z, y) at (c .before .before .put-comparison .ensures .0)), c .before .before .put-comparison .ensures .1)
+returns-2 c =
+    let z : c .before .before .before .before .before .before .before .before .before .before .before .before .args .n - 0 ≡ c .before .before .before
+    .before .before .before .before .before .before .before .before .before .args .n = omega arith in
+    let y : c .before .before .before .before .before .before .before .l .given .0 .1 .0 - 0 ≡ c .before .before .before .before .before .before .before .l
+    .given .0 .1 .0 = omega arith in (
+      rw (c .before .before .before .before .before .before .before .l .given .1) (rw (z, y) at (c .before .before .put-comparison .ensures .0)),
+      c .before .before .put-comparison .ensures .1,
+    )
 
 pub end-on-spec : {M : Type 1} → statement M
 end-on-spec =

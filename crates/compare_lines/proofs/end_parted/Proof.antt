@@ -16,14 +16,25 @@ enum-known-k : tie.Need-enum-known-k
 enum-known-k c = search needs
 
 end-on-requires : tie.Need-end-on-requires
-end-on-requires c κs = let n : c .before .before .k .given .0 .1 .0 ≤ places = rw (c .before .before .k .given .1) at (c .before .before .before .before .before .before .before .pre .0) in (n, c .before .before .before .before .before .before .before .pre .1, c .before .before .before .before .before .before .before .pre .2, c .before .before .before .before .before .before .before .pre .3, c .before .before .before .before .before .before .before .pre .4)
+end-on-requires c κs = let n : c .before .before .k .given .0 .1 .0 ≤ places =
+    rw (c .before .before .k .given .1) at (c .before .before .before .before .before .before .before .pre .0)
+    in (
+      n,
+      c .before .before .before .before .before .before .before .pre .1,
+      c .before .before .before .before .before .before .before .pre .2,
+      c .before .before .before .before .before .before .before .pre .3,
+      c .before .before .before .before .before .before .before .pre .4,
+    )
 
 same-length : tie.Need-same-length
 same-length c = search needs
 
 returns : tie.Need-returns
 unfolding endsOf
-returns c = (rw (c .before .before .before .before .enum-told .given .1) (c .before .before .put-refused .ensures .0), omega (arith, c .before .before .put-refused .ensures .1))
+returns c = (
+  rw (c .before .before .before .before .enum-told .given .1) (c .before .before .put-refused .ensures .0),
+  omega (arith, c .before .before .put-refused .ensures .1),
+)
 
 same-length-2 : tie.Need-same-length-2
 same-length-2 c = search needs

@@ -16,7 +16,8 @@ enum-known-l : tie.Need-enum-known-l
 enum-known-l c = search needs
 
 later-requires : tie.Need-later-requires
-later-requires c κs = let k : c .before .before .l .given .0 .1 .0 ≤ places = rw (c .before .before .l .given .1) at (c .before .before .before .before .before .pre .0) in (k, c .before .before .before .before .before .pre .1)
+later-requires c κs = let k : c .before .before .l .given .0 .1 .0 ≤ places =
+    rw (c .before .before .l .given .1) at (c .before .before .before .before .before .pre .0) in (k, c .before .before .before .before .before .pre .1)
 
 same-length : tie.Need-same-length
 same-length c = search needs

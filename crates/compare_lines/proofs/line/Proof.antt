@@ -24,8 +24,23 @@ same-length-3 : tie.Need-same-length-3
 same-length-3 c = search needs
 
 returns : tie.Need-returns
-returns c = let t = c .before .before .before .before .before .before .before .before .take-in .ensures in
-    (line-state (openOf (c .before .before .before .before .before .before .before .before .before .before .before .before .before .before .before .before .args .len) (c .before .before .before .before .before .before .before .before .before .before .before .before .before .before .before .before .args .line .now)) (c .before .before .before .before .before .before .before .before .before .before .before .said-by .ensures) t, (t .few, (line-wrote (openOf (c .before .before .before .before .before .before .before .before .before .before .before .before .before .before .before .before .args .len) (c .before .before .before .before .before .before .before .before .before .before .before .before .before .before .before .before .args .line .now)) (c .before .before .before .before .before .before .before .before .before .before .before .said-by .ensures) t (c .before .before .put-verdict .ensures .0), c .before .before .put-verdict .ensures .1)))
+returns c = let t = c .before .before .before .before .before .before .before .before .take-in .ensures in (
+  line-state (openOf (c .before .before .before .before .before .before .before .before .before .before .before .before .before .before .before .before
+      .args .len) (c .before .before .before .before .before .before .before .before .before .before .before .before .before .before .before .before .args
+      .line .now)) (c .before .before .before .before .before .before .before .before .before .before .before .said-by .ensures) t,
+  (
+    t .few,
+    (
+      line-wrote (openOf (c .before .before .before .before .before .before .before .before .before .before .before .before .before .before
+          .before .before .args .len)
+          (c .before .before .before .before .before .before .before .before .before .before .before .before .before .before .before
+          .before .args .line .now))
+          (c .before .before .before .before .before .before .before .before .before .before .before .said-by .ensures) t
+          (c .before .before .put-verdict .ensures .0),
+      c .before .before .put-verdict .ensures .1,
+    ),
+  ),
+)
 
 pub line-spec : {M : Type 1} → statement M
 line-spec =

@@ -29,7 +29,11 @@ span-of-requires c κs = search needs
 
 returns-2 : tie.Need-returns-2
 unfolding meaningOf
-returns-2 c = simp (sym (c .before .before .before .before .before .is-word .ensures) ∙ c .before .before .before .before .if1 .left, sym (c .before .before .is-word2 .ensures) ∙ c .before .if2 .taken) (c .span-of .ensures)
+returns-2 c =
+    simp (
+      sym (c .before .before .before .before .before .is-word .ensures) ∙ c .before .before .before .before .if1 .left,
+      sym (c .before .before .is-word2 .ensures) ∙ c .before .if2 .taken,
+    ) (c .span-of .ensures)
 
 slice-aggregate-is-word-3 : tie.Need-slice-aggregate-is-word-3
 slice-aggregate-is-word-3 c = search needs
@@ -42,11 +46,24 @@ knot-of-requires c κs = search needs
 
 returns-3 : tie.Need-returns-3
 unfolding meaningOf
-returns-3 c = simp (sym (c .before .before .before .before .before .before .before .before .is-word .ensures) ∙ c .before .before .before .before .before .before .before .if1 .left, sym (c .before .before .before .before .before .is-word2 .ensures) ∙ c .before .before .before .before .if2 .left, sym (c .before .before .is-word3 .ensures) ∙ c .before .if3 .taken) (c .knot-of .ensures)
+returns-3 c =
+    simp (
+      sym (c .before .before .before .before .before .before .before .before .is-word .ensures)
+          ∙ c .before .before .before .before .before .before .before .if1 .left,
+      sym (c .before .before .before .before .before .is-word2 .ensures)
+          ∙ c .before .before .before .before .if2 .left,
+      sym (c .before .before .is-word3 .ensures) ∙ c .before .if3 .taken,
+    ) (c .knot-of .ensures)
 
 returns-4 : tie.Need-returns-4
 unfolding meaningOf
-returns-4 c = simp (sym (c .before .before .before .before .before .before .before .is-word .ensures) ∙ c .before .before .before .before .before .before .if1 .left, sym (c .before .before .before .before .is-word2 .ensures) ∙ c .before .before .before .if2 .left, sym (c .before .is-word3 .ensures) ∙ c .if3 .left)
+returns-4 c =
+    simp (
+      sym (c .before .before .before .before .before .before .before .is-word .ensures) ∙ c .before .before .before .before .before .before .if1 .left,
+      sym (c .before .before .before .before .is-word2 .ensures) ∙ c .before .before .before .if2 .left,
+      sym (c .before .is-word3 .ensures)
+          ∙ c .if3 .left,
+    )
 
 pub meaning-spec : {M : Type 1} → statement M
 meaning-spec =

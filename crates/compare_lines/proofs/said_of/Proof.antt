@@ -43,10 +43,14 @@ is-word-requires : tie.Need-is-word-requires
 is-word-requires c κs = search needs
 
 returns-2 : tie.Need-returns-2
-returns-2 c = sym (no-tab _ (rw (c .before .before .before .before .tab-at .ensures .0) at (c .before .before .before .if1 .left)) ∙ rw (sym (c .before .is-word .ensures) ∙ c .if2 .taken))
+returns-2 c =
+    sym (no-tab _ (rw (c .before .before .before .before .tab-at .ensures .0) at (c .before .before .before .if1 .left))
+    ∙ rw (sym (c .before .is-word .ensures) ∙ c .if2 .taken))
 
 returns-3 : tie.Need-returns-3
-returns-3 c = sym (no-tab _ (rw (c .before .before .before .before .tab-at .ensures .0) at (c .before .before .before .if1 .left)) ∙ rw (sym (c .before .is-word .ensures) ∙ c .if2 .left))
+returns-3 c =
+    sym (no-tab _ (rw (c .before .before .before .before .tab-at .ensures .0) at (c .before .before .before .if1 .left))
+    ∙ rw (sym (c .before .is-word .ensures) ∙ c .if2 .left))
 
 pub said-of-spec : {M : Type 1} → statement M
 said-of-spec =

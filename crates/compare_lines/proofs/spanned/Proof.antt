@@ -10,11 +10,13 @@ is-span-requires : tie.Need-is-span-requires
 is-span-requires c κs = search needs
 
 returns : tie.Need-returns
-returns c = let a = c .before .before .before .args in let k = span-taken (a .t) (a .n) (a .s) (a .knots .now) (sym (c .before .is-span .ensures) ∙ c .if1 .taken) in
+returns c = let a = c .before .before .before .args in let k =
+    span-taken (a .t) (a .n) (a .s) (a .knots .now) (sym (c .before .is-span .ensures) ∙ c .if1 .taken) in
     record { held = k .0; told = k .1; few = omega arith }
 
 returns-2 : tie.Need-returns-2
-returns-2 c = let a = c .before .before .before .args in let k = span-refused (a .t) (a .n) (a .s) (a .knots .now) (sym (c .before .is-span .ensures) ∙ c .if1 .left) in
+returns-2 c = let a = c .before .before .before .args in let k =
+    span-refused (a .t) (a .n) (a .s) (a .knots .now) (sym (c .before .is-span .ensures) ∙ c .if1 .left) in
     record { held = k .0; told = k .1; few = omega arith }
 
 pub spanned-spec : {M : Type 1} → statement M

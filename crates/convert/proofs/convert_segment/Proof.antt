@@ -24,18 +24,24 @@ conversion-matrix-requires c κs = search needs
 sums-requires : tie.Need-sums-requires
 sums-requires c κs =
     let a = c .before .before .before .before .before .before .before .args in
-    let h = segment-passed (a .to) (a .cv .now) (length (a .out .now)) (sym (c .before .before .before .before .segment-verdict .ensures) ∙ c .before .before .enum-told .given .1) .0 in omega arith
+    let h =
+    segment-passed (a .to) (a .cv .now) (length (a .out .now))
+    (sym (c .before .before .before .before .segment-verdict .ensures) ∙ c .before .before .enum-told .given .1) .0 in omega arith
 
 put-last-requires : tie.Need-put-last-requires
 put-last-requires c κs =
     let a = c .before .before .before .before .before .before .before .before .args in
-    let h = segment-passed (a .to) (a .cv .now) (length (a .out .now)) (sym (c .before .before .before .before .before .segment-verdict .ensures) ∙ c .before .before .before .enum-told .given .1) .1 in
+    let h =
+    segment-passed (a .to) (a .cv .now) (length (a .out .now))
+    (sym (c .before .before .before .before .before .segment-verdict .ensures) ∙ c .before .before .before .enum-told .given .1) .1 in
     (lit< tt, lit≤ tt, h .enough)
 
 returns : tie.Need-returns
 returns c =
     let a = c .before .before .before .before .before .before .args in
-    let t = segment-refused (a .from) (a .to) (a .cv .now) (a .out .now) _ (sym (c .before .before .before .segment-verdict .ensures) ∙ c .before .v .given .1) in
+    let t =
+    segment-refused (a .from) (a .to) (a .cv .now) (a .out .now) _ (sym (c .before .before .before .segment-verdict .ensures) ∙ c .before .v .given .1)
+    in
     (t .answer, t .buffer)
 
 same-length : tie.Need-same-length
@@ -44,7 +50,12 @@ same-length c = search needs
 returns-2 : tie.Need-returns-2
 returns-2 c =
     let a = c .before .before .before .before .before .before .before .before .before .before .before .args in
-    let t = segment-written (a .from) (a .to) (a .cv .now) (a .out .now) _ _ _ (sym (c .before .before .before .before .before .before .before .before .segment-verdict .ensures) ∙ c .before .before .before .before .before .before .enum-told .given .1) (c .before .before .before .before .before .conversion-matrix .ensures) (c .before .before .before .sums .ensures) (c .before .before .put-last .ensures) in
+    let t =
+    segment-written (a .from) (a .to) (a .cv .now) (a .out .now) _ _ _
+    (sym (c .before .before .before .before .before .before .before .before .segment-verdict .ensures)
+    ∙ c .before .before .before .before .before .before .enum-told .given .1)
+    (c .before .before .before .before .before .conversion-matrix .ensures) (c .before .before .before .sums .ensures)
+    (c .before .before .put-last .ensures) in
     (t .answer, t .buffer)
 
 pub convert-segment-spec : {M : Type 1} → statement M

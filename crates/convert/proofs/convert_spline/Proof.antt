@@ -29,13 +29,25 @@ step-requires-2 c κs = search needs
 put-windows-requires : tie.Need-put-windows-requires
 put-windows-requires c κs =
     let a = c .before .before .before .before .before .before .before .before .before .before .args in
-    let h = spline-passed (a .from) (a .to) (a .knots .now) (length (a .out .now)) (sym (c .before .before .before .before .before .before .before .spline-verdict .ensures) ∙ c .before .before .before .before .before .enum-told .given .1) in
-    (c .before .before .step .ensures .1, c .before .step2 .ensures .1, c .before .step2 .ensures .2, h .0 .least, h .0 .most, le-trans (le-of-eq (output-steps (a .from) (a .to) (length (a .knots .now)) _ _ (c .before .before .step .ensures .0) (c .before .step2 .ensures .0))) (h .1 .enough))
+    let h =
+    spline-passed (a .from) (a .to) (a .knots .now) (length (a .out .now))
+    (sym (c .before .before .before .before .before .before .before .spline-verdict .ensures)
+    ∙ c .before .before .before .before .before .enum-told .given .1) in (
+      c .before .before .step .ensures .1,
+      c .before .step2 .ensures .1,
+      c .before .step2 .ensures .2,
+      h .0 .least,
+      h .0 .most,
+      le-trans (le-of-eq (output-steps (a .from) (a .to) (length (a .knots .now)) _ _ (c .before .before .step .ensures .0)
+          (c .before .step2 .ensures .0))) (h .1 .enough),
+    )
 
 returns : tie.Need-returns
 returns c =
     let a = c .before .before .before .before .before .before .args in
-    let t = spline-refused (a .from) (a .to) (a .knots .now) (a .out .now) _ (sym (c .before .before .before .spline-verdict .ensures) ∙ c .before .v .given .1) in
+    let t =
+    spline-refused (a .from) (a .to) (a .knots .now) (a .out .now) _ (sym (c .before .before .before .spline-verdict .ensures) ∙ c .before .v .given .1)
+    in
     (t .answer, t .buffer)
 
 same-length : tie.Need-same-length
@@ -44,7 +56,14 @@ same-length c = search needs
 returns-2 : tie.Need-returns-2
 returns-2 c =
     let a = c .before .before .before .before .before .before .before .before .before .before .before .before .before .args in
-    let t = spline-written (a .from) (a .to) (a .knots .now) (a .out .now) _ _ _ _ _ (sym (c .before .before .before .before .before .before .before .before .before .before .spline-verdict .ensures) ∙ c .before .before .before .before .before .before .before .before .enum-told .given .1) (c .before .before .before .before .before .before .before .conversion-matrix .ensures) (c .before .before .before .before .before .step .ensures .0) (c .before .before .before .before .step2 .ensures .0) (c .before .before .before .before .step2 .ensures .2) (c .before .before .put-windows .ensures .0) (c .before .before .put-windows .ensures .1) in
+    let t =
+    spline-written (a .from) (a .to) (a .knots .now) (a .out .now) _ _ _ _ _
+    (sym (c .before .before .before .before .before .before .before .before .before .before .spline-verdict .ensures)
+    ∙ c .before .before .before .before .before .before .before .before .enum-told .given .1)
+    (c .before .before .before .before .before .before .before .conversion-matrix .ensures)
+    (c .before .before .before .before .before .step .ensures .0) (c .before .before .before .before .step2 .ensures .0)
+    (c .before .before .before .before .step2 .ensures .2) (c .before .before .put-windows .ensures .0)
+    (c .before .before .put-windows .ensures .1) in
     (t .answer, t .buffer)
 
 pub convert-spline-spec : {M : Type 1} → statement M

@@ -66,7 +66,8 @@ reduce-requires c κs = search needs
 
 returns-3 : tie.Need-returns-3
 unfolding ofBits
-returns-3 c = c .reduce .ensures ∙ sym (not-clear _ _ _ (c .before .before .before .before .before .before .if1 .left) (c .before .before .before .before .if2 .left))
+returns-3 c =
+    c .reduce .ensures ∙ sym (not-clear _ _ _ (c .before .before .before .before .before .before .if1 .left) (c .before .before .before .before .if2 .left))
 
 pub clear-row-spec : {M : Type 1} → statement M
 clear-row-spec =

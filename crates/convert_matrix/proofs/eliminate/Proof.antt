@@ -14,7 +14,9 @@ clear-requires : tie.Need-clear-requires
 clear-requires c κs = search needs
 
 returns : tie.Need-returns
-returns c = in-turn (c .before .before .before .args .a) _ _ _ (c .before .before .before .args .i) (c .before .before .before .args .k) (c .before .before .swap .ensures) (c .before .divide .ensures) (c .clear .ensures)
+returns c =
+    in-turn (c .before .before .before .args .a) _ _ _ (c .before .before .before .args .i) (c .before .before .before .args .k)
+    (c .before .before .swap .ensures) (c .before .divide .ensures) (c .clear .ensures)
 
 pub eliminate-spec : {M : Type 1} → statement M
 eliminate-spec = tie.close (tie.spec swap-requires divide-requires clear-requires returns)

@@ -37,10 +37,13 @@ returns : tie.Need-returns Inv-loop μ-loop
 returns c =
     let at = c .before .before .before .before .before in
     c .no-inverse .ensures
-    ∙ answers _ _ _ (at .before .with-identity .ensures) (sym (stops _ _ (c .before .before .before .before .loop-test .taken) (sym (c .before .before .before .pivot-row .ensures .0) ∙ c .before .enum-told .given .1)) ∙ at .loop .inv .1)
+    ∙ answers _ _ _ (at .before .with-identity .ensures)
+    (sym (stops _ _ (c .before .before .before .before .loop-test .taken)
+    (sym (c .before .before .before .pivot-row .ensures .0) ∙ c .before .enum-told .given .1)) ∙ at .loop .inv .1)
 
 eliminate-requires : tie.Need-eliminate-requires Inv-loop μ-loop
-eliminate-requires c κs = (c .before .before .before .before .loop-test .taken, found-below _ _ (c .before .k .given .1) (c .before .before .before .pivot-row .ensures .1))
+eliminate-requires c κs =
+    (c .before .before .before .before .loop-test .taken, found-below _ _ (c .before .k .given .1) (c .before .before .before .pivot-row .ensures .1))
 
 add-i : tie.Need-add-i Inv-loop μ-loop
 add-i c = search needs
@@ -49,13 +52,21 @@ loop-less : tie.Need-loop-less Inv-loop μ-loop
 loop-less c = search needs
 
 loop-again : tie.Need-loop-again Inv-loop μ-loop
-loop-again c = (omega arith, goes-on _ _ _ _ (c .before .before .before .before .before .loop-test .taken) (sym (c .before .before .before .before .pivot-row .ensures .0) ∙ c .before .before .k .given .1) (c .eliminate .ensures) ∙ c .before .before .before .before .before .before .loop .inv .1)
+loop-again c = (
+  omega arith,
+  goes-on _ _ _ _ (c .before .before .before .before .before .loop-test .taken)
+      (sym (c .before .before .before .before .pivot-row .ensures .0) ∙ c .before .before .k .given .1) (c .eliminate .ensures)
+      ∙ c .before .before .before .before .before .before .loop .inv .1,
+)
 
 right-half-requires : tie.Need-right-half-requires Inv-loop μ-loop
 right-half-requires c κs = search needs
 
 returns-2 : tie.Need-returns-2 Inv-loop μ-loop
-returns-2 c = c .right-half .ensures ∙ answers _ _ _ (c .before .before .before .with-identity .ensures) (sym (all-done _ _ (c .before .loop-test .left)) ∙ c .before .before .loop .inv .1)
+returns-2 c =
+    c .right-half .ensures
+    ∙ answers _ _ _ (c .before .before .before .with-identity .ensures)
+    (sym (all-done _ _ (c .before .loop-test .left)) ∙ c .before .before .loop .inv .1)
 
 pub invert-4x4-spec : {M : Type 1} → statement M
 invert-4x4-spec =

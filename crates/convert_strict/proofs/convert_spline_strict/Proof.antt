@@ -35,7 +35,9 @@ lost-seam-requires : tie.Need-lost-seam-requires
 lost-seam-requires c κs =
     let a = c .before .before .before .before .before .before .before .before .args in
     let p = sym (c .before .before .before .before .before .allowed-verdict .ensures) ∙ c .before .before .before .enum-told .given .1 in
-    let h = spline-passed (a .from) (a .to) (a .knots .now) (length (a .out .now)) (plain-passes (a .from) (a .to) (a .knots .now) (a .allowance) (length (a .out .now)) p) in
+    let h =
+    spline-passed (a .from) (a .to) (a .knots .now) (length (a .out .now))
+    (plain-passes (a .from) (a .to) (a .knots .now) (a .allowance) (length (a .out .now)) p) in
     (c .before .step .ensures .1, c .step2 .ensures .1, c .step2 .ensures .2, h .0 .least, h .0 .most)
 
 cast-t16 : tie.Need-cast-t16
@@ -44,24 +46,43 @@ cast-t16 c = search needs
 returns : tie.Need-returns
 returns c =
     let a = c .before .before .before .before .before .before .before .before .before .before .args in
-    let p = sym (c .before .before .before .before .before .before .before .allowed-verdict .ensures) ∙ c .before .before .before .before .before .enum-told .given .1 in
-    let s = found (a .from) (a .to) (a .knots .now) (a .allowance) (c .before .before .before .before .conversion-matrix .ensures) (c .before .before .before .step .ensures .0) (c .before .before .step2 .ensures .0) (c .before .lost-seam .ensures .0) in
-    let e = strict-refuses (a .from) (a .to) (a .knots .now) (a .allowance) (length (a .out .now)) (seam-refused (a .from) (a .to) (a .knots .now) (a .allowance) (length (a .out .now)) p _ s (c .if1 .taken)) in
+    let p =
+    sym (c .before .before .before .before .before .before .before .allowed-verdict .ensures)
+    ∙ c .before .before .before .before .before .enum-told .given .1 in
+    let s =
+    found (a .from) (a .to) (a .knots .now) (a .allowance) (c .before .before .before .before .conversion-matrix .ensures)
+    (c .before .before .before .step .ensures .0) (c .before .before .step2 .ensures .0) (c .before .lost-seam .ensures .0) in
+    let e =
+    strict-refuses (a .from) (a .to) (a .knots .now) (a .allowance) (length (a .out .now))
+    (seam-refused (a .from) (a .to) (a .knots .now) (a .allowance) (length (a .out .now)) p _ s (c .if1 .taken)) in
     (sym (ap answerOf e), sym (ap (λ (x : Conversion). bufferOf x (a .out .now)) e))
 
 put-windows-requires : tie.Need-put-windows-requires
 put-windows-requires c κs =
     let a = c .before .before .before .before .before .before .before .before .before .before .before .before .args in
-    let p = sym (c .before .before .before .before .before .before .before .before .before .allowed-verdict .ensures) ∙ c .before .before .before .before .before .before .before .enum-told .given .1 in
-    let h = spline-passed (a .from) (a .to) (a .knots .now) (length (a .out .now)) (plain-passes (a .from) (a .to) (a .knots .now) (a .allowance) (length (a .out .now)) p) in
+    let p =
+    sym (c .before .before .before .before .before .before .before .before .before .allowed-verdict .ensures)
+    ∙ c .before .before .before .before .before .before .before .enum-told .given .1 in
+    let h =
+    spline-passed (a .from) (a .to) (a .knots .now) (length (a .out .now))
+    (plain-passes (a .from) (a .to) (a .knots .now) (a .allowance) (length (a .out .now)) p) in
     let step = c .before .before .before .before .before .step .ensures in
-    let gap = c .before .before .before .before .step2 .ensures in
-    (step .1, gap .1, gap .2, h .0 .least, h .0 .most, le-trans (le-of-eq (output-steps (a .from) (a .to) (length (a .knots .now)) _ _ (step .0) (gap .0))) (h .1 .enough))
+    let gap = c .before .before .before .before .step2 .ensures in (
+      step .1,
+      gap .1,
+      gap .2,
+      h .0 .least,
+      h .0 .most,
+      le-trans (le-of-eq (output-steps (a .from) (a .to) (length (a .knots .now)) _ _ (step .0) (gap .0))) (h .1 .enough),
+    )
 
 returns-2 : tie.Need-returns-2
 returns-2 c =
     let a = c .before .before .before .before .before .before .args in
-    let e = strict-refuses (a .from) (a .to) (a .knots .now) (a .allowance) (length (a .out .now)) (refused-before (a .from) (a .to) (a .knots .now) (a .allowance) (length (a .out .now)) (sym (c .before .before .before .allowed-verdict .ensures) ∙ c .before .v .given .1)) in
+    let e =
+    strict-refuses (a .from) (a .to) (a .knots .now) (a .allowance) (length (a .out .now))
+    (refused-before (a .from) (a .to) (a .knots .now) (a .allowance) (length (a .out .now))
+    (sym (c .before .before .before .allowed-verdict .ensures) ∙ c .before .v .given .1)) in
     (sym (ap answerOf e), sym (ap (λ (x : Conversion). bufferOf x (a .out .now)) e))
 
 same-length : tie.Need-same-length
@@ -70,14 +91,23 @@ same-length c = search needs
 returns-3 : tie.Need-returns-3
 returns-3 c =
     let a = c .before .before .before .before .before .before .before .before .before .before .before .before .before .before .before .args in
-    let p = sym (c .before .before .before .before .before .before .before .before .before .before .before .before .allowed-verdict .ensures) ∙ c .before .before .before .before .before .before .before .before .before .before .enum-told .given .1 in
+    let p =
+    sym (c .before .before .before .before .before .before .before .before .before .before .before .before .allowed-verdict .ensures)
+    ∙ c .before .before .before .before .before .before .before .before .before .before .enum-told .given .1 in
     let m = c .before .before .before .before .before .before .before .before .before .conversion-matrix .ensures in
     let step = c .before .before .before .before .before .before .before .before .step .ensures in
     let gap = c .before .before .before .before .before .before .before .step2 .ensures in
     let wrote = c .before .before .put-windows .ensures in
-    let s = found (a .from) (a .to) (a .knots .now) (a .allowance) m (step .0) (gap .0) (c .before .before .before .before .before .before .lost-seam .ensures .0) in
-    let e = strict-passes (a .from) (a .to) (a .knots .now) (a .allowance) (length (a .out .now)) (seam-kept (a .from) (a .to) (a .knots .now) (a .allowance) (length (a .out .now)) p _ s (omega (arith, c .before .before .before .before .before .if1 .left))) in
-    let t = spline-written (a .from) (a .to) (a .knots .now) (a .out .now) _ _ _ _ _ (plain-passes (a .from) (a .to) (a .knots .now) (a .allowance) (length (a .out .now)) p) m (step .0) (gap .0) (gap .2) (wrote .0) (wrote .1) in
+    let s =
+    found (a .from) (a .to) (a .knots .now) (a .allowance) m (step .0) (gap .0)
+    (c .before .before .before .before .before .before .lost-seam .ensures .0) in
+    let e =
+    strict-passes (a .from) (a .to) (a .knots .now) (a .allowance) (length (a .out .now))
+    (seam-kept (a .from) (a .to) (a .knots .now) (a .allowance) (length (a .out .now)) p _ s
+    (omega (arith, c .before .before .before .before .before .if1 .left))) in
+    let t =
+    spline-written (a .from) (a .to) (a .knots .now) (a .out .now) _ _ _ _ _
+    (plain-passes (a .from) (a .to) (a .knots .now) (a .allowance) (length (a .out .now)) p) m (step .0) (gap .0) (gap .2) (wrote .0) (wrote .1) in
     (t .answer ∙ sym (ap answerOf e), t .buffer ∙ sym (ap (λ (x : Conversion). bufferOf x (a .out .now)) e))
 
 pub convert-spline-strict-spec : {M : Type 1} → statement M

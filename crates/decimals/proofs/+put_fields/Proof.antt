@@ -96,7 +96,12 @@ put-fields-put-byte-requires : (t : ℕ) → put-fields-lts.Need-put-byte-requir
   put-fields-below t,
   put-fields.Post,
 ) (put-fields-at t) put-fields.Post
-put-fields-put-byte-requires t c κs = omega (arith, simp length-take at (c .before .before .before .before .put-field .ensures .1), c .before .before .before .before .put-field .ensures .0 .long)
+put-fields-put-byte-requires t c κs =
+    omega (
+      arith,
+      simp length-take at (c .before .before .before .before .put-field .ensures .1),
+      c .before .before .before .before .put-field .ensures .0 .long,
+    )
 
 put-fields-add-from : (t : ℕ) → put-fields-lts.Need-add-from (
   tab-at-reads.Asked,
@@ -156,7 +161,20 @@ put-fields-put-fields-requires : (t : ℕ) → put-fields-lts.Need-put-fields-re
   put-fields-below t,
   put-fields.Post,
 ) (put-fields-at t) put-fields.Post
-put-fields-put-fields-requires t c κs = (simp (length-take, length-drop) (omega arith), (omega arith, simp (length-take, length-drop) (omega (arith, simp length-take at (c .before .before .before .before .before .before .before .before .before .put-field .ensures .1), c .before .before .before .before .before .before .before .before .before .put-field .ensures .0 .long, c .before .before .before .before .put-byte .ensures .next, c .before .before .before .before .put-byte .ensures .long))))
+put-fields-put-fields-requires t c κs = (
+  simp (length-take, length-drop) (omega arith),
+  (
+    omega arith,
+    simp (length-take, length-drop)
+        (omega (
+          arith,
+          simp length-take at (c .before .before .before .before .before .before .before .before .before .put-field .ensures .1),
+          c .before .before .before .before .before .before .before .before .before .put-field .ensures .0 .long,
+          c .before .before .before .before .put-byte .ensures .next,
+          c .before .before .before .before .put-byte .ensures .long,
+        )),
+  ),
+)
 
 put-fields-same-length : (t : ℕ) → put-fields-lts.Need-same-length (
   tab-at-reads.Asked,
@@ -180,7 +198,22 @@ put-fields-returns : (t : ℕ) → put-fields-lts.Need-returns (
   put-fields-below t,
   put-fields.Post,
 ) (put-fields-at t) put-fields.Post
-put-fields-returns t c = (fields-next (c .before .before .before .before .before .before .before .before .before .before .before .before .before .before .before .before .before .before .args .d) (c .before .before .before .before .before .before .before .before .before .before .before .before .before .before .before .before .before .before .args .s .now) (c .before .before .before .before .before .before .before .before .before .before .before .before .before .before .before .tab-at .ensures .0) (omega arith) (c .before .before .before .before .before .before .before .before .before .before .before .before .put-field .ensures .0) (c .before .before .before .before .before .before .before .put-byte .ensures) (c .before .before .put-fields .ensures .0), omega (arith, simp (length-take, length-drop) at (c .before .before .put-fields .ensures .1), simp length-take at (c .before .before .before .before .before .before .before .before .before .before .before .before .put-field .ensures .1), c .before .before .before .before .before .before .before .put-byte .ensures .next))
+put-fields-returns t c = (
+  fields-next (c .before .before .before .before .before .before .before .before .before .before .before .before .before .before .before .before .before
+      .before .args .d) (c .before .before .before .before .before .before .before .before .before .before .before .before .before .before .before .before
+      .before .before .args .s .now)
+      (c .before .before .before .before .before .before .before .before .before .before .before .before .before .before .before .tab-at .ensures
+      .0) (omega arith) (c .before .before .before .before .before .before .before .before .before .before .before .before .put-field .ensures
+      .0) (c .before .before .before .before .before .before .before .put-byte .ensures) (c .before .before .put-fields .ensures .0),
+  omega (
+    arith,
+    simp (length-take, length-drop) at (c .before .before .put-fields .ensures .1),
+    simp length-take at
+        (c .before .before .before .before .before .before .before .before .before .before .before .before .put-field .ensures
+        .1),
+    c .before .before .before .before .before .before .before .put-byte .ensures .next,
+  ),
+)
 
 put-fields-same-length-2 : (t : ℕ) → put-fields-lts.Need-same-length-2 (
   tab-at-reads.Asked,
@@ -204,7 +237,12 @@ put-fields-returns-2 : (t : ℕ) → put-fields-lts.Need-returns-2 (
   put-fields-below t,
   put-fields.Post,
 ) (put-fields-at t) put-fields.Post
-put-fields-returns-2 t c = (fields-last (c .before .before .before .before .before .before .before .before .before .args .d) (c .before .before .before .before .before .before .before .before .before .args .s .now) (c .before .before .before .before .before .before .tab-at .ensures .0) (omega arith) (c .before .before .before .put-field .ensures .0), omega (arith, simp length-take at (c .before .before .before .put-field .ensures .1)))
+put-fields-returns-2 t c = (
+  fields-last (c .before .before .before .before .before .before .before .before .before .args .d)
+      (c .before .before .before .before .before .before .before .before .before .args .s .now)
+      (c .before .before .before .before .before .before .tab-at .ensures .0) (omega arith) (c .before .before .before .put-field .ensures .0),
+  omega (arith, simp length-take at (c .before .before .before .put-field .ensures .1)),
+)
 
 pub +put-fields-spec : {M : Type 1} → statement M
 +put-fields-spec = close μ-put-fields λ t. put-fields-lts.spec (

@@ -22,7 +22,11 @@ same-length : tie.Need-same-length
 same-length c = search needs
 
 returns : tie.Need-returns
-returns c = (line-shown (c .before .before .before .before .before .before .before .before .args .len) (c .before .before .before .before .before .before .before .before .args .line .now) (omega arith) (c .before .before .put-line .ensures .0), omega (arith, simp length-take at (c .before .before .put-line .ensures .1)))
+returns c = (
+  line-shown (c .before .before .before .before .before .before .before .before .args .len)
+      (c .before .before .before .before .before .before .before .before .args .line .now) (omega arith) (c .before .before .put-line .ensures .0),
+  omega (arith, simp length-take at (c .before .before .put-line .ensures .1)),
+)
 
 slice-aggregate-put-word : tie.Need-slice-aggregate-put-word
 slice-aggregate-put-word c = search needs
@@ -34,7 +38,11 @@ same-length-2 : tie.Need-same-length-2
 same-length-2 c = search needs
 
 returns-2 : tie.Need-returns-2
-returns-2 c = (line-over (c .before .before .before .before .before .before .before .before .args .len) (c .before .before .before .before .before .before .before .before .args .line .now) (omega arith) (c .before .before .put-word .ensures), omega (arith, c .before .before .put-word .ensures .next))
+returns-2 c = (
+  line-over (c .before .before .before .before .before .before .before .before .args .len)
+      (c .before .before .before .before .before .before .before .before .args .line .now) (omega arith) (c .before .before .put-word .ensures),
+  omega (arith, c .before .before .put-word .ensures .next),
+)
 
 pub line-spec : {M : Type 1} → statement M
 line-spec =

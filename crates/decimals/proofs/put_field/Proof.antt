@@ -12,7 +12,14 @@ enum-known-n : tie.Need-enum-known-n
 enum-known-n c = search needs
 
 put-rounded-requires : tie.Need-put-rounded-requires
-put-rounded-requires c κs = (omega arith, omega (arith, sixteen (c .before .before .before .before .before .before .before .args .s .now) _ (c .before .before .before .before .hex .ensures) (c .before .before .n .given .1)))
+put-rounded-requires c κs = (
+  omega arith,
+  omega (
+    arith,
+    sixteen (c .before .before .before .before .before .before .before .args .s .now) _ (c .before .before .before .before .hex .ensures)
+        (c .before .before .n .given .1),
+  ),
+)
 
 enum-told : tie.Need-enum-told
 enum-told c = search needs
@@ -24,13 +31,31 @@ same-length : tie.Need-same-length
 same-length c = search needs
 
 returns : tie.Need-returns
-returns c = (field-number (c .before .before .before .before .before .before .before .before .before .before .args .d) _ (c .before .before .before .before .before .before .before .before .before .before .args .s .now) (c .before .before .before .before .before .before .before .hex .ensures) (c .before .before .before .before .before .n .given .1) (c .before .before .put-rounded .ensures .0), omega (arith, c .before .before .put-rounded .ensures .1, sixteen (c .before .before .before .before .before .before .before .before .before .before .args .s .now) _ (c .before .before .before .before .before .before .before .hex .ensures) (c .before .before .before .before .before .n .given .1)))
+returns c = (
+  field-number (c .before .before .before .before .before .before .before .before .before .before .args .d) _
+      (c .before .before .before .before .before .before .before .before .before .before .args .s .now)
+      (c .before .before .before .before .before .before .before .hex .ensures) (c .before .before .before .before .before .n .given .1)
+      (c .before .before .put-rounded .ensures .0),
+  omega (
+    arith,
+    c .before .before .put-rounded .ensures .1,
+    sixteen (c .before .before .before .before .before .before .before .before .before .before .args .s .now) _
+        (c .before .before .before .before .before .before .before .hex .ensures)
+        (c .before .before .before .before .before .n .given .1),
+  ),
+)
 
 same-length-2 : tie.Need-same-length-2
 same-length-2 c = search needs
 
 returns-2 : tie.Need-returns-2
-returns-2 c = (field-other (c .before .before .before .before .before .before .before .before .before .args .d) (c .before .before .before .before .before .before .before .before .before .args .s .now) (c .before .before .before .before .before .before .hex .ensures) (c .before .before .before .before .enum-told .given .1) (c .before .before .put-word .ensures), omega (arith, c .before .before .put-word .ensures .next))
+returns-2 c = (
+  field-other (c .before .before .before .before .before .before .before .before .before .args .d)
+      (c .before .before .before .before .before .before .before .before .before .args .s .now)
+      (c .before .before .before .before .before .before .hex .ensures) (c .before .before .before .before .enum-told .given .1)
+      (c .before .before .put-word .ensures),
+  omega (arith, c .before .before .put-word .ensures .next),
+)
 
 pub put-field-spec : {M : Type 1} → statement M
 put-field-spec =

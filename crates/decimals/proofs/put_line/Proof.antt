@@ -30,7 +30,15 @@ same-length : tie.Need-same-length
 same-length c = search needs
 
 returns : tie.Need-returns
-returns c = (line-end _ (c .before .before .before .before .before .before .before .before .before .before .before .before .before .args .s .now) (first-field (c .before .before .before .before .before .before .before .before .before .before .before .before .before .args .s .now) _ _ (c .before .before .before .before .before .before .before .before .before .before .tab-at .ensures .0) (c .before .before .before .before .before .before .before .before .digits-for .ensures .0)) (c .before .before .before .before .before .before .put-fields .ensures .0) (c .before .before .put-byte .ensures), omega (arith, c .before .before .before .before .before .before .put-fields .ensures .1, c .before .before .put-byte .ensures .next))
+returns c = (
+  line-end _ (c .before .before .before .before .before .before .before .before .before .before .before .before .before .args .s .now)
+      (first-field (c .before .before .before .before .before .before .before .before .before .before .before .before .before .args .s .now) _ _
+      (c .before .before .before .before .before .before .before .before .before .before .tab-at .ensures .0)
+      (c .before .before .before .before .before .before .before .before .digits-for .ensures .0))
+      (c .before .before .before .before .before .before .put-fields .ensures .0) (c .before .before .put-byte .ensures),
+  omega
+      (arith, c .before .before .before .before .before .before .put-fields .ensures .1, c .before .before .put-byte .ensures .next),
+)
 
 pub put-line-spec : {M : Type 1} → statement M
 put-line-spec =

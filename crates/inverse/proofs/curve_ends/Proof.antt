@@ -10,7 +10,11 @@ use Rattle.inverse.proofs.curve_ends.Statement.{statement}
 use Rattle.inverse.proofs.curve_ends.Tie as tie
 
 weights-at-requires : tie.Need-weights-at-requires
-weights-at-requires c κs = (segment-fits (c .before .args .b) (length (c .before .args .knots .now)) 0 (c .before .pre .1) (omega (arith, c .before .pre .0, segments-some (c .before .args .b) (length (c .before .args .knots .now)))), c .before .pre .2)
+weights-at-requires c κs = (
+  segment-fits (c .before .args .b) (length (c .before .args .knots .now)) 0 (c .before .pre .1)
+      (omega (arith, c .before .pre .0, segments-some (c .before .args .b) (length (c .before .args .knots .now)))),
+  c .before .pre .2,
+)
 
 horner-requires : tie.Need-horner-requires
 horner-requires c κs = search needs
@@ -19,14 +23,26 @@ sub-weights-at : tie.Need-sub-weights-at
 sub-weights-at c = search needs
 
 weights-at-requires-2 : tie.Need-weights-at-requires-2
-weights-at-requires-2 c κs = (segment-fits (c .before .before .before .args .b) (length (c .before .before .before .args .knots .now)) (c .before .before .before .args .k - 1) (c .before .before .before .pre .1) (omega (arith, c .before .before .before .pre .0, segments-some (c .before .before .before .args .b) (length (c .before .before .before .args .knots .now)))), c .before .before .before .pre .2)
+weights-at-requires-2 c κs = (
+  segment-fits (c .before .before .before .args .b) (length (c .before .before .before .args .knots .now)) (c .before .before .before .args .k - 1)
+      (c .before .before .before .pre .1)
+      (omega (
+        arith,
+        c .before .before .before .pre .0,
+        segments-some (c .before .before .before .args .b) (length (c .before .before .before .args .knots .now)),
+      )),
+  c .before .before .before .pre .2,
+)
 
 horner-requires-2 : tie.Need-horner-requires-2
 horner-requires-2 c κs = search needs
 
 returns : tie.Need-returns
 unfolding ofBits
-returns c = ends-are (c .before .before .before .before .before .args .b) (c .before .before .before .before .before .args .knots .now) (c .before .before .before .before .before .args .k) (c .before .before .before .weights-at .ensures) (c .before .before .horner .ensures) (c .before .weights-at2 .ensures) (c .horner2 .ensures)
+returns c =
+    ends-are (c .before .before .before .before .before .args .b) (c .before .before .before .before .before .args .knots .now)
+    (c .before .before .before .before .before .args .k) (c .before .before .before .weights-at .ensures) (c .before .before .horner .ensures)
+    (c .before .weights-at2 .ensures) (c .horner2 .ensures)
 
 pub curve-ends-spec : {M : Type 1} → statement M
 curve-ends-spec =

@@ -17,10 +17,16 @@ curve-ends-requires : tie.Need-curve-ends-requires
 curve-ends-requires c κs = search needs
 
 returns : tie.Need-returns
-returns c = knot-ends-in (c .before .before .before .before .args .ends) (c .before .before .before .before .args .b) (c .before .before .before .before .args .knots .now) (c .before .before .before .before .args .k) (c .before .before .before .before .pre .0) (c .before .enum-told .given .1) (c .knot-ends .ensures)
+returns c =
+    knot-ends-in (c .before .before .before .before .args .ends) (c .before .before .before .before .args .b)
+    (c .before .before .before .before .args .knots .now) (c .before .before .before .before .args .k) (c .before .before .before .before .pre .0)
+    (c .before .enum-told .given .1) (c .knot-ends .ensures)
 
 returns-2 : tie.Need-returns-2
-returns-2 c = curve-ends-in (c .before .before .before .before .args .ends) (c .before .before .before .before .args .b) (c .before .before .before .before .args .knots .now) (c .before .before .before .before .args .k) (c .before .before .before .before .pre .0) (c .before .enum-told2 .given .1) (c .curve-ends .ensures)
+returns-2 c =
+    curve-ends-in (c .before .before .before .before .args .ends) (c .before .before .before .before .args .b)
+    (c .before .before .before .before .args .knots .now) (c .before .before .before .before .args .k) (c .before .before .before .before .pre .0)
+    (c .before .enum-told2 .given .1) (c .curve-ends .ensures)
 
 pub ends-by-spec : {M : Type 1} → statement M
 ends-by-spec =

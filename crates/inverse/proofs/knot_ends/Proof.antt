@@ -24,7 +24,9 @@ shared-slice-read-t12 : tie.Need-shared-slice-read-t12
 shared-slice-read-t12 c = search needs
 
 returns : tie.Need-returns
-returns c = simp (eq-eqb _ _ (sym (c .before .before .before .step .ensures .0) ∙ c .before .before .if1 .taken), c .before .before .before .before .rising .ensures)
+returns c =
+    simp
+    (eq-eqb _ _ (sym (c .before .before .before .step .ensures .0) ∙ c .before .before .if1 .taken), c .before .before .before .before .rising .ensures)
 
 shared-slice-read-t14 : tie.Need-shared-slice-read-t14
 shared-slice-read-t14 c = search needs
@@ -39,7 +41,11 @@ shared-slice-read-t17 : tie.Need-shared-slice-read-t17
 shared-slice-read-t17 c = search needs
 
 returns-2 : tie.Need-returns-2
-returns-2 c = simp (ne-eqb _ _ (λ q. c .before .before .if1 .left (c .before .before .before .step .ensures .0 ∙ q)), c .before .before .before .before .rising .ensures)
+returns-2 c =
+    simp (
+      ne-eqb _ _ (λ q. c .before .before .if1 .left (c .before .before .before .step .ensures .0 ∙ q)),
+      c .before .before .before .before .rising .ensures,
+    )
 
 pub knot-ends-spec : {M : Type 1} → statement M
 knot-ends-spec =

@@ -17,7 +17,13 @@ located-requires : tie.Need-located-requires
 located-requires c κs = search needs
 
 returns : tie.Need-returns
-returns c = by-rule (c .before .before .before .before .before .args .ends) (c .before .before .before .before .before .args .b) (c .before .before .before .before .before .args .knots .now) (c .before .before .before .segments .result) (c .before .before .before .segments .ensures) (c .before .before .before .before .before .args .how) (c .before .before .before .before .before .args .y) (c .before .before .before .before .before .args .precision) (c .before .before .before .before .before .args .limit) (c .before .evaluations .result) (c .before .before .ends-by .result) (c .before .before .ends-by .ensures) (c .before .evaluations .ensures .0) (c .located .ensures)
+returns c =
+    by-rule (c .before .before .before .before .before .args .ends) (c .before .before .before .before .before .args .b)
+    (c .before .before .before .before .before .args .knots .now) (c .before .before .before .segments .result)
+    (c .before .before .before .segments .ensures) (c .before .before .before .before .before .args .how)
+    (c .before .before .before .before .before .args .y) (c .before .before .before .before .before .args .precision)
+    (c .before .before .before .before .before .args .limit) (c .before .evaluations .result) (c .before .before .ends-by .result)
+    (c .before .before .ends-by .ensures) (c .before .evaluations .ensures .0) (c .located .ensures)
 
 pub locate-spec : {M : Type 1} → statement M
 locate-spec =

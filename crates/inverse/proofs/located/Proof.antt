@@ -16,7 +16,12 @@ end-place-requires c κs = search needs
 
 returns : tie.Need-returns
 unfolding ofBits
-returns c = λ ev l. located-low (ruleOf (c .before .before .before .before .args .how)) (c .before .before .before .before .args .e) ev (segmentOf (c .before .before .before .before .args .b) (c .before .before .before .before .args .knots .now)) (c .before .before .before .before .args .k) (c .before .before .before .before .args .y) (c .before .before .before .before .args .precision) (c .before .before .before .before .args .limit) (sym (c .before .before .is-at-low .ensures) ∙ c .before .if1 .taken) (c .end-place .ensures ev l)
+returns c =
+    λ ev l. located-low (ruleOf (c .before .before .before .before .args .how)) (c .before .before .before .before .args .e) ev
+    (segmentOf (c .before .before .before .before .args .b) (c .before .before .before .before .args .knots .now))
+    (c .before .before .before .before .args .k) (c .before .before .before .before .args .y) (c .before .before .before .before .args .precision)
+    (c .before .before .before .before .args .limit) (sym (c .before .before .is-at-low .ensures) ∙ c .before .if1 .taken)
+    (c .end-place .ensures ev l)
 
 is-at-high-requires : tie.Need-is-at-high-requires
 is-at-high-requires c κs = search needs
@@ -29,13 +34,27 @@ end-place-requires-2 c κs = search needs
 
 returns-2 : tie.Need-returns-2
 unfolding ofBits
-returns-2 c = λ ev l. located-high (ruleOf (c .before .before .before .before .before .before .args .how)) (c .before .before .before .before .before .before .args .e) ev (segmentOf (c .before .before .before .before .before .before .args .b) (c .before .before .before .before .before .before .args .knots .now)) (c .before .before .before .before .before .before .args .k) (c .before .before .before .before .before .before .args .y) (c .before .before .before .before .before .before .args .precision) (c .before .before .before .before .before .before .args .limit) (sym (c .before .before .before .before .is-at-low .ensures) ∙ c .before .before .before .if1 .left) (sym (c .before .before .is-at-high .ensures) ∙ c .before .if2 .taken) (c .end-place2 .ensures ev l)
+returns-2 c =
+    λ ev l. located-high (ruleOf (c .before .before .before .before .before .before .args .how))
+    (c .before .before .before .before .before .before .args .e) ev
+    (segmentOf (c .before .before .before .before .before .before .args .b) (c .before .before .before .before .before .before .args .knots .now))
+    (c .before .before .before .before .before .before .args .k) (c .before .before .before .before .before .before .args .y)
+    (c .before .before .before .before .before .before .args .precision) (c .before .before .before .before .before .before .args .limit)
+    (sym (c .before .before .before .before .is-at-low .ensures) ∙ c .before .before .before .if1 .left)
+    (sym (c .before .before .is-at-high .ensures) ∙ c .before .if2 .taken) (c .end-place2 .ensures ev l)
 
 searched-requires : tie.Need-searched-requires
 searched-requires c κs = search needs
 
 returns-3 : tie.Need-returns-3
-returns-3 c = λ ev l. located-searched (ruleOf (c .before .before .before .before .before .before .args .how)) (c .before .before .before .before .before .before .args .e) ev (segmentOf (c .before .before .before .before .before .before .args .b) (c .before .before .before .before .before .before .args .knots .now)) (c .before .before .before .before .before .before .args .k) (c .before .before .before .before .before .before .args .y) (c .before .before .before .before .before .before .args .precision) (c .before .before .before .before .before .before .args .limit) (sym (c .before .before .before .before .is-at-low .ensures) ∙ c .before .before .before .if1 .left) (sym (c .before .before .is-at-high .ensures) ∙ c .before .if2 .left) (c .searched .ensures ev l)
+returns-3 c =
+    λ ev l. located-searched (ruleOf (c .before .before .before .before .before .before .args .how))
+    (c .before .before .before .before .before .before .args .e) ev
+    (segmentOf (c .before .before .before .before .before .before .args .b) (c .before .before .before .before .before .before .args .knots .now))
+    (c .before .before .before .before .before .before .args .k) (c .before .before .before .before .before .before .args .y)
+    (c .before .before .before .before .before .before .args .precision) (c .before .before .before .before .before .before .args .limit)
+    (sym (c .before .before .before .before .is-at-low .ensures) ∙ c .before .before .before .if1 .left)
+    (sym (c .before .before .is-at-high .ensures) ∙ c .before .if2 .left) (c .searched .ensures ev l)
 
 pub located-spec : {M : Type 1} → statement M
 located-spec =

@@ -15,13 +15,27 @@ enum-told : tie.Need-enum-told
 enum-told c = search needs
 
 locate-requires : tie.Need-locate-requires
-locate-requires c κs = let p = admitted (c .before .before .before .before .args .b) (c .before .before .before .before .args .y) (c .before .before .before .before .args .knots .now) (c .before .before .before .before .args .o .check) (c .before .before .before .before .args .o .limit) (c .before .before .before .before .args .o .precision) (sym (c .before .before .verdict .ensures) ∙ c .enum-told .given .1) in (p .long, p .short, p .number, p .in-range)
+locate-requires c κs = let p =
+    admitted (c .before .before .before .before .args .b) (c .before .before .before .before .args .y) (c .before .before .before .before .args .knots .now)
+    (c .before .before .before .before .args .o .check) (c .before .before .before .before .args .o .limit)
+    (c .before .before .before .before .args .o .precision) (sym (c .before .before .verdict .ensures) ∙ c .enum-told .given .1)
+    in (p .long, p .short, p .number, p .in-range)
 
 returns : tie.Need-returns
-returns c = refused-is (c .before .before .before .before .before .args .o .ends) (c .before .before .before .before .before .args .o .method) (c .before .before .before .before .before .args .b) (c .before .before .before .before .before .args .y) (c .before .before .before .before .before .args .knots .now) (c .before .before .before .before .before .args .o .check) (c .before .before .before .before .before .args .o .limit) (c .before .before .before .before .before .args .o .precision) (c .before .before .before .verdict .ensures) (c .before .v .given .1)
+returns c =
+    refused-is (c .before .before .before .before .before .args .o .ends) (c .before .before .before .before .before .args .o .method)
+    (c .before .before .before .before .before .args .b) (c .before .before .before .before .before .args .y)
+    (c .before .before .before .before .before .args .knots .now) (c .before .before .before .before .before .args .o .check)
+    (c .before .before .before .before .before .args .o .limit) (c .before .before .before .before .before .args .o .precision)
+    (c .before .before .before .verdict .ensures) (c .before .v .given .1)
 
 returns-2 : tie.Need-returns-2
-returns-2 c = answer-is (c .before .before .before .before .before .args .o .ends) (c .before .before .before .before .before .args .o .method) (c .before .before .before .before .before .args .b) (c .before .before .before .before .before .args .y) (c .before .before .before .before .before .args .knots .now) (c .before .before .before .before .before .args .o .check) (c .before .before .before .before .before .args .o .limit) (c .before .before .before .before .before .args .o .precision) (c .before .before .before .verdict .ensures) (c .before .enum-told .given .1) (c .locate .ensures)
+returns-2 c =
+    answer-is (c .before .before .before .before .before .args .o .ends) (c .before .before .before .before .before .args .o .method)
+    (c .before .before .before .before .before .args .b) (c .before .before .before .before .before .args .y)
+    (c .before .before .before .before .before .args .knots .now) (c .before .before .before .before .before .args .o .check)
+    (c .before .before .before .before .before .args .o .limit) (c .before .before .before .before .before .args .o .precision)
+    (c .before .before .before .verdict .ensures) (c .before .enum-told .given .1) (c .locate .ensures)
 
 pub spline-inverse-by-spec : {M : Type 1} → statement M
 spline-inverse-by-spec =

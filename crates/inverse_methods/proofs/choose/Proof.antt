@@ -24,7 +24,9 @@ inner-requires c κs = search needs
 
 returns-2 : tie.Need-returns-2
 unfolding ofBits
-returns-2 c = λ limit i e. choose-chord limit i _ _ _ e _ _ _ _ (c .before .before .before .before .before .if1 .left) (c .before .before .before .before .weighed .ensures) refl (c .before .lerp2 .ensures) (c .inner .ensures)
+returns-2 c =
+    λ limit i e. choose-chord limit i _ _ _ e _ _ _ _ (c .before .before .before .before .before .if1 .left)
+    (c .before .before .before .before .weighed .ensures) refl (c .before .lerp2 .ensures) (c .inner .ensures)
 
 pub choose-spec : {M : Type 1} → statement M
 choose-spec = tie.close (tie.spec lerp-requires returns weighed-requires lerp-requires-2 inner-requires returns-2)

@@ -38,12 +38,14 @@ returns c =
     let verdict = c .before .before .before .before .before .before .before .segment-verdict .ensures in
     let passed = c .before .before .before .before .before .enum-told .given .1 in
     let sums = c .before .before .before .before .weights in
-    place-is (ruleOf (a .how)) (a .b) (a .y) (a .cv .now) (a .limit) (a .precision) verdict passed (sums .result) (sums .ensures) (c .before .before .settle .ensures) (c .before .if1 .taken) (c .entered-by .ensures)
+    place-is (ruleOf (a .how)) (a .b) (a .y) (a .cv .now) (a .limit) (a .precision) verdict passed (sums .result) (sums .ensures)
+    (c .before .before .settle .ensures) (c .before .if1 .taken) (c .entered-by .ensures)
 
 returns-2 : tie.Need-returns-2
 returns-2 c =
     let a = c .before .before .before .before .before .args in
-    refused-is (ruleOf (a .how)) (a .b) (a .y) (a .cv .now) (a .limit) (a .precision) (c .before .before .before .segment-verdict .ensures) (c .before .v .given .1)
+    refused-is (ruleOf (a .how)) (a .b) (a .y) (a .cv .now) (a .limit) (a .precision) (c .before .before .before .segment-verdict .ensures)
+    (c .before .v .given .1)
 
 returns-3 : tie.Need-returns-3
 returns-3 c =
@@ -51,7 +53,8 @@ returns-3 c =
     let verdict = c .before .before .before .before .before .before .segment-verdict .ensures in
     let passed = c .before .before .before .before .enum-told .given .1 in
     let sums = c .before .before .before .weights in
-    off-is (ruleOf (a .how)) (a .b) (a .y) (a .cv .now) (a .limit) (a .precision) verdict passed (sums .result) (sums .ensures) (c .before .settle .ensures) (c .if1 .left)
+    off-is (ruleOf (a .how)) (a .b) (a .y) (a .cv .now) (a .limit) (a .precision) verdict passed (sums .result) (sums .ensures) (c .before .settle .ensures)
+    (c .if1 .left)
 
 pub spline-inverse-segment-by-spec : {M : Type 1} → statement M
 spline-inverse-segment-by-spec =

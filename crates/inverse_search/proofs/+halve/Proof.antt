@@ -30,7 +30,16 @@ abbrev halve-below : ℕ → In 4 halve-kinds.ps
 halve-below t = and 4 halve-kinds.ps (falls 4 halve-kinds.ps _<_ μ-halve t) halve.Pre
 
 abbrev calls : ℕ → halve-lts.Claims
-calls t = (last-tries-reads.Asked, last-tries-reads.Learnt, probe-reads.Asked, probe-reads.Learnt, lies-before-reads.Asked, lies-before-reads.Learnt, halve-below t, halve.Post)
+calls t = (
+  last-tries-reads.Asked,
+  last-tries-reads.Learnt,
+  probe-reads.Asked,
+  probe-reads.Learnt,
+  lies-before-reads.Asked,
+  lies-before-reads.Learnt,
+  halve-below t,
+  halve.Post,
+)
 
 halve-last-tries-requires : (t : ℕ) → halve-lts.Need-last-tries-requires (calls t) (halve-at t) halve.Post
 halve-last-tries-requires t c κs =
@@ -39,8 +48,11 @@ halve-last-tries-requires t c κs =
 
 halve-returns : (t : ℕ) → halve-lts.Need-returns (calls t) (halve-at t) halve.Post
 halve-returns t c =
-    let a = c .before .before .before .before .before .args in
-    (halve-end (a .b) (a .knots .now .now) (a .y) (a .rising) (a .k) (a .left) (a .wide) (c .before .before .before .before .if1 .taken) (c .last-tries .ensures .0), omega arith)
+    let a = c .before .before .before .before .before .args in (
+      halve-end (a .b) (a .knots .now .now) (a .y) (a .rising) (a .k) (a .left) (a .wide) (c .before .before .before .before .if1 .taken)
+          (c .last-tries .ensures .0),
+      omega arith,
+    )
 
 halve-sub-half : (t : ℕ) → halve-lts.Need-sub-half (calls t) (halve-at t) halve.Post
 halve-sub-half t c = omega arith
@@ -59,8 +71,11 @@ halve-add-made t c = omega arith
 
 halve-returns-2 : (t : ℕ) → halve-lts.Need-returns-2 (calls t) (halve-at t) halve.Post
 halve-returns-2 t c =
-    let a = c .before .before .before .before .before .before .args in
-    (halve-hit (a .b) (a .knots .now .now) (a .y) (a .rising) (a .k) (a .left) (a .wide) ((a .wide - 1) / 2) (omega arith) refl (c .before .before .probe .ensures) (omega arith) (c .if2 .taken), omega arith)
+    let a = c .before .before .before .before .before .before .args in (
+      halve-hit (a .b) (a .knots .now .now) (a .y) (a .rising) (a .k) (a .left) (a .wide) ((a .wide - 1) / 2) (omega arith) refl
+          (c .before .before .probe .ensures) (omega arith) (c .if2 .taken),
+      omega arith,
+    )
 
 halve-element : (t : ℕ) → halve-lts.Need-element-copy-out-lies-before (calls t) (halve-at t) halve.Post
 halve-element t c = search needs
@@ -90,14 +105,22 @@ halve-halve-requires-2 t c κs =
 halve-returns-3 : (t : ℕ) → halve-lts.Need-returns-3 (calls t) (halve-at t) halve.Post
 halve-returns-3 t c =
     let a = c .before .before .before .before .before .before .before .before .before .before .before .before .args in
-    let p = c .before .before .before .before .before .before .before .before .probe .ensures in
-    (halve-left (a .b) (a .knots .now .now) (a .y) (a .rising) (a .k) (a .left) (a .wide) ((a .wide - 1) / 2) (omega arith) refl p (ap (λ (e : List Float). getD e 4 nan) (p .kept-is)) (c .before .before .before .before .before .before .if2 .left) (sym (c .before .before .before .before .lies-before .ensures) ∙ c .before .before .before .if3 .taken) (c .halve .ensures .0), omega arith)
+    let p = c .before .before .before .before .before .before .before .before .probe .ensures in (
+      halve-left (a .b) (a .knots .now .now) (a .y) (a .rising) (a .k) (a .left) (a .wide) ((a .wide - 1) / 2) (omega arith) refl p
+          (ap (λ (e : List Float). getD e 4 nan) (p .kept-is)) (c .before .before .before .before .before .before .if2 .left)
+          (sym (c .before .before .before .before .lies-before .ensures) ∙ c .before .before .before .if3 .taken) (c .halve .ensures .0),
+      omega arith,
+    )
 
 halve-returns-4 : (t : ℕ) → halve-lts.Need-returns-4 (calls t) (halve-at t) halve.Post
 halve-returns-4 t c =
     let a = c .before .before .before .before .before .before .before .before .before .before .before .before .args in
-    let p = c .before .before .before .before .before .before .before .before .probe .ensures in
-    (halve-right (a .b) (a .knots .now .now) (a .y) (a .rising) (a .k) (a .left) (a .wide) ((a .wide - 1) / 2) (omega arith) refl p (ap (λ (e : List Float). getD e 4 nan) (p .kept-is)) (c .before .before .before .before .before .before .if2 .left) (sym (c .before .before .before .before .lies-before .ensures) ∙ c .before .before .before .if3 .left) (c .halve2 .ensures .0), omega arith)
+    let p = c .before .before .before .before .before .before .before .before .probe .ensures in (
+      halve-right (a .b) (a .knots .now .now) (a .y) (a .rising) (a .k) (a .left) (a .wide) ((a .wide - 1) / 2) (omega arith) refl p
+          (ap (λ (e : List Float). getD e 4 nan) (p .kept-is)) (c .before .before .before .before .before .before .if2 .left)
+          (sym (c .before .before .before .before .lies-before .ensures) ∙ c .before .before .before .if3 .left) (c .halve2 .ensures .0),
+      omega arith,
+    )
 
 pub +halve-spec : {M : Type 1} → statement M
 +halve-spec = close μ-halve λ t. halve-lts.spec (calls t) (halve-at t) halve.Post

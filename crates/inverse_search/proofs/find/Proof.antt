@@ -13,12 +13,14 @@ entered-by-requires c κs = search needs
 returns : tie.Need-returns
 returns c =
     let a = c .before .before .before .before .before .before .args in
-    found-in (a .b) (a .knots .now) (a .y) (a .how) (a .precision) (a .limit) (a .rising) (a .k) (c .before .before .sought .ensures .0) (c .before .if1 .taken) (c .entered-by .ensures)
+    found-in (a .b) (a .knots .now) (a .y) (a .how) (a .precision) (a .limit) (a .rising) (a .k) (c .before .before .sought .ensures .0)
+    (c .before .if1 .taken) (c .entered-by .ensures)
 
 returns-2 : tie.Need-returns-2
 returns-2 c =
     let a = c .before .before .before .before .before .before .args in
-    found-none (a .b) (a .knots .now) (a .y) (a .how) (a .precision) (a .limit) (a .rising) (a .k) (c .before .before .sought .ensures .0) (c .before .if1 .left)
+    found-none (a .b) (a .knots .now) (a .y) (a .how) (a .precision) (a .limit) (a .rising) (a .k) (c .before .before .sought .ensures .0)
+    (c .before .if1 .left)
 
 -- the search, and a read of each of the six doubles that it keeps
 pub find-spec : {M : Type 1} → statement M

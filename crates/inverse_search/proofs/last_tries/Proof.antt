@@ -16,15 +16,23 @@ lesser-requires c κs = search needs
 
 tries-requires : tie.Need-tries-requires
 tries-requires c κs =
-    let p = c .before .before .before .before .before .pre in
-    (fits-le (c .before .before .lesser .result) (c .before .before .before .before .before .args .k) _ _ (omega arith) (p .0), p .1, omega arith, omega arith, omega arith, omega arith)
+    let p = c .before .before .before .before .before .pre in (
+      fits-le (c .before .before .lesser .result) (c .before .before .before .before .before .args .k) _ _ (omega arith) (p .0),
+      p .1,
+      omega arith,
+      omega arith,
+      omega arith,
+      omega arith,
+    )
 
 returns : tie.Need-returns
 returns c =
     let a = c .before .before .before .before .before .before .args in
     let first = c .before .before .before .before .one-less in
-    let end = c .before .before .before .lesser in
-    (last-tried (a .b) (a .knots .now) (a .y) (a .k) (a .left) (first .result) (end .result) (first .ensures) (end .ensures) (c .tries .ensures .0), omega arith)
+    let end = c .before .before .before .lesser in (
+      last-tried (a .b) (a .knots .now) (a .y) (a .k) (a .left) (first .result) (end .result) (first .ensures) (end .ensures) (c .tries .ensures .0),
+      omega arith,
+    )
 
 pub last-tries-spec : {M : Type 1} → statement M
 last-tries-spec =

@@ -32,7 +32,8 @@ settle-by-requires c κs = let e = ap (λ (x : ℕ). c .before .before .before .
 returns : tie.Need-returns
 returns c =
     let a = c .before .before .before .before .before .args in
-    settled-at (a .b) _ _ (rest _ (a .knots .now) ∙ ap (λ (x : ℕ). drop (a .s * x) (a .knots .now)) (c .before .before .before .step .ensures .0)) (c .settle-by .ensures)
+    settled-at (a .b) _ _ (rest _ (a .knots .now) ∙ ap (λ (x : ℕ). drop (a .s * x) (a .knots .now)) (c .before .before .before .step .ensures .0))
+    (c .settle-by .ensures)
 
 pub probe-spec : {M : Type 1} → statement M
 probe-spec =

@@ -20,8 +20,11 @@ halve-requires c κs = search needs
 
 returns-2 : tie.Need-returns-2
 returns-2 c =
-    let a = c .before .before .before .before .before .before .args in
-    (sought-many (a .b) (a .knots .now) (a .y) (a .rising) (a .k) (c .before .before .before .before .if1 .left) (lt-of-le-of-lt (c .before .before .before .before .before .before .pre .3) (lit< tt)) (c .halve .ensures .0), omega arith)
+    let a = c .before .before .before .before .before .before .args in (
+      sought-many (a .b) (a .knots .now) (a .y) (a .rising) (a .k) (c .before .before .before .before .if1 .left)
+          (lt-of-le-of-lt (c .before .before .before .before .before .before .pre .3) (lit< tt)) (c .halve .ensures .0),
+      omega arith,
+    )
 
 pub sought-spec : {M : Type 1} → statement M
 sought-spec = tie.close (tie.spec tries-requires returns halve-requires returns-2)

@@ -7,7 +7,8 @@ use Rattle.inverse_search.proofs.tries.Statement.{statement}
 use Rattle.inverse_search.proofs.tries.Tie as tie
 
 abbrev Inv-loop : tie.InvT-loop
-Inv-loop b knots y k first end made₀ ends₀ s₀ made ends s = (first ≤ s) × (s ≤ end) × (made ≤ made₀ + 2 * (s - first)) × Carried b knots y first end made₀ s made
+Inv-loop b knots y k first end made₀ ends₀ s₀ made ends s =
+    (first ≤ s) × (s ≤ end) × (made ≤ made₀ + 2 * (s - first)) × Carried b knots y first end made₀ s made
 
 abbrev μ-loop : tie.MeasureT-loop
 μ-loop b knots y k first end made₀ ends₀ s₀ made ends s = end - s
@@ -40,8 +41,12 @@ loop-less c = omega arith
 loop-again : tie.Need-loop-again Inv-loop μ-loop
 loop-again c =
     let a = c .before .before .before .before .before .before .before .args in
-    let l = c .before .before .before .before .before .loop in
-    (omega arith, omega arith, omega arith, tries-miss (a .b) (a .knots .now) (a .y) (l .s) (c .before .before .probe .ensures) (omega arith) (l .inv .3) (c .if1 .left))
+    let l = c .before .before .before .before .before .loop in (
+      omega arith,
+      omega arith,
+      omega arith,
+      tries-miss (a .b) (a .knots .now) (a .y) (l .s) (c .before .before .probe .ensures) (omega arith) (l .inv .3) (c .if1 .left),
+    )
 
 returns-2 : tie.Need-returns-2 Inv-loop μ-loop
 returns-2 c =

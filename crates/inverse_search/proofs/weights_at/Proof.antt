@@ -31,7 +31,12 @@ weights-requires : tie.Need-weights-requires
 weights-requires c κs = let e = ap (λ (x : ℕ). c .before .before .before .args .s * x) (c .before .step .ensures .0) in search (needs, e)
 
 returns : tie.Need-returns
-returns c = c .weights .ensures ∙ ap (weightsOf (matrixOf (c .before .before .before .before .args .b))) (rest _ (c .before .before .before .before .args .knots .now) ∙ ap (λ (x : ℕ). drop (c .before .before .before .before .args .s * x) (c .before .before .before .before .args .knots .now)) (c .before .before .step .ensures .0))
+returns c =
+    c .weights .ensures
+    ∙ ap (weightsOf (matrixOf (c .before .before .before .before .args .b)))
+    (rest _ (c .before .before .before .before .args .knots .now)
+    ∙ ap (λ (x : ℕ). drop (c .before .before .before .before .args .s * x) (c .before .before .before .before .args .knots .now))
+    (c .before .before .step .ensures .0))
 
 pub weights-at-spec : {M : Type 1} → statement M
 weights-at-spec =

@@ -21,7 +21,12 @@ told-at-requires c κs = search needs
 
 returns : tie.Need-returns
 unfolding ofBits
-returns c = λ ev k. c .told-at .ensures ∙ left-edge (chordOf (c .before .before .before .args .m)) (hornerOf (c .before .before .before .args .w)) (c .before .before .before .args .s) (c .before .before .before .args .y) (c .before .before .before .args .precision) (c .before .before .before .args .limit) (c .before .before .before .args .n) (c .before .before .before .args .v0) (c .before .before .before .args .v1) ev k (sym (c .before .if1 .taken) ∙ c .before .before .is-near .ensures)
+returns c =
+    λ ev k. c .told-at .ensures
+    ∙ left-edge (chordOf (c .before .before .before .args .m)) (hornerOf (c .before .before .before .args .w)) (c .before .before .before .args .s)
+    (c .before .before .before .args .y) (c .before .before .before .args .precision) (c .before .before .before .args .limit)
+    (c .before .before .before .args .n) (c .before .before .before .args .v0) (c .before .before .before .args .v1) ev k
+    (sym (c .before .if1 .taken) ∙ c .before .before .is-near .ensures)
 
 is-near-requires-2 : tie.Need-is-near-requires-2
 is-near-requires-2 c κs = search needs
@@ -31,14 +36,29 @@ told-at-requires-2 c κs = search needs
 
 returns-2 : tie.Need-returns-2
 unfolding ofBits
-returns-2 c = λ ev k. c .told-at2 .ensures ∙ right-edge (chordOf (c .before .before .before .before .before .args .m)) (hornerOf (c .before .before .before .before .before .args .w)) (c .before .before .before .before .before .args .s) (c .before .before .before .before .before .args .y) (c .before .before .before .before .before .args .precision) (c .before .before .before .before .before .args .limit) (c .before .before .before .before .before .args .n) (c .before .before .before .before .before .args .v0) (c .before .before .before .before .before .args .v1) ev k (sym (c .before .before .before .if1 .left) ∙ c .before .before .before .before .is-near .ensures) (sym (c .before .if2 .taken) ∙ c .before .before .is-near2 .ensures)
+returns-2 c =
+    λ ev k. c .told-at2 .ensures
+    ∙ right-edge (chordOf (c .before .before .before .before .before .args .m)) (hornerOf (c .before .before .before .before .before .args .w))
+    (c .before .before .before .before .before .args .s) (c .before .before .before .before .before .args .y)
+    (c .before .before .before .before .before .args .precision) (c .before .before .before .before .before .args .limit)
+    (c .before .before .before .before .before .args .n) (c .before .before .before .before .before .args .v0)
+    (c .before .before .before .before .before .args .v1) ev k
+    (sym (c .before .before .before .if1 .left) ∙ c .before .before .before .before .is-near .ensures)
+    (sym (c .before .if2 .taken) ∙ c .before .before .is-near2 .ensures)
 
 rounds-requires : tie.Need-rounds-requires
 rounds-requires c κs = search needs
 
 returns-3 : tie.Need-returns-3
 unfolding ofBits
-returns-3 c = λ ev k. by-rounds (chordOf (c .before .before .before .before .before .args .m)) (hornerOf (c .before .before .before .before .before .args .w)) (c .before .before .before .before .before .args .s) (c .before .before .before .before .before .args .y) (c .before .before .before .before .before .args .precision) (c .before .before .before .before .before .args .limit) (c .before .before .before .before .before .args .n) (c .before .before .before .before .before .args .v0) (c .before .before .before .before .before .args .v1) ev k (sym (c .before .before .before .if1 .left) ∙ c .before .before .before .before .is-near .ensures) (c .rounds .result) (sym (c .before .if2 .left) ∙ c .before .before .is-near2 .ensures) (c .rounds .ensures ev k)
+returns-3 c =
+    λ ev k. by-rounds (chordOf (c .before .before .before .before .before .args .m)) (hornerOf (c .before .before .before .before .before .args .w))
+    (c .before .before .before .before .before .args .s) (c .before .before .before .before .before .args .y)
+    (c .before .before .before .before .before .args .precision) (c .before .before .before .before .before .args .limit)
+    (c .before .before .before .before .before .args .n) (c .before .before .before .before .before .args .v0)
+    (c .before .before .before .before .before .args .v1) ev k
+    (sym (c .before .before .before .if1 .left) ∙ c .before .before .before .before .is-near .ensures) (c .rounds .result)
+    (sym (c .before .if2 .left) ∙ c .before .before .is-near2 .ensures) (c .rounds .ensures ev k)
 
 pub entered-spec : {M : Type 1} → statement M
 entered-spec =

@@ -16,7 +16,9 @@ encloses-requires c κs = search needs
 
 returns : tie.Need-returns
 unfolding ofBits
-returns c = settled (c .before .before .before .before .args .w) (c .before .before .before .horner .ensures) (c .before .before .horner2 .ensures) (c .encloses .ensures)
+returns c =
+    settled (c .before .before .before .before .args .w) (c .before .before .before .horner .ensures) (c .before .before .horner2 .ensures)
+    (c .encloses .ensures)
 
 pub settle-spec : {M : Type 1} → statement M
 settle-spec =

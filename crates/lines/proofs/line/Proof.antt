@@ -26,7 +26,24 @@ same-length-3 : tie.Need-same-length-3
 same-length-3 c = search needs
 
 returns : tie.Need-returns
-returns c = let a = c .before .before .before .before .before .before .answered .ensures in let o = openOf (c .before .before .before .before .before .before .before .before .before .before .before .before .before .before .before .args .len) (c .before .before .before .before .before .before .before .before .before .before .before .before .before .before .before .args .line .now) in let k = curveOf (c .before .before .before .before .before .before .before .before .before .before .before .before .before .before .before .args .held) (c .before .before .before .before .before .before .before .before .before .before .before .before .before .before .before .args .table .now) in (line-state k o (c .before .before .before .before .before .before .before .before .before .before .said .ensures) (a .0), (a .1 .0, (line-wrote k o (c .before .before .before .before .before .before .before .before .before .before .said .ensures) (a .1 .1 .0), a .1 .1 .1)))
+returns c = let a = c .before .before .before .before .before .before .answered .ensures in let o =
+    openOf (c .before .before .before .before .before .before .before .before .before .before .before .before .before .before .before .args .len)
+    (c .before .before .before .before .before .before .before .before .before .before .before .before .before .before .before .args .line .now)
+    in let k =
+    curveOf (c .before .before .before .before .before .before .before .before .before .before .before .before .before .before .before .args
+    .held) (c .before .before .before .before .before .before .before .before .before .before .before .before .before .before .before .args
+    .table .now)
+    in (
+      line-state k o (c .before .before .before .before .before .before .before .before .before .before .said .ensures) (a .0),
+      (
+        a .1 .0,
+        (
+          line-wrote k o (c .before .before .before .before .before .before .before .before .before .before .said .ensures)
+              (a .1 .1 .0),
+          a .1 .1 .1,
+        ),
+      ),
+    )
 
 pub line-spec : {M : Type 1} → statement M
 line-spec =

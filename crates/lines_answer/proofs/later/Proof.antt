@@ -93,7 +93,9 @@ same-length-3 : tie.Need-same-length-3
 same-length-3 c = search needs
 
 returns-3 : tie.Need-returns-3
-returns-3 c = rw (c .before .before .before .before .before .r3 .given .1) (c .before .before .add .ensures (c .before .before .before .before .before .before .before .before .before .args .turned .now))
+returns-3 c =
+    rw (c .before .before .before .before .before .r3 .given .1)
+    (c .before .before .add .ensures (c .before .before .before .before .before .before .before .before .before .args .turned .now))
 
 returns-4 : tie.Need-returns-4
 unfolding afterOf replyTo
@@ -104,16 +106,34 @@ same-length-4 c = search needs
 
 returns-5 : tie.Need-returns-5
 unfolding afterOf replyTo
-returns-5 c = let z : c .before .before .before .before .before .before .before .before .args .n - 0 ≡ c .before .before .before .before .before .before .before .before .args .n = omega arith in
-    record { held = rw (c .before .before .before .before .r5 .given .1) refl; told = rw (c .before .before .before .before .r5 .given .1) (rw z at (c .value-at .ensures .0 (c .before .before .before .before .before .before .before .before .args .turned .now))); few = omega arith; lent = omega (arith, c .value-at .ensures .1) }
+returns-5 c =
+    let z : c .before .before .before .before .before .before .before .before .args .n - 0 ≡ c .before .before .before .before .before .before .before
+    .before .args .n = omega arith in
+    record {
+      held = rw (c .before .before .before .before .r5 .given .1) refl;
+      told =
+          rw (c .before .before .before .before .r5 .given .1)
+          (rw z at (c .value-at .ensures .0 (c .before .before .before .before .before .before .before .before .args .turned .now)));
+      few = omega arith;
+      lent = omega (arith, c .value-at .ensures .1);
+    }
 
 same-length-5 : tie.Need-same-length-5
 same-length-5 c = search needs
 
 returns-6 : tie.Need-returns-6
 unfolding afterOf replyTo
-returns-6 c = let z : c .before .before .before .before .before .before .before .before .args .n - 0 ≡ c .before .before .before .before .before .before .before .before .args .n = omega arith in
-    record { held = rw (c .before .before .before .before .r6 .given .1) refl; told = rw (c .before .before .before .before .r6 .given .1) (rw z at (c .place-of .ensures .0 (c .before .before .before .before .before .before .before .before .args .turned .now))); few = omega arith; lent = omega (arith, c .place-of .ensures .1) }
+returns-6 c =
+    let z : c .before .before .before .before .before .before .before .before .args .n - 0 ≡ c .before .before .before .before .before .before .before
+    .before .args .n = omega arith in
+    record {
+      held = rw (c .before .before .before .before .r6 .given .1) refl;
+      told =
+          rw (c .before .before .before .before .r6 .given .1)
+          (rw z at (c .place-of .ensures .0 (c .before .before .before .before .before .before .before .before .args .turned .now)));
+      few = omega arith;
+      lent = omega (arith, c .place-of .ensures .1);
+    }
 
 same-length-6 : tie.Need-same-length-6
 same-length-6 c = search needs
@@ -123,12 +143,25 @@ same-length-7 c = search needs
 
 returns-7 : tie.Need-returns-7
 unfolding afterOf replyTo
-returns-7 c = let z : c .before .before .before .before .before .before .before .before .before .before .before .args .n - 0 ≡ c .before .before .before .before .before .before .before .before .before .before .before .args .n = omega arith in
-    record { held = rw (c .before .before .before .before .before .before .before .r7 .given .1) refl; told = rw (c .before .before .before .before .before .before .before .r7 .given .1) (rw z at (c .before .before .turned-to .ensures .0)); few = omega arith; lent = omega (arith, c .before .before .turned-to .ensures .1) }
+returns-7 c =
+    let z : c .before .before .before .before .before .before .before .before .before .before .before .args .n - 0 ≡ c .before .before .before .before
+    .before .before .before .before .before .before .before .args .n = omega arith in
+    record {
+      held = rw (c .before .before .before .before .before .before .before .r7 .given .1) refl;
+      told = rw (c .before .before .before .before .before .before .before .r7 .given .1) (rw z at (c .before .before .turned-to .ensures .0));
+      few = omega arith;
+      lent = omega (arith, c .before .before .turned-to .ensures .1);
+    }
 
 returns-8 : tie.Need-returns-8
 unfolding afterOf replyTo
-returns-8 c = record { held = rw (c .bad-line .ensures .0, c .before .enum-told .given .1) refl; told = rw (c .bad-line .ensures .1, c .before .enum-told .given .1) refl; few = rw (c .bad-line .ensures .0) (omega arith); lent = rw (c .bad-line .ensures .1) (omega arith) }
+returns-8 c =
+    record {
+      held = rw (c .bad-line .ensures .0, c .before .enum-told .given .1) refl;
+      told = rw (c .bad-line .ensures .1, c .before .enum-told .given .1) refl;
+      few = rw (c .bad-line .ensures .0) (omega arith);
+      lent = rw (c .bad-line .ensures .1) (omega arith);
+    }
 
 pub later-spec : {M : Type 1} → statement M
 later-spec =

@@ -11,11 +11,13 @@ is-span-requires : tie.Need-is-span-requires
 is-span-requires c κs = search needs
 
 returns : tie.Need-returns
-returns c = let a = c .before .before .before .before .args in let k = span-silent (a .t) (a .m) (take (a .n) (a .table .now)) (a .s) (sym (c .before .is-span .ensures) ∙ c .if1 .taken) in
+returns c = let a = c .before .before .before .before .args in let k =
+    span-silent (a .t) (a .m) (take (a .n) (a .table .now)) (a .s) (sym (c .before .is-span .ensures) ∙ c .if1 .taken) in
     record { held = sym (k .1); told = sym (k .0); few = omega arith; lent = omega arith }
 
 returns-2 : tie.Need-returns-2
-returns-2 c = let a = c .before .before .before .before .args in let k = span-refused (a .t) (a .m) (take (a .n) (a .table .now)) (a .s) (sym (c .before .is-span .ensures) ∙ c .if1 .left) in
+returns-2 c = let a = c .before .before .before .before .args in let k =
+    span-refused (a .t) (a .m) (take (a .n) (a .table .now)) (a .s) (sym (c .before .is-span .ensures) ∙ c .if1 .left) in
     record { held = sym (k .1); told = sym (k .0); few = omega arith; lent = omega arith }
 
 pub spanned-spec : {M : Type 1} → statement M

@@ -21,13 +21,26 @@ same-length : tie.Need-same-length
 same-length c = search needs
 
 returns : tie.Need-returns
-returns c = let a = c .before .before .before .before .before .before .before .before .before .args in turn-written (a .t .span) (a .c) (convertedOf (a .t .basis) (a .c) (a .knots .now) places) _ (a .turned .now) _ (sym (c .before .i .given .1) ∙ rw (c .before .before .before .before .before .before .before .before .before .pre) at (c .before .before .before .before .before .convert-spline .ensures .0)) (rw (c .before .before .before .before .before .before .before .before .before .pre) at (c .before .before .before .before .before .convert-spline .ensures .1)) (omega arith)
+returns c = let a = c .before .before .before .before .before .before .before .before .before .args
+    in turn-written (a .t .span) (a .c) (convertedOf (a .t .basis) (a .c) (a .knots .now) places) _ (a .turned .now) _
+    (sym (c .before .i .given .1)
+    ∙ rw (c .before .before .before .before .before .before .before .before .before .pre) at
+    (c .before .before .before .before .before .convert-spline .ensures .0))
+    (rw (c .before .before .before .before .before .before .before .before .before .pre) at
+    (c .before .before .before .before .before .convert-spline .ensures .1)) (omega arith)
 
 same-length-2 : tie.Need-same-length-2
 same-length-2 c = search needs
 
 returns-2 : tie.Need-returns-2
-returns-2 c = let a = c .before .before .before .before .before .before .before .before .before .args in (turn-refused (a .t .span) (a .c) (convertedOf (a .t .basis) (a .c) (a .knots .now) places) _ (sym (c .before .i2 .given .1) ∙ rw (c .before .before .before .before .before .before .before .before .before .pre) at (c .before .before .before .before .before .convert-spline .ensures .0)), omega arith)
+returns-2 c = let a = c .before .before .before .before .before .before .before .before .before .args
+    in (
+      turn-refused (a .t .span) (a .c) (convertedOf (a .t .basis) (a .c) (a .knots .now) places) _
+          (sym (c .before .i2 .given .1)
+          ∙ rw (c .before .before .before .before .before .before .before .before .before .pre) at
+          (c .before .before .before .before .before .convert-spline .ensures .0)),
+      omega arith,
+    )
 
 pub turned-to-spec : {M : Type 1} → statement M
 turned-to-spec =

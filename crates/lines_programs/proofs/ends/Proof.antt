@@ -17,7 +17,9 @@ enum-known-job : tie.Need-enum-known-job
 enum-known-job c = search needs
 
 end-requires : tie.Need-end-requires
-end-requires c κs = let k : countOf (Reading (c .before .before .job .given .0 .0)) ≤ places = rw (c .before .before .job .given .1) at (c .before .before .before .before .before .before .before .before .pre .0) in (k, c .before .before .before .before .before .before .before .before .pre .1, omega arith)
+end-requires c κs = let k : countOf (Reading (c .before .before .job .given .0 .0)) ≤ places =
+    rw (c .before .before .job .given .1) at (c .before .before .before .before .before .before .before .before .pre .0)
+    in (k, c .before .before .before .before .before .before .before .before .pre .1, omega arith)
 
 enum-told-2 : tie.Need-enum-told-2
 enum-told-2 c = search needs
@@ -29,7 +31,14 @@ enum-known-job-2 : tie.Need-enum-known-job-2
 enum-known-job-2 c = search needs
 
 end-requires-2 : tie.Need-end-requires-2
-end-requires-2 c κs = let k : countOf (Comparing (c .before .before .job2 .given .0 .0)) ≤ places = rw (c .before .before .job2 .given .1) at (c .before .before .before .before .before .before .before .before .pre .0) in (k, c .before .before .before .before .before .before .before .before .pre .2, c .before .before .before .before .before .before .before .before .pre .3, c .before .before .before .before .before .before .before .before .pre .4)
+end-requires-2 c κs = let k : countOf (Comparing (c .before .before .job2 .given .0 .0)) ≤ places =
+    rw (c .before .before .job2 .given .1) at (c .before .before .before .before .before .before .before .before .pre .0)
+    in (
+      k,
+      c .before .before .before .before .before .before .before .before .pre .2,
+      c .before .before .before .before .before .before .before .before .pre .3,
+      c .before .before .before .before .before .before .before .before .pre .4,
+    )
 
 returns : tie.Need-returns
 unfolding endsOf
@@ -40,7 +49,8 @@ same-length c = search needs
 
 returns-2 : tie.Need-returns-2
 unfolding endsOf
-returns-2 c = (rw (c .before .before .before .before .before .job .given .1) (c .before .before .end .ensures .0), omega (arith, c .before .before .end .ensures .1))
+returns-2 c =
+    (rw (c .before .before .before .before .before .job .given .1) (c .before .before .end .ensures .0), omega (arith, c .before .before .end .ensures .1))
 
 returns-3 : tie.Need-returns-3
 unfolding endsOf
@@ -61,14 +71,19 @@ enum-known-job-3 : tie.Need-enum-known-job-3
 enum-known-job-3 c = search needs
 
 end-requires-3 : tie.Need-end-requires-3
-end-requires-3 c κs = let k : countOf (Drawing (c .before .before .job3 .given .0 .0)) ≤ places = rw (c .before .before .job3 .given .1) at (c .before .before .before .before .before .before .before .before .pre .0) in (k, c .before .before .before .before .before .before .before .before .pre .1, omega arith)
+end-requires-3 c κs = let k : countOf (Drawing (c .before .before .job3 .given .0 .0)) ≤ places =
+    rw (c .before .before .job3 .given .1) at (c .before .before .before .before .before .before .before .before .pre .0)
+    in (k, c .before .before .before .before .before .before .before .before .pre .1, omega arith)
 
 same-length-3 : tie.Need-same-length-3
 same-length-3 c = search needs
 
 returns-6 : tie.Need-returns-6
 unfolding endsOf
-returns-6 c = (rw (c .before .before .before .before .before .job3 .given .1) (c .before .before .end3 .ensures .0), omega (arith, c .before .before .end3 .ensures .1))
+returns-6 c = (
+  rw (c .before .before .before .before .before .job3 .given .1) (c .before .before .end3 .ensures .0),
+  omega (arith, c .before .before .end3 .ensures .1),
+)
 
 pub ends-spec : {M : Type 1} → statement M
 ends-spec =

@@ -14,33 +14,46 @@ use Rattle.lines_programs.proofs.feed.Statement.{statement}
 use Rattle.lines_programs.proofs.feed.Tie as tie
 
 abbrev Inv-loop : tie.InvT-loop
-Inv-loop chunk line₀ table₀ turned₀ old₀ new₀ out₀ s₀ at₀ i₀ line table turned old new out s at i = (i ≤ length chunk) × (at ≤ length out) × (at ≤ longest * i) × (length turned ≡ places)
-    × Went (ranOf running (stateOf s₀ line₀ table₀ old₀ new₀) (take i chunk)) (toldOf running (stateOf s₀ line₀ table₀ old₀ new₀) (take i chunk)) s line table old new out₀ 0 out at
+Inv-loop chunk line₀ table₀ turned₀ old₀ new₀ out₀ s₀ at₀ i₀ line table turned old new out s at i =
+    (i ≤ length chunk) × (at ≤ length out) × (at ≤ longest * i) × (length turned ≡ places)
+    × Went (ranOf running (stateOf s₀ line₀ table₀ old₀ new₀) (take i chunk)) (toldOf running (stateOf s₀ line₀ table₀ old₀ new₀) (take i chunk)) s line
+    table old new out₀ 0 out at
     × (length chunk < 2 ^ 64)
 
 abbrev μ-loop : tie.MeasureT-loop
 μ-loop chunk line₀ table₀ turned₀ old₀ new₀ out₀ s₀ at₀ i₀ line table turned old new out s at i = length chunk - i
 
 loop-holds : tie.Need-loop-holds Inv-loop μ-loop
-loop-holds c = (omega arith, omega arith, omega arith, c .before .before .before .before .before .before .before .pre .1, feed-none _ _ _ _ _ _ (c .before .before .before .before .before .before .before .pre .0), omega arith)
+loop-holds c = (
+  omega arith,
+  omega arith,
+  omega arith,
+  c .before .before .before .before .before .before .before .pre .1,
+  feed-none _ _ _ _ _ _ (c .before .before .before .before .before .before .before .pre .0),
+  omega arith,
+)
 
 sub-if1 : tie.Need-sub-if1 Inv-loop μ-loop
 sub-if1 c = omega arith
 
 same-length : tie.Need-same-length Inv-loop μ-loop
-same-length c = c .before .before .loop .inv .4 .good .wide ∙ sym (c .before .before .before .before .before .before .before .before .before .before .pre .0 .wide)
+same-length c =
+    c .before .before .loop .inv .4 .good .wide ∙ sym (c .before .before .before .before .before .before .before .before .before .before .pre .0 .wide)
 
 same-length-2 : tie.Need-same-length-2 Inv-loop μ-loop
-same-length-2 c = c .before .before .loop .inv .4 .good .full ∙ sym (c .before .before .before .before .before .before .before .before .before .before .pre .0 .full)
+same-length-2 c =
+    c .before .before .loop .inv .4 .good .full ∙ sym (c .before .before .before .before .before .before .before .before .before .before .pre .0 .full)
 
 same-length-3 : tie.Need-same-length-3 Inv-loop μ-loop
 same-length-3 c = c .before .before .loop .inv .3 ∙ sym (c .before .before .before .before .before .before .before .before .before .before .pre .1)
 
 same-length-4 : tie.Need-same-length-4 Inv-loop μ-loop
-same-length-4 c = c .before .before .loop .inv .4 .good .older ∙ sym (c .before .before .before .before .before .before .before .before .before .before .pre .0 .older)
+same-length-4 c =
+    c .before .before .loop .inv .4 .good .older ∙ sym (c .before .before .before .before .before .before .before .before .before .before .pre .0 .older)
 
 same-length-5 : tie.Need-same-length-5 Inv-loop μ-loop
-same-length-5 c = c .before .before .loop .inv .4 .good .newer ∙ sym (c .before .before .before .before .before .before .before .before .before .before .pre .0 .newer)
+same-length-5 c =
+    c .before .before .loop .inv .4 .good .newer ∙ sym (c .before .before .before .before .before .before .before .before .before .before .pre .0 .newer)
 
 same-length-6 : tie.Need-same-length-6 Inv-loop μ-loop
 same-length-6 c = c .before .before .loop .inv .4 .wrote .long
@@ -52,10 +65,21 @@ shared-slice-read-step : tie.Need-shared-slice-read-step Inv-loop μ-loop
 shared-slice-read-step c = search needs
 
 step-requires : tie.Need-step-requires Inv-loop μ-loop
-step-requires c κs = (c .before .before .before .before .before .before .before .before .before .loop .inv .4 .good, c .before .before .before .before .before .before .before .before .before .loop .inv .3, omega arith)
+step-requires c κs = (
+  c .before .before .before .before .before .before .before .before .before .loop .inv .4 .good,
+  c .before .before .before .before .before .before .before .before .before .loop .inv .3,
+  omega arith,
+)
 
 add-i : tie.Need-add-i Inv-loop μ-loop
-add-i c = omega (arith, c .before .before .before .before .before .before .before .before .before .before .before .before .before .before .before .before .before .before .before .before .before .before .loop-test .taken, c .before .before .before .before .before .before .before .before .before .before .before .before .before .before .before .before .before .before .before .before .before .before .before .loop .inv .5)
+add-i c =
+    omega (
+      arith,
+      c .before .before .before .before .before .before .before .before .before .before .before .before .before .before .before .before .before .before
+          .before .before .before .before .loop-test .taken,
+      c .before .before .before .before .before .before .before .before .before .before .before .before .before .before .before .before .before
+          .before .before .before .before .before .before .loop .inv .5,
+    )
 
 loop-less : tie.Need-loop-less Inv-loop μ-loop
 loop-less c = search needs
@@ -66,8 +90,15 @@ loop-again c = (
   omega (arith, c .before .before .before .before .before .before .before .before .before .before .before .before .before .step .ensures .0 .wrote .long),
   omega (arith, c .before .before .before .before .before .before .before .before .before .before .before .before .before .step .ensures .1),
   omega arith,
-  feed-more _ (c .before .before .before .before .before .before .before .before .before .before .before .before .before .before .before .before .before .before .before .before .before .before .before .before .before .before .before .before .before .before .before .args .chunk .now) (c .before .before .before .before .before .before .before .before .before .before .before .before .before .before .before .before .before .before .before .before .before .before .before .loop .i) (omega arith) (c .before .before .before .before .before .before .before .before .before .before .before .before .before .before .before .before .before .before .before .before .before .before .before .loop .inv .4) (c .before .before .before .before .before .before .before .before .before .before .before .before .before .step .ensures .0),
-  c .before .before .before .before .before .before .before .before .before .before .before .before .before .before .before .before .before .before .before .before .before .before .before .loop .inv .5,
+  feed-more _ (c .before .before .before .before .before .before .before .before .before .before .before .before .before .before .before .before .before
+      .before .before .before .before .before .before .before .before .before .before .before .before .before .before .args .chunk .now)
+      (c .before .before .before .before .before .before .before .before .before .before .before .before .before .before .before .before .before .before
+      .before .before .before .before .before .loop .i) (omega arith)
+      (c .before .before .before .before .before .before .before .before .before .before .before .before .before .before .before .before .before
+      .before .before .before .before .before .before .loop .inv .4)
+      (c .before .before .before .before .before .before .before .before .before .before .before .before .before .step .ensures .0),
+  c .before .before .before .before .before .before .before .before .before .before .before .before .before .before .before .before .before .before .before
+      .before .before .before .before .loop .inv .5,
 )
 
 same-length-7 : tie.Need-same-length-7 Inv-loop μ-loop

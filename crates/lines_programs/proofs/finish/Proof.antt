@@ -21,8 +21,11 @@ same-length-4 : tie.Need-same-length-4
 same-length-4 c = search needs
 
 returns : tie.Need-returns
-returns c = let s = c .before .before .before .before .before .before .before .before .before .before .before .before .before .before .args in
-    (finish-none (s .st) (s .line .now) (s .table .now) (s .old .now) (s .new .now) (c .before .before .before .before .before .before .before .if1 .taken) (c .before .before .ends .ensures .0), omega (arith, c .before .before .ends .ensures .1))
+returns c = let s = c .before .before .before .before .before .before .before .before .before .before .before .before .before .before .args in (
+  finish-none (s .st) (s .line .now) (s .table .now) (s .old .now) (s .new .now) (c .before .before .before .before .before .before .before .if1 .taken)
+      (c .before .before .ends .ensures .0),
+  omega (arith, c .before .before .ends .ensures .1),
+)
 
 ended-requires : tie.Need-ended-requires
 ended-requires c κs = search needs
@@ -46,10 +49,23 @@ same-length-9 : tie.Need-same-length-9
 same-length-9 c = search needs
 
 returns-2 : tie.Need-returns-2
-returns-2 c = let s = c .before .before .before .before .before .before .before .before .before .before .before .before .before .before .before .before .before .before .before .before .before .before .before .before .before .before .before .before .before .before .before .args in (
-  finish-some (s .st) (s .line .now) (s .table .now) _ (s .old .now) (s .new .now) _ _ (c .before .before .before .before .before .before .before .before .before .before .before .before .before .before .before .before .before .before .before .before .before .before .before .before .if1 .left) (c .before .before .before .before .before .before .before .before .before .before .before .before .before .before .before .before .before .before .before .before .before .before .before .before .before .before .before .before .before .before .before .pre .0) (c .before .before .before .before .before .before .before .before .before .before .before .before .before .before .before .before .before .before .ended .ensures .0) (c .before .before .ends2 .ensures .0),
-  omega (arith, c .before .before .ends2 .ensures .1, c .before .before .before .before .before .before .before .before .before .before .before .before .before .before .before .before .before .before .ended .ensures .1),
-)
+returns-2 c = let s =
+    c .before .before .before .before .before .before .before .before .before .before .before .before .before .before .before .before .before .before
+    .before .before .before .before .before .before .before .before .before .before .before .before .before .args in (
+      finish-some (s .st) (s .line .now) (s .table .now) _ (s .old .now) (s .new .now) _ _
+          (c .before .before .before .before .before .before .before .before .before .before .before .before .before .before .before .before .before .before
+          .before .before .before .before .before .before .if1 .left)
+          (c .before .before .before .before .before .before .before .before .before .before .before .before .before .before .before .before .before
+          .before .before .before .before .before .before .before .before .before .before .before .before .before .before .pre .0)
+          (c .before .before .before .before .before .before .before .before .before .before .before .before .before .before .before .before
+          .before .before .ended .ensures .0) (c .before .before .ends2 .ensures .0),
+      omega (
+        arith,
+        c .before .before .ends2 .ensures .1,
+        c .before .before .before .before .before .before .before .before .before .before .before .before .before .before .before .before .before .before
+            .ended .ensures .1,
+      ),
+    )
 
 pub finish-spec : {M : Type 1} → statement M
 finish-spec =

@@ -27,7 +27,11 @@ same-length-6 : tie.Need-same-length-6
 same-length-6 c = search needs
 
 returns : tie.Need-returns
-returns c = (step-end _ _ (c .before .before .before .before .before .before .before .before .before .before .before .before .before .before .before .before .before .if1 .taken) (c .before .before .before .before .before .before .before .before .before .before .ended .ensures .0), c .before .before .before .before .before .before .before .before .before .before .ended .ensures .1)
+returns c = (
+  step-end _ _ (c .before .before .before .before .before .before .before .before .before .before .before .before .before .before .before .before .before
+      .if1 .taken) (c .before .before .before .before .before .before .before .before .before .before .ended .ensures .0),
+  c .before .before .before .before .before .before .before .before .before .before .ended .ensures .1,
+)
 
 pushed-requires : tie.Need-pushed-requires
 pushed-requires c κs = search needs
@@ -36,7 +40,12 @@ same-length-7 : tie.Need-same-length-7
 same-length-7 c = search needs
 
 returns-2 : tie.Need-returns-2
-returns-2 c = (step-push _ _ _ _ _ _ _ _ _ _ (c .before .before .before .before .if1 .left) (c .before .before .before .before .before .before .before .before .before .before .before .pre .0) (c .before .before .pushed .ensures) (omega arith), omega arith)
+returns-2 c = (
+  step-push _ _ _ _ _ _ _ _ _ _ (c .before .before .before .before .if1 .left)
+      (c .before .before .before .before .before .before .before .before .before .before .before .pre .0) (c .before .before .pushed .ensures)
+      (omega arith),
+  omega arith,
+)
 
 pub step-spec : {M : Type 1} → statement M
 step-spec =

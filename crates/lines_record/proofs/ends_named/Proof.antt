@@ -23,11 +23,21 @@ is-word-requires-2 c κs = search needs
 
 returns-2 : tie.Need-returns-2
 unfolding endsOf
-returns-2 c = simp (sym (c .before .before .before .before .is-word .ensures) ∙ c .before .before .before .if1 .left, sym (c .before .is-word2 .ensures) ∙ c .if2 .taken)
+returns-2 c =
+    simp (
+      sym (c .before .before .before .before .is-word .ensures) ∙ c .before .before .before .if1 .left,
+      sym (c .before .is-word2 .ensures)
+          ∙ c .if2 .taken,
+    )
 
 returns-3 : tie.Need-returns-3
 unfolding endsOf
-returns-3 c = simp (sym (c .before .before .before .before .is-word .ensures) ∙ c .before .before .before .if1 .left, sym (c .before .is-word2 .ensures) ∙ c .if2 .left)
+returns-3 c =
+    simp (
+      sym (c .before .before .before .before .is-word .ensures) ∙ c .before .before .before .if1 .left,
+      sym (c .before .is-word2 .ensures)
+          ∙ c .if2 .left,
+    )
 
 pub ends-named-spec : {M : Type 1} → statement M
 ends-named-spec =

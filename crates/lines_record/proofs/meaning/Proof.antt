@@ -119,7 +119,13 @@ returns-7 c = rw (c .before .enum-told3 .given .1) (c .span-of .ensures)
 
 returns-8 : tie.Need-returns-8
 unfolding meaningOf
-returns-8 c = simp (c .before .before .before .before .before .enum-told4 .given .1, sym (c .before .before .before .before .hex .ensures) ∙ c .before .before .n .given .1, c .of-bits .ensures)
+returns-8 c =
+    simp (
+      c .before .before .before .before .before .enum-told4 .given .1,
+      sym (c .before .before .before .before .hex .ensures)
+          ∙ c .before .before .n .given .1,
+      c .of-bits .ensures,
+    )
 
 returns-9 : tie.Need-returns-9
 unfolding meaningOf
@@ -127,11 +133,23 @@ returns-9 c = rw (c .before .enum-told6 .given .1) (c .ends-of .ensures)
 
 returns-10 : tie.Need-returns-10
 unfolding meaningOf
-returns-10 c = simp (c .before .before .before .before .before .enum-told7 .given .1, sym (c .before .before .before .before .hex2 .ensures) ∙ c .before .before .n2 .given .1, c .of-bits2 .ensures)
+returns-10 c =
+    simp (
+      c .before .before .before .before .before .enum-told7 .given .1,
+      sym (c .before .before .before .before .hex2 .ensures)
+          ∙ c .before .before .n2 .given .1,
+      c .of-bits2 .ensures,
+    )
 
 returns-11 : tie.Need-returns-11
 unfolding meaningOf
-returns-11 c = simp (c .before .before .before .before .before .enum-told9 .given .1, sym (c .before .before .before .before .hex3 .ensures) ∙ c .before .before .n3 .given .1, c .of-bits3 .ensures)
+returns-11 c =
+    simp (
+      c .before .before .before .before .before .enum-told9 .given .1,
+      sym (c .before .before .before .before .hex3 .ensures)
+          ∙ c .before .before .n3 .given .1,
+      c .of-bits3 .ensures,
+    )
 
 returns-12 : tie.Need-returns-12
 unfolding meaningOf

@@ -18,7 +18,9 @@ meaning-requires : tie.Need-meaning-requires
 meaning-requires c κs = search needs
 
 returns-2 : tie.Need-returns-2
-returns-2 c = c .meaning .ensures ∙ rw (c .before .word-of .ensures) (sym (two-fields _ _ (rw (c .before .before .before .tab-at .ensures .0) at (c .before .before .if1 .left))))
+returns-2 c =
+    c .meaning .ensures
+    ∙ rw (c .before .word-of .ensures) (sym (two-fields _ _ (rw (c .before .before .before .tab-at .ensures .0) at (c .before .before .if1 .left))))
 
 pub record-after-spec : {M : Type 1} → statement M
 record-after-spec =

@@ -27,7 +27,23 @@ same-length : tie.Need-same-length
 same-length c = search needs
 
 returns : tie.Need-returns
-returns c = (then (then (then (then (c .before .before .before .before .before .before .before .before .before .before .before .before .before .before .before .before .before .before .put-word .ensures) (c .before .before .before .before .before .before .before .before .before .before .before .before .before .before .put-basis .ensures .0)) (c .before .before .before .before .before .before .before .before .before .before .put-byte .ensures)) (c .before .before .before .before .before .before .put-span .ensures .0)) (c .before .before .put-knots .ensures .0), omega (arith, c .before .before .before .before .before .before .before .before .before .before .before .before .before .before .before .before .before .before .put-word .ensures .next, c .before .before .before .before .before .before .before .before .before .before .before .before .before .before .put-basis .ensures .1, c .before .before .before .before .before .before .before .before .before .before .put-byte .ensures .next, c .before .before .before .before .before .before .put-span .ensures .1, c .before .before .put-knots .ensures .1))
+returns c = (
+  then (then (then (then (c .before .before .before .before .before .before .before .before .before .before .before .before .before .before .before
+      .before .before .before .put-word .ensures)
+      (c .before .before .before .before .before .before .before .before .before .before .before .before .before .before .put-basis .ensures .0))
+      (c .before .before .before .before .before .before .before .before .before .before .put-byte .ensures))
+      (c .before .before .before .before .before .before .put-span .ensures .0)) (c .before .before .put-knots .ensures .0),
+  omega (
+    arith,
+    c .before .before .before .before .before .before .before .before .before .before .before .before .before .before .before
+        .before .before .before .put-word .ensures .next,
+    c .before .before .before .before .before .before .before .before .before .before .before .before .before .before
+        .put-basis .ensures .1,
+    c .before .before .before .before .before .before .before .before .before .before .put-byte .ensures .next,
+    c .before .before .before .before .before .before .put-span .ensures .1,
+    c .before .before .put-knots .ensures .1,
+  ),
+)
 
 pub put-curve-spec : {M : Type 1} → statement M
 put-curve-spec =

@@ -39,7 +39,13 @@ loop-less : tie.Need-loop-less Inv-loop μ-loop
 loop-less c = search needs
 
 loop-again : tie.Need-loop-again Inv-loop μ-loop
-loop-again c = (omega arith, omega (arith, c .before .before .put-line .ensures .1), knots-more (c .before .before .before .before .before .before .before .before .before .before .args .knots .now) (c .before .before .before .before .before .before .before .loop .i) _ (omega arith) (c .before .before .before .before .before .before .before .loop .inv .2) (c .before .before .put-line .ensures .0))
+loop-again c = (
+  omega arith,
+  omega (arith, c .before .before .put-line .ensures .1),
+  knots-more (c .before .before .before .before .before .before .before .before .before .before .args .knots .now)
+      (c .before .before .before .before .before .before .before .loop .i) _ (omega arith)
+      (c .before .before .before .before .before .before .before .loop .inv .2) (c .before .before .put-line .ensures .0),
+)
 
 same-length : tie.Need-same-length Inv-loop μ-loop
 same-length c = c .before .loop .inv .2 .long

@@ -19,8 +19,14 @@ same-length c = search needs
 
 returns : tie.Need-returns
 returns c = (
-  then (then (c .before .before .before .before .before .before .before .before .before .before .put-word .ensures) (c .before .before .before .before .before .before .put-double .ensures .0)) (c .before .before .put-byte .ensures),
-  omega (arith, c .before .before .before .before .before .before .before .before .before .before .put-word .ensures .next, c .before .before .before .before .before .before .put-double .ensures .1, c .before .before .put-byte .ensures .next),
+  then (then (c .before .before .before .before .before .before .before .before .before .before .put-word .ensures)
+      (c .before .before .before .before .before .before .put-double .ensures .0)) (c .before .before .put-byte .ensures),
+  omega (
+    arith,
+    c .before .before .before .before .before .before .before .before .before .before .put-word .ensures .next,
+    c .before .before .before .before .before .before .put-double .ensures .1,
+    c .before .before .put-byte .ensures .next,
+  ),
 )
 
 pub put-line-spec : {M : Type 1} → statement M

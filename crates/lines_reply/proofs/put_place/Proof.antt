@@ -36,7 +36,51 @@ same-length : tie.Need-same-length
 same-length c = search needs
 
 returns : tie.Need-returns
-returns c = (then (then (then (then (then (then (then (c .before .before .before .before .before .before .before .before .before .before .before .before .before .before .before .before .before .before .before .before .before .before .before .before .before .before .before .before .before .before .put-word .ensures) (c .before .before .before .before .before .before .before .before .before .before .before .before .before .before .before .before .before .before .before .before .before .before .before .before .before .before .put-double .ensures .0)) (c .before .before .before .before .before .before .before .before .before .before .before .before .before .before .before .before .before .before .before .before .before .before .put-byte .ensures)) (c .before .before .before .before .before .before .before .before .before .before .before .before .before .before .before .before .before .before .put-ground .ensures .0)) (c .before .before .before .before .before .before .before .before .before .before .before .before .before .before .put-byte2 .ensures)) (c .before .before .before .before .before .before .before .before .before .before .put-decimal .ensures .0)) (c .before .before .before .before .before .before .put-seconds .ensures .0)) (c .before .before .put-byte3 .ensures), omega (arith, c .before .before .before .before .before .before .before .before .before .before .before .before .before .before .before .before .before .before .before .before .before .before .before .before .before .before .before .before .before .before .put-word .ensures .next, c .before .before .before .before .before .before .before .before .before .before .before .before .before .before .before .before .before .before .before .before .before .before .before .before .before .before .put-double .ensures .1, c .before .before .before .before .before .before .before .before .before .before .before .before .before .before .before .before .before .before .before .before .before .before .put-byte .ensures .next, c .before .before .before .before .before .before .before .before .before .before .before .before .before .before .before .before .before .before .put-ground .ensures .1, c .before .before .before .before .before .before .before .before .before .before .before .before .before .before .put-byte2 .ensures .next, c .before .before .before .before .before .before .before .before .before .before .put-decimal .ensures .1, c .before .before .before .before .before .before .put-seconds .ensures .1, c .before .before .put-byte3 .ensures .next))
+returns c = (
+  then (then (then (then (then
+      (then (then (c .before .before .before .before .before .before .before .before .before .before .before .before .before .before .before .before
+      .before .before .before .before .before .before .before .before .before .before .before .before .before .before .put-word .ensures)
+      (c .before .before .before .before .before .before .before .before .before .before .before .before .before .before .before .before .before
+      .before .before .before .before .before .before .before .before .before .put-double .ensures .0))
+      (c .before .before .before .before .before .before .before .before .before .before .before .before .before .before .before .before
+      .before .before .before .before .before .before .put-byte .ensures))
+      (c .before .before .before .before .before .before .before .before .before .before .before .before .before .before .before
+      .before .before .before .put-ground .ensures .0))
+      (c .before .before .before .before .before .before .before .before .before .before .before .before .before .before
+      .put-byte2 .ensures))
+      (c .before .before .before .before .before .before .before .before .before .before .put-decimal .ensures
+      .0)) (c .before .before .before .before .before .before .put-seconds .ensures .0))
+      (c .before .before .put-byte3 .ensures),
+  omega (
+    arith,
+    c .before .before .before .before .before .before .before .before .before .before
+        .before .before .before .before .before .before .before .before .before .before
+        .before .before .before .before .before .before .before .before .before .before
+        .put-word .ensures .next,
+    c .before .before .before .before .before .before .before .before
+        .before .before .before .before .before .before .before .before
+        .before .before .before .before .before .before .before .before
+        .before .before .put-double .ensures .1,
+    c .before .before .before .before .before .before
+        .before .before .before .before .before .before
+        .before .before .before .before .before .before
+        .before .before .before .before .put-byte
+        .ensures .next,
+    c .before .before .before .before
+        .before .before .before .before
+        .before .before .before
+        .before .before .before
+        .before .before
+        .before .before
+        .put-ground
+        .ensures
+        .1,
+    c .before .before .before .before .before .before .before .before .before .before .before .before .before .before .put-byte2 .ensures .next,
+    c .before .before .before .before .before .before .before .before .before .before .put-decimal .ensures .1,
+    c .before .before .before .before .before .before .put-seconds .ensures .1,
+    c .before .before .put-byte3 .ensures .next,
+  ),
+)
 
 pub put-place-spec : {M : Type 1} → statement M
 put-place-spec =

@@ -33,7 +33,21 @@ same-length : tie.Need-same-length
 same-length c = search needs
 
 returns : tie.Need-returns
-returns c = (then (then (then (c .before .before .before .before .before .before .before .before .before .before .before .before .before .before .before .before .put-word .ensures) (rw (c .before .before .before .before .before .before .before .before .before .before .before .before .number .ensures) at (c .before .before .before .before .before .before .before .before .before .before .before .put-decimal .ensures .0))) (rw (c .before .before .before .before .before .before .before .knot-of .ensures) at (c .before .before .before .before .before .before .put-places .ensures .0))) (c .before .before .put-byte .ensures), omega (arith, c .before .before .before .before .before .before .before .before .before .before .before .before .before .before .before .before .put-word .ensures .next, c .before .before .before .before .before .before .before .before .before .before .before .put-decimal .ensures .1, c .before .before .before .before .before .before .put-places .ensures .1, c .before .before .put-byte .ensures .next))
+returns c = (
+  then (then (then (c .before .before .before .before .before .before .before .before .before .before .before .before .before .before .before .before
+      .put-word .ensures) (rw (c .before .before .before .before .before .before .before .before .before .before .before .before .number .ensures) at
+      (c .before .before .before .before .before .before .before .before .before .before .before .put-decimal .ensures .0)))
+      (rw (c .before .before .before .before .before .before .before .knot-of .ensures) at
+      (c .before .before .before .before .before .before .put-places .ensures .0))) (c .before .before .put-byte .ensures),
+  omega (
+    arith,
+    c .before .before .before .before .before .before .before .before .before .before .before .before .before .before .before
+        .before .put-word .ensures .next,
+    c .before .before .before .before .before .before .before .before .before .before .before .put-decimal .ensures .1,
+    c .before .before .before .before .before .before .put-places .ensures .1,
+    c .before .before .put-byte .ensures .next,
+  ),
+)
 
 pub put-refused-spec : {M : Type 1} → statement M
 put-refused-spec =

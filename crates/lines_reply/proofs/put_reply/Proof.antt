@@ -43,7 +43,8 @@ part-put-curve-start : tie.Need-part-put-curve-start
 part-put-curve-start c = search needs
 
 part-put-curve-end : tie.Need-part-put-curve-end
-part-put-curve-end c = let h : c .before .before .t4 .given .0 .1 .0 ≤ length (c .before .before .before .before .before .before .args .turned .now) = rw (c .before .before .t4 .given .1) at (c .before .before .before .before .before .before .pre .0) in omega arith
+part-put-curve-end c = let h : c .before .before .t4 .given .0 .1 .0 ≤ length (c .before .before .before .before .before .before .args .turned .now) =
+    rw (c .before .before .t4 .given .1) at (c .before .before .before .before .before .before .pre .0) in omega arith
 
 put-curve-requires : tie.Need-put-curve-requires
 put-curve-requires c κs = (simp length-take (omega arith), omega arith)
@@ -57,29 +58,42 @@ same-length c = search needs
 
 returns-2 : tie.Need-returns-2
 unfolding textOf
-returns-2 c = (rw (c .before .before .before .before .before .t .given .1) (c .before .before .put-refused .ensures .0), omega (arith, c .before .before .put-refused .ensures .1))
+returns-2 c = (
+  rw (c .before .before .before .before .before .t .given .1) (c .before .before .put-refused .ensures .0),
+  omega (arith, c .before .before .put-refused .ensures .1),
+)
 
 same-length-2 : tie.Need-same-length-2
 same-length-2 c = search needs
 
 returns-3 : tie.Need-returns-3
 unfolding textOf
-returns-3 c = (rw (c .before .before .before .before .before .before .t2 .given .1) (c .before .before .put-line .ensures .0), omega (arith, c .before .before .put-line .ensures .1))
+returns-3 c = (
+  rw (c .before .before .before .before .before .before .t2 .given .1) (c .before .before .put-line .ensures .0),
+  omega (arith, c .before .before .put-line .ensures .1),
+)
 
 same-length-3 : tie.Need-same-length-3
 same-length-3 c = search needs
 
 returns-4 : tie.Need-returns-4
 unfolding textOf
-returns-4 c = (rw (c .before .before .before .before .before .t3 .given .1) (c .before .before .put-place .ensures .0), omega (arith, c .before .before .put-place .ensures .1))
+returns-4 c = (
+  rw (c .before .before .before .before .before .t3 .given .1) (c .before .before .put-place .ensures .0),
+  omega (arith, c .before .before .put-place .ensures .1),
+)
 
 same-length-4 : tie.Need-same-length-4
 same-length-4 c = search needs
 
 returns-5 : tie.Need-returns-5
 unfolding textOf
-returns-5 c = let z : c .before .before .before .before .before .before .t4 .given .0 .1 .0 - 0 ≡ c .before .before .before .before .before .before .t4 .given .0 .1 .0 = omega arith in
-    (rw (c .before .before .before .before .before .before .t4 .given .1) (rw z at (c .before .before .put-curve .ensures .0)), c .before .before .put-curve .ensures .1)
+returns-5 c =
+    let z : c .before .before .before .before .before .before .t4 .given .0 .1 .0 - 0 ≡ c .before .before .before .before .before .before .t4 .given .0 .1
+    .0 = omega arith in (
+      rw (c .before .before .before .before .before .before .t4 .given .1) (rw z at (c .before .before .put-curve .ensures .0)),
+      c .before .before .put-curve .ensures .1,
+    )
 
 pub put-reply-spec : {M : Type 1} → statement M
 put-reply-spec =

@@ -27,8 +27,20 @@ same-length : tie.Need-same-length
 same-length c = search needs
 
 returns : tie.Need-returns
-returns c = let g : goodSpan (c .before .before .before .before .before .before .before .before .before .before .before .before .before .before .before .before .args .span) ≡ true = sym (c .before .before .before .before .before .before .before .before .before .before .before .before .before .before .is-span .ensures) ∙ c .before .before .before .before .before .before .before .before .before .before .before .before .before .if1 .taken in
-    (rw g (then (then (then (c .before .before .before .before .before .before .before .before .before .before .put-word .ensures) (c .before .before .before .before .before .before .put-decimal .ensures .0)) (c .before .before .put-byte .ensures)) (nothing _ _)), omega (arith, c .before .before .before .before .before .before .before .before .before .before .put-word .ensures .next, c .before .before .before .before .before .before .put-decimal .ensures .1, c .before .before .put-byte .ensures .next))
+returns c =
+    let g : goodSpan (c .before .before .before .before .before .before .before .before .before .before .before .before .before .before .before .before
+    .args .span) ≡ true =
+    sym (c .before .before .before .before .before .before .before .before .before .before .before .before .before .before .is-span .ensures)
+    ∙ c .before .before .before .before .before .before .before .before .before .before .before .before .before .if1 .taken in (
+      rw g (then (then (then (c .before .before .before .before .before .before .before .before .before .before .put-word .ensures)
+          (c .before .before .before .before .before .before .put-decimal .ensures .0)) (c .before .before .put-byte .ensures)) (nothing _ _)),
+      omega (
+        arith,
+        c .before .before .before .before .before .before .before .before .before .before .put-word .ensures .next,
+        c .before .before .before .before .before .before .put-decimal .ensures .1,
+        c .before .before .put-byte .ensures .next,
+      ),
+    )
 
 returns-2 : tie.Need-returns-2
 returns-2 c = let g : goodSpan (c .before .before .before .args .span) ≡ false = sym (c .before .is-span .ensures) ∙ c .if1 .left in

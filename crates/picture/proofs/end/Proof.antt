@@ -35,7 +35,8 @@ part-put-picture-start-2 : tie.Need-part-put-picture-start-2
 part-put-picture-start-2 c = search needs
 
 part-put-picture-end-2 : tie.Need-part-put-picture-end-2
-part-put-picture-end-2 c = let k : c .before .c .given .0 .1 .1 .0 ≤ places = rw (c .before .c .given .1) at (c .before .before .before .before .before .before .pre .0) in omega arith
+part-put-picture-end-2 c = let k : c .before .c .given .0 .1 .1 .0 ≤ places =
+    rw (c .before .c .given .1) at (c .before .before .before .before .before .before .pre .0) in omega arith
 
 put-picture-requires-2 : tie.Need-put-picture-requires-2
 put-picture-requires-2 c κs = (simp length-take (omega arith), omega arith)
@@ -52,7 +53,13 @@ same-length-2 c = search needs
 
 returns-2 : tie.Need-returns-2
 unfolding endsWith
-returns-2 c = let z : c .before .before .before .before .before .before .c .given .0 .1 .1 .0 - 0 ≡ c .before .before .before .before .before .before .c .given .0 .1 .1 .0 = omega arith in (rw (c .before .before .before .before .before .before .c .given .1) (rw z at (c .before .before .put-picture2 .ensures .0)), c .before .before .put-picture2 .ensures .1)
+returns-2 c =
+    let z : c .before .before .before .before .before .before .c .given .0 .1 .1 .0 - 0 ≡ c .before .before .before .before .before .before .c .given .0 .1
+    .1 .0 = omega arith
+    in (
+      rw (c .before .before .before .before .before .before .c .given .1) (rw z at (c .before .before .put-picture2 .ensures .0)),
+      c .before .before .put-picture2 .ensures .1,
+    )
 
 pub end-spec : {M : Type 1} → statement M
 end-spec =

@@ -25,7 +25,15 @@ same-length-2 : tie.Need-same-length-2
 same-length-2 c = search needs
 
 returns : tie.Need-returns
-returns c = (drawn-so (openOf (c .before .before .before .before .before .before .before .before .before .before .before .before .before .before .args .len) (c .before .before .before .before .before .before .before .before .before .before .before .before .before .before .args .line .now)) (c .before .before .before .before .before .before .before .before .before .before .before .before .before .before .args .h .finds) (c .before .before .before .before .before .before .before .before .before .before .before .before .before .before .args .h .fault) (c .before .before .before .before .before .before .before .before .before .said .ensures) (c .before .before .before .before .before .before .answer .ensures) (c .before .finds-after .ensures) (c .fault-after .ensures), c .before .before .before .before .before .before .answer .ensures .few)
+returns c = (
+  drawn-so (openOf (c .before .before .before .before .before .before .before .before .before .before .before .before .before .before .args .len)
+      (c .before .before .before .before .before .before .before .before .before .before .before .before .before .before .args .line .now))
+      (c .before .before .before .before .before .before .before .before .before .before .before .before .before .before .args .h .finds)
+      (c .before .before .before .before .before .before .before .before .before .before .before .before .before .before .args .h .fault)
+      (c .before .before .before .before .before .before .before .before .before .said .ensures)
+      (c .before .before .before .before .before .before .answer .ensures) (c .before .finds-after .ensures) (c .fault-after .ensures),
+  c .before .before .before .before .before .before .answer .ensures .few,
+)
 
 pub line-spec : {M : Type 1} → statement M
 line-spec =

@@ -2,7 +2,20 @@
 use native.Mathlib.Omega.{arith}
 use mathlib.Core.Path.{_≡_, refl, sym, ap, _∙_}
 use Prim.Native.Nat.{_+_, _*_, _-_, _/_, _%_, _≤_, _<_}
-use Rattle.picture_scale.specs.Scale.{heightOf, thousandths, curveHeight, columnOf, rowOf, piecesOf, shown, knotColumn, curveExtent, knotsExtent, extentOf, aboveOf}
+use Rattle.picture_scale.specs.Scale.{
+  heightOf,
+  thousandths,
+  curveHeight,
+  columnOf,
+  rowOf,
+  piecesOf,
+  shown,
+  knotColumn,
+  curveExtent,
+  knotsExtent,
+  extentOf,
+  aboveOf,
+}
 use Rattle.picture_scale.specs.Bounds.{Narrow, Open}
 use Rattle.picture_scale.proofs.Heights.{height-below, height-above, curve-begins, curve-goes-on, no-knots, knots-go-on}
 use Rattle.picture_scale.proofs.curve_extent.Statement.{statement}
@@ -22,7 +35,11 @@ curve-height-requires : tie.Need-curve-height-requires Inv-loop μ-loop
 curve-height-requires c κs = (omega arith, omega arith)
 
 loop-holds : tie.Need-loop-holds Inv-loop μ-loop
-loop-holds c = (omega arith, curve-begins _ _ _ (c .curve-height .ensures .0), record { low = c .curve-height .ensures .1 .0; ordered = omega arith; high = c .curve-height .ensures .1 .1 })
+loop-holds c = (
+  omega arith,
+  curve-begins _ _ _ (c .curve-height .ensures .0),
+  record { low = c .curve-height .ensures .1 .0; ordered = omega arith; high = c .curve-height .ensures .1 .1 },
+)
 
 add-i : tie.Need-add-i Inv-loop μ-loop
 add-i c = omega arith
@@ -37,10 +54,20 @@ loop-less : tie.Need-loop-less Inv-loop μ-loop
 loop-less c = omega arith
 
 loop-again : tie.Need-loop-again Inv-loop μ-loop
-loop-again c = (omega arith, curve-goes-on _ _ _ (c .before .before .before .loop .i) (c .before .before .before .loop .inv .1) (c .before .curve-height2 .ensures .0) (c .widen .ensures .0), c .widen .ensures .1)
+loop-again c = (
+  omega arith,
+  curve-goes-on _ _ _ (c .before .before .before .loop .i) (c .before .before .before .loop .inv .1) (c .before .curve-height2 .ensures .0)
+      (c .widen .ensures .0),
+  c .widen .ensures .1,
+)
 
 returns : tie.Need-returns Inv-loop μ-loop
-returns c = (c .before .loop .inv .1 ∙ ap (curveExtent (c .before .before .before .before .args .b) (c .before .before .before .before .args .knots .now) (c .before .before .before .before .args .p)) (omega arith), c .before .loop .inv .2)
+returns c = (
+  c .before .loop .inv .1
+      ∙ ap (curveExtent (c .before .before .before .before .args .b) (c .before .before .before .before .args .knots .now)
+      (c .before .before .before .before .args .p)) (omega arith),
+  c .before .loop .inv .2,
+)
 
 pub curve-extent-spec : {M : Type 1} → statement M
 curve-extent-spec =

@@ -1,7 +1,20 @@
 -- A value, or a refusal.
 use native.Mathlib.Omega.{arith}
 use mathlib.Core.Path.{_≡_, refl, sym, ap, _∙_}
-use Rattle.picture_scale.specs.Scale.{heightOf, thousandths, curveHeight, columnOf, rowOf, piecesOf, shown, knotColumn, curveExtent, knotsExtent, extentOf, aboveOf}
+use Rattle.picture_scale.specs.Scale.{
+  heightOf,
+  thousandths,
+  curveHeight,
+  columnOf,
+  rowOf,
+  piecesOf,
+  shown,
+  knotColumn,
+  curveExtent,
+  knotsExtent,
+  extentOf,
+  aboveOf,
+}
 use borrow.Author.Needs.{needs}
 use Rattle.picture_scale.proofs.curve_height.Statement.{statement}
 use Rattle.picture_scale.proofs.curve_height.Tie as tie
@@ -31,11 +44,27 @@ enum-told c = search needs
 
 returns : tie.Need-returns
 unfolding curveHeight
-returns c = (rw (← c .before .before .before .before .before .before .double-of .ensures, ← c .before .before .before .before .before .double-of2 .ensures, ← c .before .before .before .before .spline .ensures, c .before .before .e .given .1) (c .height .ensures .0), c .height .ensures .1)
+returns c = (
+  rw (
+    ← c .before .before .before .before .before .before .double-of .ensures,
+    ← c .before .before .before .before .before .double-of2 .ensures,
+    ← c .before .before .before .before .spline .ensures,
+    c .before .before .e .given .1,
+  ) (c .height .ensures .0),
+  c .height .ensures .1,
+)
 
 returns-2 : tie.Need-returns-2
 unfolding curveHeight
-returns-2 c = (rw (← c .before .before .before .before .double-of .ensures, ← c .before .before .before .double-of2 .ensures, ← c .before .before .spline .ensures, c .enum-told .given .1) refl, (omega arith, omega arith))
+returns-2 c = (
+  rw (
+    ← c .before .before .before .before .double-of .ensures,
+    ← c .before .before .before .double-of2 .ensures,
+    ← c .before .before .spline .ensures,
+    c .enum-told .given .1,
+  ) refl,
+  (omega arith, omega arith),
+)
 
 pub curve-height-spec : {M : Type 1} → statement M
 curve-height-spec =

@@ -2,7 +2,20 @@
 use native.Mathlib.Omega.{arith}
 use mathlib.Core.Path.{_≡_, refl, sym, ap, _∙_}
 use Prim.Native.Nat.{_+_, _*_, _-_, _/_, _%_, _≤_, _<_}
-use Rattle.picture_scale.specs.Scale.{heightOf, thousandths, curveHeight, columnOf, rowOf, piecesOf, shown, knotColumn, curveExtent, knotsExtent, extentOf, aboveOf}
+use Rattle.picture_scale.specs.Scale.{
+  heightOf,
+  thousandths,
+  curveHeight,
+  columnOf,
+  rowOf,
+  piecesOf,
+  shown,
+  knotColumn,
+  curveExtent,
+  knotsExtent,
+  extentOf,
+  aboveOf,
+}
 use Rattle.picture_scale.specs.Bounds.{Narrow, Open}
 use Rattle.picture_scale.specs.declared.Extent.{Extent}
 use borrow.Author.Needs.{needs}
@@ -31,7 +44,16 @@ add-t8 c = search needs
 
 returns : tie.Need-returns
 unfolding extentOf
-returns c = (ap (λ (x : Extent). record { lo = x .lo - 1; hi = x .hi + 1 }) (rw (c .before .before .before .curve-extent .ensures .0, c .before .before .before .before .pieces .ensures .0) at (c .before .before .knots-extent .ensures .0)), record { low = omega (arith, c .before .before .knots-extent .ensures .1 .low); ordered = omega (arith, c .before .before .knots-extent .ensures .1 .ordered); high = omega (arith, c .before .before .knots-extent .ensures .1 .high) })
+returns c = (
+  ap (λ (x : Extent). record { lo = x .lo - 1; hi = x .hi + 1 })
+      (rw (c .before .before .before .curve-extent .ensures .0, c .before .before .before .before .pieces .ensures .0) at
+      (c .before .before .knots-extent .ensures .0)),
+  record {
+    low = omega (arith, c .before .before .knots-extent .ensures .1 .low);
+    ordered = omega (arith, c .before .before .knots-extent .ensures .1 .ordered);
+    high = omega (arith, c .before .before .knots-extent .ensures .1 .high);
+  },
+)
 
 pub extent-of-spec : {M : Type 1} → statement M
 extent-of-spec =

@@ -22,13 +22,21 @@ sub-result : tie.Need-sub-result
 sub-result c = omega (arith, c .before .lesser2 .ensures)
 
 returns : tie.Need-returns
-returns c = (height-below _ _ _ _ _ (c .before .before .before .before .to-bits .ensures) (c .before .before .before .lesser .ensures) (c .before .before .units .ensures .0) (c .before .lesser2 .ensures) (omega arith), (omega (arith, c .before .lesser2 .ensures), omega (arith, c .before .lesser2 .ensures)))
+returns c = (
+  height-below _ _ _ _ _ (c .before .before .before .before .to-bits .ensures) (c .before .before .before .lesser .ensures)
+      (c .before .before .units .ensures .0) (c .before .lesser2 .ensures) (omega arith),
+  (omega (arith, c .before .lesser2 .ensures), omega (arith, c .before .lesser2 .ensures)),
+)
 
 add-result : tie.Need-add-result
 add-result c = omega (arith, c .before .lesser2 .ensures)
 
 returns-2 : tie.Need-returns-2
-returns-2 c = (height-above _ _ _ _ _ (c .before .before .before .before .to-bits .ensures) (c .before .before .before .lesser .ensures) (c .before .before .units .ensures .0) (c .before .lesser2 .ensures) (omega arith), (omega (arith, c .before .lesser2 .ensures), omega (arith, c .before .lesser2 .ensures)))
+returns-2 c = (
+  height-above _ _ _ _ _ (c .before .before .before .before .to-bits .ensures) (c .before .before .before .lesser .ensures)
+      (c .before .before .units .ensures .0) (c .before .lesser2 .ensures) (omega arith),
+  (omega (arith, c .before .lesser2 .ensures), omega (arith, c .before .lesser2 .ensures)),
+)
 
 pub height-spec : {M : Type 1} → statement M
 height-spec =

@@ -1,7 +1,20 @@
 -- A case for each basis.
 use borrow.Author.Tests.{le-leb, lt-leb, eq-eqb, ne-eqb}
 use mathlib.Core.Path.{_≡_, refl, sym, ap, _∙_}
-use Rattle.picture_scale.specs.Scale.{heightOf, thousandths, curveHeight, columnOf, rowOf, piecesOf, shown, knotColumn, curveExtent, knotsExtent, extentOf, aboveOf}
+use Rattle.picture_scale.specs.Scale.{
+  heightOf,
+  thousandths,
+  curveHeight,
+  columnOf,
+  rowOf,
+  piecesOf,
+  shown,
+  knotColumn,
+  curveExtent,
+  knotsExtent,
+  extentOf,
+  aboveOf,
+}
 use borrow.Author.Needs.{needs}
 use Rattle.picture_scale.proofs.knot_column.Statement.{statement}
 use Rattle.picture_scale.proofs.knot_column.Tie as tie
@@ -72,7 +85,9 @@ column-requires-6 c κs = search needs
 
 returns : tie.Need-returns
 unfolding knotColumn
-returns c = rw (c .before .before .before .enum-told .given .1) (rw (c .before .before .above .ensures, c .before .above2 .ensures) at (c .column .ensures .0), c .column .ensures .1)
+returns c =
+    rw (c .before .before .before .enum-told .given .1)
+    (rw (c .before .before .above .ensures, c .before .above2 .ensures) at (c .column .ensures .0), c .column .ensures .1)
 
 returns-2 : tie.Need-returns-2
 unfolding knotColumn
@@ -80,7 +95,9 @@ returns-2 c = rw (c .before .before .enum-told2 .given .1) (rw (c .before .above
 
 returns-3 : tie.Need-returns-3
 unfolding knotColumn
-returns-3 c = rw (c .before .before .before .enum-told3 .given .1) (rw (c .before .before .above4 .ensures, c .before .above5 .ensures) at (c .column3 .ensures .0), c .column3 .ensures .1)
+returns-3 c =
+    rw (c .before .before .before .enum-told3 .given .1)
+    (rw (c .before .before .above4 .ensures, c .before .above5 .ensures) at (c .column3 .ensures .0), c .column3 .ensures .1)
 
 returns-4 : tie.Need-returns-4
 unfolding knotColumn
@@ -88,7 +105,9 @@ returns-4 c = rw (c .before .before .enum-told4 .given .1) (rw (c .before .above
 
 returns-5 : tie.Need-returns-5
 unfolding knotColumn
-returns-5 c = rw (c .before .before .before .enum-told5 .given .1) (rw (c .before .before .above7 .ensures, c .before .above8 .ensures) at (c .column5 .ensures .0), c .column5 .ensures .1)
+returns-5 c =
+    rw (c .before .before .before .enum-told5 .given .1)
+    (rw (c .before .before .above7 .ensures, c .before .above8 .ensures) at (c .column5 .ensures .0), c .column5 .ensures .1)
 
 returns-6 : tie.Need-returns-6
 unfolding knotColumn

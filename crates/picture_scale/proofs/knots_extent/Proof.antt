@@ -3,7 +3,20 @@ use borrow.Author.Needs.{needs}
 use native.Mathlib.Omega.{arith}
 use mathlib.Core.Path.{_≡_, refl, sym, ap, _∙_}
 use Prim.Native.Nat.{_+_, _*_, _-_, _/_, _%_, _≤_, _<_}
-use Rattle.picture_scale.specs.Scale.{heightOf, thousandths, curveHeight, columnOf, rowOf, piecesOf, shown, knotColumn, curveExtent, knotsExtent, extentOf, aboveOf}
+use Rattle.picture_scale.specs.Scale.{
+  heightOf,
+  thousandths,
+  curveHeight,
+  columnOf,
+  rowOf,
+  piecesOf,
+  shown,
+  knotColumn,
+  curveExtent,
+  knotsExtent,
+  extentOf,
+  aboveOf,
+}
 use Rattle.picture_scale.specs.Bounds.{Narrow, Open}
 use Rattle.picture_scale.proofs.Heights.{height-below, height-above, curve-begins, curve-goes-on, no-knots, knots-go-on}
 use lib.ListN.{length}
@@ -38,10 +51,19 @@ loop-less : tie.Need-loop-less Inv-loop μ-loop
 loop-less c = omega arith
 
 loop-again : tie.Need-loop-again Inv-loop μ-loop
-loop-again c = (omega arith, knots-go-on _ _ _ (c .before .before .before .loop .j) (c .before .before .before .loop .inv .1) (c .with-knot .ensures .0), c .with-knot .ensures .1)
+loop-again c = (
+  omega arith,
+  knots-go-on _ _ _ (c .before .before .before .loop .j) (c .before .before .before .loop .inv .1) (c .with-knot .ensures .0),
+  c .with-knot .ensures .1,
+)
 
 returns : tie.Need-returns Inv-loop μ-loop
-returns c = (c .before .loop .inv .1 ∙ ap (knotsExtent (c .before .before .before .args .b) (c .before .before .before .args .knots .now) (c .before .before .before .args .first)) (omega arith), c .before .loop .inv .2)
+returns c = (
+  c .before .loop .inv .1
+      ∙ ap (knotsExtent (c .before .before .before .args .b) (c .before .before .before .args .knots .now) (c .before .before .before .args .first))
+      (omega arith),
+  c .before .loop .inv .2,
+)
 
 pub knots-extent-spec : {M : Type 1} → statement M
 knots-extent-spec =

@@ -2,7 +2,20 @@
 use native.Mathlib.Omega.{arith}
 use mathlib.Core.Path.{_≡_, refl, sym, ap, _∙_}
 use Prim.Native.Nat.{_+_, _*_, _-_, _/_, _%_, _≤_, _<_}
-use Rattle.picture_scale.specs.Scale.{heightOf, thousandths, curveHeight, columnOf, rowOf, piecesOf, shown, knotColumn, curveExtent, knotsExtent, extentOf, aboveOf}
+use Rattle.picture_scale.specs.Scale.{
+  heightOf,
+  thousandths,
+  curveHeight,
+  columnOf,
+  rowOf,
+  piecesOf,
+  shown,
+  knotColumn,
+  curveExtent,
+  knotsExtent,
+  extentOf,
+  aboveOf,
+}
 use borrow.Author.Needs.{needs}
 use Rattle.picture_scale.proofs.row.Statement.{statement}
 use Rattle.picture_scale.proofs.row.Tie as tie

@@ -17,7 +17,14 @@ greater-requires : tie.Need-greater-requires
 greater-requires c κs = search needs
 
 returns : tie.Need-returns
-returns c = (simp (c .before .lesser .ensures, c .greater .ensures), record { low = omega (arith, c .before .lesser .ensures); ordered = omega (arith, c .before .lesser .ensures, c .greater .ensures); high = omega (arith, c .greater .ensures) })
+returns c = (
+  simp (c .before .lesser .ensures, c .greater .ensures),
+  record {
+    low = omega (arith, c .before .lesser .ensures);
+    ordered = omega (arith, c .before .lesser .ensures, c .greater .ensures);
+    high = omega (arith, c .greater .ensures);
+  },
+)
 
 pub widen-spec : {M : Type 1} → statement M
 widen-spec = tie.close (tie.spec lesser-requires greater-requires returns)

@@ -1,6 +1,19 @@
 -- A knot that is shown, and one that is not.
 use mathlib.Core.Path.{_≡_, refl, sym, ap, _∙_}
-use Rattle.picture_scale.specs.Scale.{heightOf, thousandths, curveHeight, columnOf, rowOf, piecesOf, shown, knotColumn, curveExtent, knotsExtent, extentOf, aboveOf}
+use Rattle.picture_scale.specs.Scale.{
+  heightOf,
+  thousandths,
+  curveHeight,
+  columnOf,
+  rowOf,
+  piecesOf,
+  shown,
+  knotColumn,
+  curveExtent,
+  knotsExtent,
+  extentOf,
+  aboveOf,
+}
 use borrow.Author.Needs.{needs}
 use Rattle.picture_scale.proofs.with_knot.Statement.{statement}
 use Rattle.picture_scale.proofs.with_knot.Tie as tie
@@ -20,7 +33,10 @@ widen-requires : tie.Need-widen-requires
 widen-requires c κs = search needs
 
 returns : tie.Need-returns
-returns c = (rw (← c .before .before .before .is-shown .ensures, c .before .before .if1 .taken) (rw (c .before .height .ensures .0) at (c .widen .ensures .0)), c .widen .ensures .1)
+returns c = (
+  rw (← c .before .before .before .is-shown .ensures, c .before .before .if1 .taken) (rw (c .before .height .ensures .0) at (c .widen .ensures .0)),
+  c .widen .ensures .1,
+)
 
 returns-2 : tie.Need-returns-2
 returns-2 c = (rw (← c .before .is-shown .ensures, c .if1 .left) refl, c .before .before .pre .1)

@@ -20,7 +20,9 @@ int-to-float-result c = le→leb (c .before .before .before .args .n) (2 ^ 53) (
 
 returns-2 : tie.Need-returns-2
 unfolding ofBits
-returns-2 c = minus-depth (c .before .before .before .args .n) (c .before .before .before .pre) (c .before .before .if1 .left) ∙ ap (λ (b : Bool). depthOf b (c .before .before .before .args .n)) (sym (c .before .if2 .taken))
+returns-2 c =
+    minus-depth (c .before .before .before .args .n) (c .before .before .before .pre) (c .before .before .if1 .left)
+    ∙ ap (λ (b : Bool). depthOf b (c .before .before .before .args .n)) (sym (c .before .if2 .taken))
 
 int-to-float-result-2 : tie.Need-int-to-float-result-2
 unfolding inFloat
@@ -28,7 +30,9 @@ int-to-float-result-2 c = le→leb (c .before .before .before .args .n) (2 ^ 53)
 
 returns-3 : tie.Need-returns-3
 unfolding ofBits
-returns-3 c = plus-depth (c .before .before .before .args .n) (c .before .before .before .pre) (c .before .before .if1 .left) ∙ ap (λ (b : Bool). depthOf b (c .before .before .before .args .n)) (sym (c .before .if2 .left))
+returns-3 c =
+    plus-depth (c .before .before .before .args .n) (c .before .before .before .pre) (c .before .before .if1 .left)
+    ∙ ap (λ (b : Bool). depthOf b (c .before .before .before .args .n)) (sym (c .before .if2 .left))
 
 pub depth-spec : {M : Type 1} → statement M
 depth-spec =

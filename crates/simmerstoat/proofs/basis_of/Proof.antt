@@ -27,7 +27,17 @@ returns-6 : tie.Need-returns-6
 returns-6 c = ap chosenOf (sym (c .match .keys6))
 
 returns-7 : tie.Need-returns-7
-returns-7 c = sym (List·getD-eq-default (map Known bases) Unknown {n = c .before .args .n} (omega (arith, c .match .rest .0 .0 .0 .0 .0 .1, c .match .rest .0 .0 .0 .0 .1, c .match .rest .0 .0 .0 .1, c .match .rest .0 .0 .1, c .match .rest .0 .1, c .match .rest .1)))
+returns-7 c =
+    sym (List·getD-eq-default (map Known bases) Unknown {n = c .before .args .n}
+    (omega (
+      arith,
+      c .match .rest .0 .0 .0 .0 .0 .1,
+      c .match .rest .0 .0 .0 .0 .1,
+      c .match .rest .0 .0 .0 .1,
+      c .match .rest .0 .0 .1,
+      c .match .rest .0 .1,
+      c .match .rest .1,
+    )))
 
 pub basis-of-spec : {M : Type 1} → statement M
 basis-of-spec = tie.close (tie.spec returns returns-2 returns-3 returns-4 returns-5 returns-6 returns-7)

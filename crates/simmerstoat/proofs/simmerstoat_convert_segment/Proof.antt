@@ -24,7 +24,8 @@ returns c =
     let out = args .out .now in
     let asked = c .before .before .basis-of .ensures in
     let unknown = c .enum-told .given .1 in (
-      unfound noBasis (λ f. chosen (chosenOf (args .to)) noBasis (λ t. convertedReply (answerOf (convertedSegmentOf f t (args .cv .now) (length out))))) asked unknown,
+      unfound noBasis (λ f. chosen (chosenOf (args .to)) noBasis (λ t. convertedReply (answerOf (convertedSegmentOf f t (args .cv .now) (length out)))))
+          asked unknown,
       unfound out (λ f. chosen (chosenOf (args .to)) out (λ t. bufferOf (convertedSegmentOf f t (args .cv .now) (length out)) out)) asked unknown,
     )
 
@@ -46,8 +47,10 @@ returns-2 c =
     let from = c .before .before .before .before .c .given .0 .0 in
     let asked-to = c .before .before .basis-of2 .ensures in
     let unknown = c .enum-told2 .given .1 in (
-      found noBasis (λ f. chosen (chosenOf (args .to)) noBasis (λ t. convertedReply (answerOf (convertedSegmentOf f t (args .cv .now) (length out))))) asked known (unfound noBasis (λ t. convertedReply (answerOf (convertedSegmentOf from t (args .cv .now) (length out)))) asked-to unknown),
-      found out (λ f. chosen (chosenOf (args .to)) out (λ t. bufferOf (convertedSegmentOf f t (args .cv .now) (length out)) out)) asked known (unfound out (λ t. bufferOf (convertedSegmentOf from t (args .cv .now) (length out)) out) asked-to unknown),
+      found noBasis (λ f. chosen (chosenOf (args .to)) noBasis (λ t. convertedReply (answerOf (convertedSegmentOf f t (args .cv .now) (length out))))) asked
+          known (unfound noBasis (λ t. convertedReply (answerOf (convertedSegmentOf from t (args .cv .now) (length out)))) asked-to unknown),
+      found out (λ f. chosen (chosenOf (args .to)) out (λ t. bufferOf (convertedSegmentOf f t (args .cv .now) (length out)) out)) asked known
+          (unfound out (λ t. bufferOf (convertedSegmentOf from t (args .cv .now) (length out)) out) asked-to unknown),
     )
 
 convert-segment-requires : tie.Need-convert-segment-requires
@@ -71,8 +74,10 @@ returns-3 c =
     let call = c .before .before .before .convert-segment .ensures in
     let reply = c .conversion-reply .ensures ∙ ap convertedReply (call .0) in
     let buffer = call .1 in (
-      found noBasis (λ f. chosen (chosenOf (args .to)) noBasis (λ t. convertedReply (answerOf (convertedSegmentOf f t (args .cv .now) (length out))))) asked known (found noBasis (λ t. convertedReply (answerOf (convertedSegmentOf from t (args .cv .now) (length out)))) asked-to known-to reply),
-      found out (λ f. chosen (chosenOf (args .to)) out (λ t. bufferOf (convertedSegmentOf f t (args .cv .now) (length out)) out)) asked known (found out (λ t. bufferOf (convertedSegmentOf from t (args .cv .now) (length out)) out) asked-to known-to buffer),
+      found noBasis (λ f. chosen (chosenOf (args .to)) noBasis (λ t. convertedReply (answerOf (convertedSegmentOf f t (args .cv .now) (length out))))) asked
+          known (found noBasis (λ t. convertedReply (answerOf (convertedSegmentOf from t (args .cv .now) (length out)))) asked-to known-to reply),
+      found out (λ f. chosen (chosenOf (args .to)) out (λ t. bufferOf (convertedSegmentOf f t (args .cv .now) (length out)) out)) asked known
+          (found out (λ t. bufferOf (convertedSegmentOf from t (args .cv .now) (length out)) out) asked-to known-to buffer),
     )
 
 pub simmerstoat-convert-segment-spec : {M : Type 1} → statement M

@@ -16,7 +16,10 @@ enum-told : tie.Need-enum-told
 enum-told c = search needs
 
 curve-value-requires : tie.Need-curve-value-requires
-curve-value-requires c κs = let s = curve-sound (c .before .before .before .before .args .b) (c .before .before .before .before .args .x) (c .before .before .before .before .args .knots .now) (sym (c .before .before .curve-verdict .ensures) ∙ c .enum-told .given .1) in (s .many, s .few)
+curve-value-requires c κs = let s =
+    curve-sound (c .before .before .before .before .args .b) (c .before .before .before .before .args .x)
+    (c .before .before .before .before .args .knots .now) (sym (c .before .before .curve-verdict .ensures) ∙ c .enum-told .given .1)
+    in (s .many, s .few)
 
 returns : tie.Need-returns
 unfolding splineOf

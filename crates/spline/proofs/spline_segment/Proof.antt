@@ -17,7 +17,9 @@ enum-told : tie.Need-enum-told
 enum-told c = search needs
 
 segment-value-requires : tie.Need-segment-value-requires
-segment-value-requires c κs = segment-sound (c .before .before .before .before .args .x) (c .before .before .before .before .args .cv .now) (sym (c .before .before .segment-verdict .ensures) ∙ c .enum-told .given .1) .many
+segment-value-requires c κs =
+    segment-sound (c .before .before .before .before .args .x) (c .before .before .before .before .args .cv .now)
+    (sym (c .before .before .segment-verdict .ensures) ∙ c .enum-told .given .1) .many
 
 returns : tie.Need-returns
 unfolding splineSegmentOf

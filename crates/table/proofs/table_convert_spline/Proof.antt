@@ -23,7 +23,8 @@ returns c =
     let a = c .before .before .before .before .before .before .before .before .before .args in
     let good = sym (c .before .before .before .before .before .before .is-span .ensures) ∙ c .before .before .before .before .before .if1 .taken in
     let made = c .before .before .before .convert-spline .ensures in
-    tells-base (a .t .span) (a .to) (a .out .now) _ _ (converted-base (a .t) (a .to) (a .knots .now) (length (a .out .now)) good) (c .handed-on .ensures) (made .0) (made .1)
+    tells-base (a .t .span) (a .to) (a .out .now) _ _ (converted-base (a .t) (a .to) (a .knots .now) (length (a .out .now)) good) (c .handed-on .ensures)
+    (made .0) (made .1)
 
 without-span-requires : tie.Need-without-span-requires
 without-span-requires c κs = search needs
@@ -32,7 +33,8 @@ returns-2 : tie.Need-returns-2
 returns-2 c =
     let a = c .before .before .before .before .before .args in
     let bad = sym (c .before .before .is-span .ensures) ∙ c .before .if1 .left in
-    tells-refusal (a .t .span) (a .to) (a .out .now) _ _ (converted-spanless (a .t) (a .to) (a .knots .now) (length (a .out .now)) _ bad (c .without-span .ensures))
+    tells-refusal (a .t .span) (a .to) (a .out .now) _ _
+    (converted-spanless (a .t) (a .to) (a .knots .now) (length (a .out .now)) _ bad (c .without-span .ensures))
 
 pub table-convert-spline-spec : {M : Type 1} → statement M
 table-convert-spline-spec =

@@ -12,13 +12,19 @@ spline-requires : tie.Need-spline-requires
 spline-requires c κs = search needs
 
 returns : tie.Need-returns
-returns c = c .spline .ensures ∙ sym (spline-base (c .before .before .before .before .args .t) (c .before .before .before .before .args .x) (c .before .before .before .before .args .knots .now) (sym (c .before .before .is-span .ensures) ∙ c .before .if1 .taken))
+returns c =
+    c .spline .ensures
+    ∙ sym (spline-base (c .before .before .before .before .args .t) (c .before .before .before .before .args .x)
+    (c .before .before .before .before .args .knots .now) (sym (c .before .before .is-span .ensures) ∙ c .before .if1 .taken))
 
 without-span-requires : tie.Need-without-span-requires
 without-span-requires c κs = search needs
 
 returns-2 : tie.Need-returns-2
-returns-2 c = spline-spanless (c .before .before .before .before .args .t) (c .before .before .before .before .args .x) (c .before .before .before .before .args .knots .now) _ (sym (c .before .before .is-span .ensures) ∙ c .before .if1 .left) (c .without-span .ensures)
+returns-2 c =
+    spline-spanless (c .before .before .before .before .args .t) (c .before .before .before .before .args .x)
+    (c .before .before .before .before .args .knots .now) _ (sym (c .before .before .is-span .ensures) ∙ c .before .if1 .left)
+    (c .without-span .ensures)
 
 pub table-spline-spec : {M : Type 1} → statement M
 table-spline-spec =

@@ -16,13 +16,18 @@ with-second-requires : tie.Need-with-second-requires
 with-second-requires c κs = (sym (c .before .before .is-span .ensures) ∙ c .before .if1 .taken)
 
 returns : tie.Need-returns
-returns c = let a = c .before .before .before .before .before .args in c .with-second .ensures ∙ ap (timedOf (a .t .span)) (c .before .spline-inverse-by .ensures) ∙ sym (inverse-base (a .o .ends) (a .o .method) (a .t) (a .y) (a .knots .now) (a .o .check) (a .o .limit) (a .o .precision) (sym (c .before .before .before .is-span .ensures) ∙ c .before .before .if1 .taken))
+returns c = let a = c .before .before .before .before .before .args
+    in c .with-second .ensures ∙ ap (timedOf (a .t .span)) (c .before .spline-inverse-by .ensures)
+    ∙ sym (inverse-base (a .o .ends) (a .o .method) (a .t) (a .y) (a .knots .now) (a .o .check) (a .o .limit) (a .o .precision)
+    (sym (c .before .before .before .is-span .ensures) ∙ c .before .before .if1 .taken))
 
 without-span-requires : tie.Need-without-span-requires
 without-span-requires c κs = search needs
 
 returns-2 : tie.Need-returns-2
-returns-2 c = let a = c .before .before .before .before .args in inverse-spanless (a .o .ends) (a .o .method) (a .t) (a .y) (a .knots .now) (a .o .check) (a .o .limit) (a .o .precision) _ (sym (c .before .before .is-span .ensures) ∙ c .before .if1 .left) (c .without-span .ensures)
+returns-2 c = let a = c .before .before .before .before .args
+    in inverse-spanless (a .o .ends) (a .o .method) (a .t) (a .y) (a .knots .now) (a .o .check) (a .o .limit) (a .o .precision) _
+    (sym (c .before .before .is-span .ensures) ∙ c .before .if1 .left) (c .without-span .ensures)
 
 pub table-spline-inverse-by-spec : {M : Type 1} → statement M
 table-spline-inverse-by-spec =

@@ -14,10 +14,13 @@ enum-told : tie.Need-enum-told
 enum-told c = search needs
 
 returns : tie.Need-returns
-returns c = by-length (c .before .before .before .before .args .b) (c .before .before .before .before .args .n) _ (c .before .before .before .curve-length .ensures) (c .before .l .given .1)
+returns c =
+    by-length (c .before .before .before .before .args .b) (c .before .before .before .before .args .n) _ (c .before .before .before .curve-length .ensures)
+    (c .before .l .given .1)
 
 returns-2 : tie.Need-returns-2
-returns-2 c = by-span (c .before .before .before .args .b) (c .before .before .before .args .n) (c .before .before .curve-length .ensures) (c .enum-told .given .1)
+returns-2 c =
+    by-span (c .before .before .before .args .b) (c .before .before .before .args .n) (c .before .before .curve-length .ensures) (c .enum-told .given .1)
 
 pub without-span-spec : {M : Type 1} → statement M
 without-span-spec =

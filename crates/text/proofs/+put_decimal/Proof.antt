@@ -62,7 +62,11 @@ put-decimal-returns : (t : ℕ) → put-decimal-lts.Need-returns (
   put-decimal-below t,
   put-decimal.Post,
 ) (put-decimal-at t) put-decimal.Post
-put-decimal-returns t c = (rw (dec-one (c .before .before .before .before .before .before .args .k) (c .before .before .before .before .before .before .args .n) (omega arith)) (c .before .before .put-byte .ensures), omega (arith, c .before .before .put-byte .ensures .next))
+put-decimal-returns t c = (
+  rw (dec-one (c .before .before .before .before .before .before .args .k) (c .before .before .before .before .before .before .args .n) (omega arith))
+      (c .before .before .put-byte .ensures),
+  omega (arith, c .before .before .put-byte .ensures .next),
+)
 
 put-decimal-sub-put-decimal : (t : ℕ) → put-decimal-lts.Need-sub-put-decimal (
   put-byte-reads.Asked,
@@ -78,7 +82,8 @@ put-decimal-put-decimal-requires : (t : ℕ) → put-decimal-lts.Need-put-decima
   put-decimal-below t,
   put-decimal.Post,
 ) (put-decimal-at t) put-decimal.Post
-put-decimal-put-decimal-requires t c κs = let z : 0 < c .before .before .before .args .k = dec-room (c .before .before .before .args .n) (c .before .before .before .args .k) (omega arith) (omega arith) in
+put-decimal-put-decimal-requires t c κs = let z : 0 < c .before .before .before .args .k =
+    dec-room (c .before .before .before .args .n) (c .before .before .before .args .k) (omega arith) (omega arith) in
     (omega arith, (dec-less (c .before .before .before .args .n) (c .before .before .before .args .k) (omega arith) z, omega arith))
 
 put-decimal-cast-put-byte-2 : (t : ℕ) → put-decimal-lts.Need-cast-put-byte-2 (
@@ -103,7 +108,9 @@ put-decimal-put-byte-requires-2 : (t : ℕ) → put-decimal-lts.Need-put-byte-re
   put-decimal-below t,
   put-decimal.Post,
 ) (put-decimal-at t) put-decimal.Post
-put-decimal-put-byte-requires-2 t c κs = let z : 0 < c .before .before .before .before .before .before .before .args .k = dec-room (c .before .before .before .before .before .before .before .args .n) (c .before .before .before .before .before .before .before .args .k) (omega arith) (omega arith) in
+put-decimal-put-byte-requires-2 t c κs = let z : 0 < c .before .before .before .before .before .before .before .args .k =
+    dec-room (c .before .before .before .before .before .before .before .args .n) (c .before .before .before .before .before .before .before .args .k)
+    (omega arith) (omega arith) in
     omega (arith, c .before .before .before .put-decimal .ensures .0 .long, c .before .before .before .put-decimal .ensures .1)
 
 put-decimal-same-length-2 : (t : ℕ) → put-decimal-lts.Need-same-length-2 (
@@ -120,8 +127,12 @@ put-decimal-returns-2 : (t : ℕ) → put-decimal-lts.Need-returns-2 (
   put-decimal-below t,
   put-decimal.Post,
 ) (put-decimal-at t) put-decimal.Post
-put-decimal-returns-2 t c = let z : 0 < c .before .before .before .before .before .before .before .before .before .before .args .k = dec-room (c .before .before .before .before .before .before .before .before .before .before .args .n) (c .before .before .before .before .before .before .before .before .before .before .args .k) (omega arith) (omega arith) in
-    (dec-more _ _ (omega arith) z (c .before .before .before .before .before .before .put-decimal .ensures .0) (c .before .before .put-byte2 .ensures), omega (arith, c .before .before .put-byte2 .ensures .next, c .before .before .before .before .before .before .put-decimal .ensures .1))
+put-decimal-returns-2 t c = let z : 0 < c .before .before .before .before .before .before .before .before .before .before .args .k =
+    dec-room (c .before .before .before .before .before .before .before .before .before .before .args .n)
+    (c .before .before .before .before .before .before .before .before .before .before .args .k) (omega arith) (omega arith) in (
+      dec-more _ _ (omega arith) z (c .before .before .before .before .before .before .put-decimal .ensures .0) (c .before .before .put-byte2 .ensures),
+      omega (arith, c .before .before .put-byte2 .ensures .next, c .before .before .before .before .before .before .put-decimal .ensures .1),
+    )
 
 pub +put-decimal-spec : {M : Type 1} → statement M
 +put-decimal-spec = close μ-put-decimal λ t. put-decimal-lts.spec (

@@ -71,7 +71,8 @@ put-hex-put-byte-requires : (t : ℕ) → put-hex-lts.Need-put-byte-requires (
   put-byte-reads.Asked,
   put-byte-reads.Learnt,
 ) (put-hex-at t) put-hex.Post
-put-hex-put-byte-requires t c κs = omega (arith, c .before .before .before .before .put-hex .ensures .0 .long, c .before .before .before .before .put-hex .ensures .1)
+put-hex-put-byte-requires t c κs =
+    omega (arith, c .before .before .before .before .put-hex .ensures .0 .long, c .before .before .before .before .put-hex .ensures .1)
 
 put-hex-same-length : (t : ℕ) → put-hex-lts.Need-same-length (
   put-hex-below t,
@@ -92,7 +93,9 @@ put-hex-returns-2 : (t : ℕ) → put-hex-lts.Need-returns-2 (
   put-byte-reads.Learnt,
 ) (put-hex-at t) put-hex.Post
 put-hex-returns-2 t c = (
-  hex-more _ _ _ (c .before .before .before .before .before .before .before .before .before .if1 .left) (c .before .before .before .before .before .before .before .put-hex .ensures .0) (c .before .before .before .glyph .ensures) (c .before .before .put-byte .ensures),
+  hex-more _ _ _ (c .before .before .before .before .before .before .before .before .before .if1 .left)
+      (c .before .before .before .before .before .before .before .put-hex .ensures .0) (c .before .before .before .glyph .ensures)
+      (c .before .before .put-byte .ensures),
   omega (arith, c .before .before .put-byte .ensures .next, c .before .before .before .before .before .before .before .put-hex .ensures .1),
 )
 

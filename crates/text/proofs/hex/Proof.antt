@@ -28,7 +28,10 @@ digit-requires : tie.Need-digit-requires Inv-loop μ-loop
 digit-requires c κs = search needs
 
 returns-2 : tie.Need-returns-2 Inv-loop μ-loop
-returns-2 c = sym (hex-is _ (omega arith) ∙ sym (c .before .before .before .before .loop .inv .3) ∙ value-stop (c .before .before .before .before .loop .n) _ (c .before .before .before .before .before .before .before .args .s .now) (c .before .before .before .before .loop .i) (omega arith) (c .before .digit .ensures .0) (c .if2 .taken))
+returns-2 c =
+    sym (hex-is _ (omega arith) ∙ sym (c .before .before .before .before .loop .inv .3)
+    ∙ value-stop (c .before .before .before .before .loop .n) _ (c .before .before .before .before .before .before .before .args .s .now)
+    (c .before .before .before .before .loop .i) (omega arith) (c .before .digit .ensures .0) (c .if2 .taken))
 
 mul-n : tie.Need-mul-n Inv-loop μ-loop
 mul-n c = omega (arith, room16 (c .before .before .before .before .loop .n) (c .before .before .before .before .loop .i) (omega arith) (omega arith))
@@ -43,10 +46,19 @@ loop-less : tie.Need-loop-less Inv-loop μ-loop
 loop-less c = search needs
 
 loop-again : tie.Need-loop-again Inv-loop μ-loop
-loop-again c = (omega arith, omega arith, grow16 _ _ _ (omega arith) (omega arith), value-step (c .before .before .before .before .loop .n) _ (c .before .before .before .before .before .before .before .args .s .now) (c .before .before .before .before .loop .i) (omega arith) (c .before .digit .ensures .0) (c .if2 .left) ∙ c .before .before .before .before .loop .inv .3)
+loop-again c = (
+  omega arith,
+  omega arith,
+  grow16 _ _ _ (omega arith) (omega arith),
+  value-step (c .before .before .before .before .loop .n) _ (c .before .before .before .before .before .before .before .args .s .now)
+      (c .before .before .before .before .loop .i) (omega arith) (c .before .digit .ensures .0) (c .if2 .left)
+      ∙ c .before .before .before .before .loop .inv .3,
+)
 
 returns-3 : tie.Need-returns-3 Inv-loop μ-loop
-returns-3 c = sym (hex-is _ (omega arith) ∙ sym (c .before .loop .inv .3) ∙ value-done _ (c .before .before .before .before .args .s .now) (c .before .loop .i) (omega arith) (omega arith))
+returns-3 c =
+    sym (hex-is _ (omega arith) ∙ sym (c .before .loop .inv .3)
+    ∙ value-done _ (c .before .before .before .before .args .s .now) (c .before .loop .i) (omega arith) (omega arith))
 
 pub hex-spec : {M : Type 1} → statement M
 hex-spec =

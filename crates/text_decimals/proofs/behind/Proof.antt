@@ -34,7 +34,9 @@ returns-3 : tie.Need-returns-3
 returns-3 c = behind-two _ _ (c .before .before .before .before .before .number-in .ensures) (c .before .before .before .f .given .1) (c .if2 .taken)
 
 returns-4 : tie.Need-returns-4
-returns-4 c = behind-three _ _ (c .before .before .before .before .before .number-in .ensures) (c .before .before .before .f .given .1) (c .before .if1 .left) (c .if2 .left)
+returns-4 c =
+    behind-three _ _ (c .before .before .before .before .before .number-in .ensures) (c .before .before .before .f .given .1) (c .before .if1 .left)
+    (c .if2 .left)
 
 pub behind-spec : {M : Type 1} → statement M
 behind-spec =

@@ -31,7 +31,10 @@ digit-in-requires : tie.Need-digit-in-requires Inv-loop μ-loop
 digit-in-requires c κs = search needs
 
 returns-3 : tie.Need-returns-3 Inv-loop μ-loop
-returns-3 c = sym (number-is _ _ (omega arith) (omega arith) ∙ sym (c .before .before .before .before .loop .inv .5) ∙ digits-stop (c .before .before .before .before .loop .n) _ (c .before .before .before .before .before .before .before .before .args .s .now) (c .before .before .before .before .loop .i) (omega arith) (c .before .digit-in .ensures .0) (c .if3 .taken))
+returns-3 c =
+    sym (number-is _ _ (omega arith) (omega arith) ∙ sym (c .before .before .before .before .loop .inv .5)
+    ∙ digits-stop (c .before .before .before .before .loop .n) _ (c .before .before .before .before .before .before .before .before .args .s .now)
+    (c .before .before .before .before .loop .i) (omega arith) (c .before .digit-in .ensures .0) (c .if3 .taken))
 
 mul-n : tie.Need-mul-n Inv-loop μ-loop
 mul-n c = omega (arith, room10 (c .before .before .before .before .loop .n) (c .before .before .before .before .loop .i) (omega arith) (omega arith))
@@ -46,10 +49,21 @@ loop-less : tie.Need-loop-less Inv-loop μ-loop
 loop-less c = search needs
 
 loop-again : tie.Need-loop-again Inv-loop μ-loop
-loop-again c = (omega arith, omega arith, omega arith, omega arith, grow10 _ _ _ (omega arith) (omega arith), digits-step (c .before .before .before .before .loop .n) _ (c .before .before .before .before .before .before .before .before .args .s .now) (c .before .before .before .before .loop .i) (omega arith) (c .before .digit-in .ensures .0) (c .if3 .left) ∙ c .before .before .before .before .loop .inv .5)
+loop-again c = (
+  omega arith,
+  omega arith,
+  omega arith,
+  omega arith,
+  grow10 _ _ _ (omega arith) (omega arith),
+  digits-step (c .before .before .before .before .loop .n) _ (c .before .before .before .before .before .before .before .before .args .s .now)
+      (c .before .before .before .before .loop .i) (omega arith) (c .before .digit-in .ensures .0) (c .if3 .left)
+      ∙ c .before .before .before .before .loop .inv .5,
+)
 
 returns-4 : tie.Need-returns-4 Inv-loop μ-loop
-returns-4 c = sym (number-is _ _ (omega arith) (omega arith) ∙ sym (c .before .loop .inv .5) ∙ digits-done _ (c .before .before .before .before .before .args .s .now) (c .before .loop .i) (omega arith) (omega arith))
+returns-4 c =
+    sym (number-is _ _ (omega arith) (omega arith) ∙ sym (c .before .loop .inv .5)
+    ∙ digits-done _ (c .before .before .before .before .before .args .s .now) (c .before .loop .i) (omega arith) (omega arith))
 
 pub number-in-spec : {M : Type 1} → statement M
 number-in-spec =

@@ -36,7 +36,9 @@ enum-told : tie.Need-enum-told
 enum-told c = search needs
 
 returns : tie.Need-returns
-returns c = no-whole _ _ (c .before .before .before .before .before .place-of .ensures .0) (omega arith) (c .before .before .number-in .ensures) (c .enum-told .given .1)
+returns c =
+    no-whole _ _ (c .before .before .before .before .before .place-of .ensures .0) (omega arith) (c .before .before .number-in .ensures)
+    (c .enum-told .given .1)
 
 sub-behind : tie.Need-sub-behind
 sub-behind c = search needs
@@ -57,16 +59,33 @@ enum-told-2 : tie.Need-enum-told-2
 enum-told-2 c = search needs
 
 returns-2 : tie.Need-returns-2
-returns-2 c = no-rest _ _ (c .before .before .before .before .before .before .before .before .before .before .place-of .ensures .0) (omega arith) (c .before .before .before .before .before .before .before .number-in .ensures) (c .before .before .before .before .before .w .given .1) (c .before .before .behind .ensures) (c .enum-told2 .given .1)
+returns-2 c =
+    no-rest _ _ (c .before .before .before .before .before .before .before .before .before .before .place-of .ensures .0) (omega arith)
+    (c .before .before .before .before .before .before .before .number-in .ensures) (c .before .before .before .before .before .w .given .1)
+    (c .before .before .behind .ensures) (c .enum-told2 .given .1)
 
 mul-t18 : tie.Need-mul-t18
-mul-t18 c = omega (arith, number-small 9 _ _ (sym (c .before .before .before .before .before .before .before .before .number-in .ensures) ∙ c .before .before .before .before .before .before .w .given .1))
+mul-t18 c =
+    omega (
+      arith,
+      number-small 9 _ _ (sym (c .before .before .before .before .before .before .before .before .number-in .ensures)
+          ∙ c .before .before .before .before .before .before .w .given .1),
+    )
 
 add-t19 : tie.Need-add-t19
-add-t19 c = omega (arith, number-small 9 _ _ (sym (c .before .before .before .before .before .before .before .before .number-in .ensures) ∙ c .before .before .before .before .before .before .w .given .1), behind-small _ _ (sym (c .before .before .before .behind .ensures) ∙ c .before .f .given .1))
+add-t19 c =
+    omega (
+      arith,
+      number-small 9 _ _ (sym (c .before .before .before .before .before .before .before .before .number-in .ensures)
+          ∙ c .before .before .before .before .before .before .w .given .1),
+      behind-small _ _ (sym (c .before .before .before .behind .ensures) ∙ c .before .f .given .1),
+    )
 
 returns-3 : tie.Need-returns-3
-returns-3 c = with-point _ _ (c .before .before .before .before .before .before .before .before .before .before .before .place-of .ensures .0) (omega arith) (c .before .before .before .before .before .before .before .before .number-in .ensures) (c .before .before .before .before .before .before .w .given .1) (c .before .before .before .behind .ensures) (c .before .f .given .1)
+returns-3 c =
+    with-point _ _ (c .before .before .before .before .before .before .before .before .before .before .before .place-of .ensures .0) (omega arith)
+    (c .before .before .before .before .before .before .before .before .number-in .ensures)
+    (c .before .before .before .before .before .before .w .given .1) (c .before .before .before .behind .ensures) (c .before .f .given .1)
 
 number-in-requires-2 : tie.Need-number-in-requires-2
 number-in-requires-2 c κs = search needs
@@ -78,13 +97,17 @@ enum-told-3 : tie.Need-enum-told-3
 enum-told-3 c = search needs
 
 returns-4 : tie.Need-returns-4
-returns-4 c = plain-none _ _ (c .before .before .before .before .place-of .ensures .0) (omega arith) (c .before .before .number-in2 .ensures) (c .enum-told3 .given .1)
+returns-4 c =
+    plain-none _ _ (c .before .before .before .before .place-of .ensures .0) (omega arith) (c .before .before .number-in2 .ensures)
+    (c .enum-told3 .given .1)
 
 mul-t21 : tie.Need-mul-t21
 mul-t21 c = omega (arith, number-small 9 _ _ (sym (c .before .before .before .number-in2 .ensures) ∙ c .before .w2 .given .1))
 
 returns-5 : tie.Need-returns-5
-returns-5 c = plain _ _ (c .before .before .before .before .before .place-of .ensures .0) (omega arith) (c .before .before .before .number-in2 .ensures) (c .before .w2 .given .1)
+returns-5 c =
+    plain _ _ (c .before .before .before .before .before .place-of .ensures .0) (omega arith) (c .before .before .before .number-in2 .ensures)
+    (c .before .w2 .given .1)
 
 pub thousandths-spec : {M : Type 1} → statement M
 thousandths-spec =

@@ -31,7 +31,8 @@ put-fixed-put-whole-requires : (t : ℕ) → put-fixed-lts.Need-put-whole-requir
   put-fixed-below t,
   put-fixed.Post,
 ) (put-fixed-at t) put-fixed.Post
-put-fixed-put-whole-requires t c κs = (whole-short (c .before .before .before .args .n) (c .before .before .before .args .d) (omega arith) (c .before .if1 .taken), omega arith)
+put-fixed-put-whole-requires t c κs =
+    (whole-short (c .before .before .before .args .n) (c .before .before .before .args .d) (omega arith) (c .before .if1 .taken), omega arith)
 
 put-fixed-put-byte-requires : (t : ℕ) → put-fixed-lts.Need-put-byte-requires (
   put-whole-reads.Asked,
@@ -61,7 +62,13 @@ put-fixed-returns : (t : ℕ) → put-fixed-lts.Need-returns (
   put-fixed-below t,
   put-fixed.Post,
 ) (put-fixed-at t) put-fixed.Post
-put-fixed-returns t c = (fixed-none (c .before .before .before .before .before .before .before .before .before .before .args .d) (c .before .before .before .before .before .before .before .before .before .before .args .n) (c .before .before .before .before .before .before .before .before .if1 .taken) (c .before .before .before .before .before .before .put-whole .ensures .0) (c .before .before .put-byte .ensures), omega (arith, c .before .before .before .before .before .before .put-whole .ensures .1, c .before .before .put-byte .ensures .next))
+put-fixed-returns t c = (
+  fixed-none (c .before .before .before .before .before .before .before .before .before .before .args .d)
+      (c .before .before .before .before .before .before .before .before .before .before .args .n)
+      (c .before .before .before .before .before .before .before .before .if1 .taken)
+      (c .before .before .before .before .before .before .put-whole .ensures .0) (c .before .before .put-byte .ensures),
+  omega (arith, c .before .before .before .before .before .before .put-whole .ensures .1, c .before .before .put-byte .ensures .next),
+)
 
 put-fixed-sub-put-fixed : (t : ℕ) → put-fixed-lts.Need-sub-put-fixed (
   put-whole-reads.Asked,
@@ -81,7 +88,8 @@ put-fixed-put-fixed-requires : (t : ℕ) → put-fixed-lts.Need-put-fixed-requir
   put-fixed-below t,
   put-fixed.Post,
 ) (put-fixed-at t) put-fixed.Post
-put-fixed-put-fixed-requires t c κs = (omega arith, (fixed-less (c .before .before .before .args .n) (c .before .before .before .args .d) (omega arith) (c .before .if1 .left), omega arith))
+put-fixed-put-fixed-requires t c κs =
+    (omega arith, (fixed-less (c .before .before .before .args .n) (c .before .before .before .args .d) (omega arith) (c .before .if1 .left), omega arith))
 
 put-fixed-cast-put-byte : (t : ℕ) → put-fixed-lts.Need-cast-put-byte (
   put-whole-reads.Asked,
@@ -131,7 +139,13 @@ put-fixed-returns-2 : (t : ℕ) → put-fixed-lts.Need-returns-2 (
   put-fixed-below t,
   put-fixed.Post,
 ) (put-fixed-at t) put-fixed.Post
-put-fixed-returns-2 t c = (fixed-more (c .before .before .before .before .before .before .before .before .before .before .args .d) (c .before .before .before .before .before .before .before .before .before .before .args .n) (c .before .before .before .before .before .before .before .before .if1 .left) (c .before .before .before .before .before .before .put-fixed .ensures .0) (c .before .before .put-byte2 .ensures), omega (arith, c .before .before .before .before .before .before .put-fixed .ensures .1, c .before .before .put-byte2 .ensures .next))
+put-fixed-returns-2 t c = (
+  fixed-more (c .before .before .before .before .before .before .before .before .before .before .args .d)
+      (c .before .before .before .before .before .before .before .before .before .before .args .n)
+      (c .before .before .before .before .before .before .before .before .if1 .left)
+      (c .before .before .before .before .before .before .put-fixed .ensures .0) (c .before .before .put-byte2 .ensures),
+  omega (arith, c .before .before .before .before .before .before .put-fixed .ensures .1, c .before .before .put-byte2 .ensures .next),
+)
 
 pub +put-fixed-spec : {M : Type 1} → statement M
 +put-fixed-spec = close μ-put-fixed λ t. put-fixed-lts.spec (

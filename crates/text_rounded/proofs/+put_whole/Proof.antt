@@ -61,7 +61,11 @@ put-whole-returns : (t : ℕ) → put-whole-lts.Need-returns (
   put-whole-below t,
   put-whole.Post,
 ) (put-whole-at t) put-whole.Post
-put-whole-returns t c = (rw (dec-one (c .before .before .before .before .before .before .args .k) (c .before .before .before .before .before .before .args .n) (omega arith)) (c .before .before .put-byte .ensures), omega (arith, c .before .before .put-byte .ensures .next))
+put-whole-returns t c = (
+  rw (dec-one (c .before .before .before .before .before .before .args .k) (c .before .before .before .before .before .before .args .n) (omega arith))
+      (c .before .before .put-byte .ensures),
+  omega (arith, c .before .before .put-byte .ensures .next),
+)
 
 put-whole-sub-put-whole : (t : ℕ) → put-whole-lts.Need-sub-put-whole (
   put-byte-reads.Asked,
@@ -77,7 +81,8 @@ put-whole-put-whole-requires : (t : ℕ) → put-whole-lts.Need-put-whole-requir
   put-whole-below t,
   put-whole.Post,
 ) (put-whole-at t) put-whole.Post
-put-whole-put-whole-requires t c κs = let z : 0 < c .before .before .before .args .k = dec-room (c .before .before .before .args .n) (c .before .before .before .args .k) (omega arith) (omega arith) in
+put-whole-put-whole-requires t c κs = let z : 0 < c .before .before .before .args .k =
+    dec-room (c .before .before .before .args .n) (c .before .before .before .args .k) (omega arith) (omega arith) in
     (omega arith, (dec-less (c .before .before .before .args .n) (c .before .before .before .args .k) (omega arith) z, omega arith))
 
 put-whole-cast-put-byte-2 : (t : ℕ) → put-whole-lts.Need-cast-put-byte-2 (
@@ -102,7 +107,9 @@ put-whole-put-byte-requires-2 : (t : ℕ) → put-whole-lts.Need-put-byte-requir
   put-whole-below t,
   put-whole.Post,
 ) (put-whole-at t) put-whole.Post
-put-whole-put-byte-requires-2 t c κs = let z : 0 < c .before .before .before .before .before .before .before .args .k = dec-room (c .before .before .before .before .before .before .before .args .n) (c .before .before .before .before .before .before .before .args .k) (omega arith) (omega arith) in
+put-whole-put-byte-requires-2 t c κs = let z : 0 < c .before .before .before .before .before .before .before .args .k =
+    dec-room (c .before .before .before .before .before .before .before .args .n) (c .before .before .before .before .before .before .before .args .k)
+    (omega arith) (omega arith) in
     omega (arith, c .before .before .before .put-whole .ensures .0 .long, c .before .before .before .put-whole .ensures .1)
 
 put-whole-same-length-2 : (t : ℕ) → put-whole-lts.Need-same-length-2 (
@@ -119,8 +126,12 @@ put-whole-returns-2 : (t : ℕ) → put-whole-lts.Need-returns-2 (
   put-whole-below t,
   put-whole.Post,
 ) (put-whole-at t) put-whole.Post
-put-whole-returns-2 t c = let z : 0 < c .before .before .before .before .before .before .before .before .before .before .args .k = dec-room (c .before .before .before .before .before .before .before .before .before .before .args .n) (c .before .before .before .before .before .before .before .before .before .before .args .k) (omega arith) (omega arith) in
-    (dec-more _ _ (omega arith) z (c .before .before .before .before .before .before .put-whole .ensures .0) (c .before .before .put-byte2 .ensures), omega (arith, c .before .before .put-byte2 .ensures .next, c .before .before .before .before .before .before .put-whole .ensures .1))
+put-whole-returns-2 t c = let z : 0 < c .before .before .before .before .before .before .before .before .before .before .args .k =
+    dec-room (c .before .before .before .before .before .before .before .before .before .before .args .n)
+    (c .before .before .before .before .before .before .before .before .before .before .args .k) (omega arith) (omega arith) in (
+      dec-more _ _ (omega arith) z (c .before .before .before .before .before .before .put-whole .ensures .0) (c .before .before .put-byte2 .ensures),
+      omega (arith, c .before .before .put-byte2 .ensures .next, c .before .before .before .before .before .before .put-whole .ensures .1),
+    )
 
 pub +put-whole-spec : {M : Type 1} → statement M
 +put-whole-spec = close μ-put-whole λ t. put-whole-lts.spec (

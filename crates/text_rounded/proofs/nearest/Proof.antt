@@ -29,13 +29,17 @@ add-result-2 : tie.Need-add-result-2
 add-result-2 c = omega (arith, div-le-self (c .before .before .before .args .high) (c .before .before .before .args .half * 2))
 
 returns-3 : tie.Need-returns-3
-returns-3 c = at-more (c .before .before .before .args .high) (c .before .before .before .args .low) (c .before .before .before .args .half) (omega arith) (omega arith) (omega arith) (omega arith)
+returns-3 c =
+    at-more (c .before .before .before .args .high) (c .before .before .before .args .low) (c .before .before .before .args .half) (omega arith)
+    (omega arith) (omega arith) (omega arith)
 
 add-result-3 : tie.Need-add-result-3
 add-result-3 c = omega (arith, div-le-self (c .before .before .before .args .high) (c .before .before .before .args .half * 2))
 
 returns-4 : tie.Need-returns-4
-returns-4 c = at-half (c .before .before .before .args .high) (c .before .before .before .args .low) (c .before .before .before .args .half) (omega arith) (omega arith) (omega arith) (omega arith)
+returns-4 c =
+    at-half (c .before .before .before .args .high) (c .before .before .before .args .low) (c .before .before .before .args .half) (omega arith)
+    (omega arith) (omega arith) (omega arith)
 
 pub nearest-spec : {M : Type 1} → statement M
 nearest-spec =

@@ -18,7 +18,12 @@ loop-holds : tie.Need-loop-holds Inv-loop μ-loop
 loop-holds c = (omega arith, sym (pow-zero _))
 
 mul-p : tie.Need-mul-p Inv-loop μ-loop
-mul-p c = omega (arith, power-fits (c .before .before .args .b) (c .before .loop .i) (c .before .before .args .k) _ (c .before .before .pre .0) (omega arith) (c .before .loop .inv .1) (c .before .before .pre .1))
+mul-p c =
+    omega (
+      arith,
+      power-fits (c .before .before .args .b) (c .before .loop .i) (c .before .before .args .k) _ (c .before .before .pre .0) (omega arith)
+          (c .before .loop .inv .1) (c .before .before .pre .1),
+    )
 
 add-i : tie.Need-add-i Inv-loop μ-loop
 add-i c = search needs

@@ -20,13 +20,30 @@ power-requires : tie.Need-power-requires
 power-requires c κs = (omega arith, omega (arith, ten-power (c .before .before .before .args .d) (omega arith)))
 
 mul-low : tie.Need-mul-low
-mul-low c = omega (arith, low-room (c .before .before .before .significand .result) (c .power .result) (omega (arith, ten-power (c .before .before .before .before .args .d) (omega arith))))
+mul-low c =
+    omega (
+      arith,
+      low-room (c .before .before .before .significand .result) (c .power .result)
+          (omega (arith, ten-power (c .before .before .before .before .args .d) (omega arith))),
+    )
 
 mul-high : tie.Need-mul-high
-mul-high c = omega (arith, high-room (c .before .before .before .significand .result) (c .power .result) (omega arith) (omega (arith, ten-power (c .before .before .before .before .args .d) (omega arith))))
+mul-high c =
+    omega (
+      arith,
+      high-room (c .before .before .before .significand .result) (c .power .result) (omega arith)
+          (omega (arith, ten-power (c .before .before .before .before .args .d) (omega arith))),
+    )
 
 add-high : tie.Need-add-high
-add-high c = omega (arith, low-room (c .before .before .before .significand .result) (c .power .result) (omega (arith, ten-power (c .before .before .before .before .args .d) (omega arith))), high-room (c .before .before .before .significand .result) (c .power .result) (omega arith) (omega (arith, ten-power (c .before .before .before .before .args .d) (omega arith))))
+add-high c =
+    omega (
+      arith,
+      low-room (c .before .before .before .significand .result) (c .power .result)
+          (omega (arith, ten-power (c .before .before .before .before .args .d) (omega arith))),
+      high-room (c .before .before .before .significand .result) (c .power .result) (omega arith)
+          (omega (arith, ten-power (c .before .before .before .before .args .d) (omega arith))),
+    )
 
 sub-power : tie.Need-sub-power
 sub-power c = search needs
@@ -35,10 +52,27 @@ power-requires-2 : tie.Need-power-requires-2
 power-requires-2 c κs = (omega arith, omega (arith, half-room (c .before .before .shift .result) (omega arith)))
 
 nearest-requires : tie.Need-nearest-requires
-nearest-requires c κs = (omega arith, omega (arith, low-room (c .before .before .before .before .significand .result) (c .before .power .result) (omega (arith, ten-power (c .before .before .before .before .before .args .d) (omega arith))), high-room (c .before .before .before .before .significand .result) (c .before .power .result) (omega arith) (omega (arith, ten-power (c .before .before .before .before .before .args .d) (omega arith)))), omega (arith, pow-pos (c .before .before .before .shift .result - 12)), omega (arith, half-room (c .before .before .before .shift .result) (omega arith)))
+nearest-requires c κs = (
+  omega arith,
+  omega (
+    arith,
+    low-room (c .before .before .before .before .significand .result) (c .before .power .result)
+        (omega (arith, ten-power (c .before .before .before .before .before .args .d) (omega arith))),
+    high-room (c .before .before .before .before .significand .result) (c .before .power .result) (omega arith)
+        (omega (arith, ten-power (c .before .before .before .before .before .args .d) (omega arith))),
+  ),
+  omega (arith, pow-pos (c .before .before .before .shift .result - 12)),
+  omega (arith, half-room (c .before .before .before .shift .result) (omega arith)),
+)
 
 returns-2 : tie.Need-returns-2
-returns-2 c = units-are (c .before .before .before .before .before .before .args .d) (c .before .before .before .before .before .before .args .a) (c .before .before .before .before .before .significand .result) (c .before .before .before .before .shift .result) (c .before .before .power .result) (c .before .power2 .result) _ (c .before .before .before .before .before .significand .ensures .0) (c .before .before .before .before .before .significand .ensures .1) (c .before .before .before .before .shift .ensures .0) (c .before .before .before .before .shift .ensures .1) (c .before .before .power .ensures) (c .before .power2 .ensures) (c .nearest .ensures)
+returns-2 c =
+    units-are (c .before .before .before .before .before .before .args .d) (c .before .before .before .before .before .before .args .a)
+    (c .before .before .before .before .before .significand .result) (c .before .before .before .before .shift .result)
+    (c .before .before .power .result) (c .before .power2 .result) _ (c .before .before .before .before .before .significand .ensures .0)
+    (c .before .before .before .before .before .significand .ensures .1) (c .before .before .before .before .shift .ensures .0)
+    (c .before .before .before .before .shift .ensures .1) (c .before .before .power .ensures) (c .before .power2 .ensures)
+    (c .nearest .ensures)
 
 pub units-spec : {M : Type 1} → statement M
 units-spec =

@@ -35,23 +35,32 @@ returns c =
     let t3 = c .before .before .before in
     let t2 = t3 .before .before .before in
     let t1 = t2 .before .before .before in
-    let knots = t1 .before .before .before .args .knots .now in
-    (large-4 knots (sym (t1 .before .is-small .ensures) ∙ t1 .if1 .taken) (sym (t2 .before .is-small2 .ensures) ∙ t2 .if2 .taken) (sym (t3 .before .is-small3 .ensures) ∙ t3 .if3 .taken) (sym (c .before .is-small4 .ensures) ∙ c .if4 .taken), lit≤ tt)
+    let knots = t1 .before .before .before .args .knots .now in (
+      large-4 knots (sym (t1 .before .is-small .ensures) ∙ t1 .if1 .taken) (sym (t2 .before .is-small2 .ensures) ∙ t2 .if2 .taken)
+          (sym (t3 .before .is-small3 .ensures) ∙ t3 .if3 .taken) (sym (c .before .is-small4 .ensures) ∙ c .if4 .taken),
+      lit≤ tt,
+    )
 
 returns-2 : tie.Need-returns-2
 returns-2 c =
     let t3 = c .before .before .before in
     let t2 = t3 .before .before .before in
     let t1 = t2 .before .before .before in
-    let knots = t1 .before .before .before .args .knots .now in
-    (large-3 knots (sym (t1 .before .is-small .ensures) ∙ t1 .if1 .taken) (sym (t2 .before .is-small2 .ensures) ∙ t2 .if2 .taken) (sym (t3 .before .is-small3 .ensures) ∙ t3 .if3 .taken) (sym (c .before .is-small4 .ensures) ∙ c .if4 .left), lit≤ tt)
+    let knots = t1 .before .before .before .args .knots .now in (
+      large-3 knots (sym (t1 .before .is-small .ensures) ∙ t1 .if1 .taken) (sym (t2 .before .is-small2 .ensures) ∙ t2 .if2 .taken)
+          (sym (t3 .before .is-small3 .ensures) ∙ t3 .if3 .taken) (sym (c .before .is-small4 .ensures) ∙ c .if4 .left),
+      lit≤ tt,
+    )
 
 returns-3 : tie.Need-returns-3
 returns-3 c =
     let t2 = c .before .before .before in
     let t1 = t2 .before .before .before in
-    let knots = t1 .before .before .before .args .knots .now in
-    (large-2 knots (sym (t1 .before .is-small .ensures) ∙ t1 .if1 .taken) (sym (t2 .before .is-small2 .ensures) ∙ t2 .if2 .taken) (sym (c .before .is-small3 .ensures) ∙ c .if3 .left), lit≤ tt)
+    let knots = t1 .before .before .before .args .knots .now in (
+      large-2 knots (sym (t1 .before .is-small .ensures) ∙ t1 .if1 .taken) (sym (t2 .before .is-small2 .ensures) ∙ t2 .if2 .taken)
+          (sym (c .before .is-small3 .ensures) ∙ c .if3 .left),
+      lit≤ tt,
+    )
 
 returns-4 : tie.Need-returns-4
 returns-4 c =

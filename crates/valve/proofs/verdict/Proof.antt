@@ -22,12 +22,14 @@ cast-t9 c = search needs
 returns-4 : tie.Need-returns-4
 returns-4 c =
     let a = c .before .before .before .before .before .args in
-    too-large (a .step) (a .knots .now) (c .before .before .before .before .if1 .left) (c .before .before .before .if2 .left) (c .before .before .if3 .left) (c .before .first-large .result) (c .before .first-large .ensures .0) (c .if4 .taken)
+    too-large (a .step) (a .knots .now) (c .before .before .before .before .if1 .left) (c .before .before .before .if2 .left) (c .before .before .if3 .left)
+    (c .before .first-large .result) (c .before .first-large .ensures .0) (c .if4 .taken)
 
 returns-5 : tie.Need-returns-5
 returns-5 c =
     let a = c .before .before .before .before .before .args in
-    passes (a .step) (a .knots .now) (c .before .before .before .before .if1 .left) (c .before .before .before .if2 .left) (c .before .before .if3 .left) (c .before .first-large .result) (c .before .first-large .ensures .0) (c .if4 .left)
+    passes (a .step) (a .knots .now) (c .before .before .before .before .if1 .left) (c .before .before .before .if2 .left) (c .before .before .if3 .left)
+    (c .before .first-large .result) (c .before .first-large .ensures .0) (c .if4 .left)
 
 pub verdict-spec : {M : Type 1} → statement M
 verdict-spec =

@@ -44,7 +44,9 @@ plus-requires-2 c κs =
     let third = c .before .before .before in
     let b = third .before .before in
     let a = b .before .before in
-    let p = plus-is (a .term .result) (b .term2 .result) 67108864000000 67108864000000 (a .term .ensures .1) (b .term2 .ensures .1) (lit< tt) (c .plus .result) (c .plus .ensures) in
+    let p =
+    plus-is (a .term .result) (b .term2 .result) 67108864000000 67108864000000 (a .term .ensures .1) (b .term2 .ensures .1) (lit< tt) (c .plus .result)
+    (c .plus .ensures) in
     plus-fit (c .plus .result) (third .term3 .result) 134217728000000 67108864000000 (p .1) (third .term3 .ensures .1) (lit< tt)
 
 plus-requires-3 : tie.Need-plus-requires-3
@@ -54,8 +56,12 @@ plus-requires-3 c κs =
     let third = d .before .before in
     let b = third .before .before in
     let a = b .before .before in
-    let p = plus-is (a .term .result) (b .term2 .result) 67108864000000 67108864000000 (a .term .ensures .1) (b .term2 .ensures .1) (lit< tt) (first .plus .result) (first .plus .ensures) in
-    let q = plus-is (first .plus .result) (third .term3 .result) 134217728000000 67108864000000 (p .1) (third .term3 .ensures .1) (lit< tt) (c .plus2 .result) (c .plus2 .ensures) in
+    let p =
+    plus-is (a .term .result) (b .term2 .result) 67108864000000 67108864000000 (a .term .ensures .1) (b .term2 .ensures .1) (lit< tt)
+    (first .plus .result) (first .plus .ensures) in
+    let q =
+    plus-is (first .plus .result) (third .term3 .result) 134217728000000 67108864000000 (p .1) (third .term3 .ensures .1) (lit< tt) (c .plus2 .result)
+    (c .plus2 .ensures) in
     plus-fit (c .plus2 .result) (d .term4 .result) 201326592000000 67108864000000 (q .1) (d .term4 .ensures .1) (lit< tt)
 
 returns : tie.Need-returns

@@ -32,11 +32,21 @@ put-last-requires c κs = (lit< tt, lit≤ tt, omega arith)
 
 loop-holds : tie.Need-loop-holds Inv-loop μ-loop
 loop-holds c =
-    let a = c .before .before .before .before .before .before .before .before .args in
-    (omega arith, refl, begun (a .m .now) (a .step) (a .gap) (a .knots .now) (a .out .now) _ (first-window (a .m .now) (a .step) (a .gap) (a .knots .now) _ (a .out .now) _ (c .before .before .before .sums .ensures) (c .before .before .put-last .ensures)))
+    let a = c .before .before .before .before .before .before .before .before .args in (
+      omega arith,
+      refl,
+      begun (a .m .now) (a .step) (a .gap) (a .knots .now) (a .out .now) _
+          (first-window (a .m .now) (a .step) (a .gap) (a .knots .now) _ (a .out .now) _ (c .before .before .before .sums .ensures)
+          (c .before .before .put-last .ensures)),
+    )
 
-turned : (c : tie.In-loop Inv-loop μ-loop) → Turn (length (c .before .before .before .before .before .before .before .before .before .before .args .knots .now)) (c .before .before .before .before .before .before .before .before .before .before .args .step) (c .before .before .before .before .before .before .before .before .before .before .args .gap) (length (c .before .before .before .before .before .before .before .before .before .before .args .out .now)) (c .before .loop .s)
-turned c = let p = c .before .before .before .before .before .before .before .before .before .before .pre in turn _ _ _ _ _ (p .3) (p .4) (p .2) (p .5) (c .loop-test .taken)
+turned : (c : tie.In-loop Inv-loop μ-loop)
+    → Turn (length (c .before .before .before .before .before .before .before .before .before .before .args .knots .now))
+    (c .before .before .before .before .before .before .before .before .before .before .args .step)
+    (c .before .before .before .before .before .before .before .before .before .before .args .gap)
+    (length (c .before .before .before .before .before .before .before .before .before .before .args .out .now)) (c .before .loop .s)
+turned c = let p = c .before .before .before .before .before .before .before .before .before .before .pre
+    in turn _ _ _ _ _ (p .3) (p .4) (p .2) (p .5) (c .loop-test .taken)
 
 mul-at : tie.Need-mul-at Inv-loop μ-loop
 mul-at c = let t = turned c in omega arith
@@ -77,11 +87,21 @@ loop-less c = omega arith
 loop-again : tie.Need-loop-again Inv-loop μ-loop
 loop-again c =
     let a = c .before .before .before .before .before .before .before .before .before .before .before .before .before .before .before .before .before .args in
-    let l = c .before .before .before .before .before .before .before .before .loop in
-    (omega arith, c .before .before .put-last2 .kept .0 ∙ l .inv .1, next-window (a .m .now) (a .step) (a .gap) (a .knots .now) (l .s) _ _ _ _ (c .before .before .before .before .before .before .before .before .before .before .before .before .before .before .before .before .before .pre .2) (c .before .before .before .sums2 .ensures) (l .inv .2) (c .before .before .put-last2 .ensures))
+    let l = c .before .before .before .before .before .before .before .before .loop in (
+      omega arith,
+      c .before .before .put-last2 .kept .0 ∙ l .inv .1,
+      next-window (a .m .now) (a .step) (a .gap) (a .knots .now) (l .s) _ _ _ _
+          (c .before .before .before .before .before .before .before .before .before .before .before .before .before .before .before .before .before .pre
+          .2) (c .before .before .before .sums2 .ensures) (l .inv .2) (c .before .before .put-last2 .ensures),
+    )
 
-few-turns : (c : tie.After-loop Inv-loop μ-loop) → (length (c .before .before .before .before .before .before .before .before .before .before .args .knots .now) - 4) / c .before .before .before .before .before .before .before .before .before .before .args .step * c .before .before .before .before .before .before .before .before .before .before .args .gap ≤ 16384
-few-turns c = few-steps _ _ _ (c .before .before .before .before .before .before .before .before .before .before .pre .4) (c .before .before .before .before .before .before .before .before .before .before .pre .2)
+few-turns : (c : tie.After-loop Inv-loop μ-loop)
+    → (length (c .before .before .before .before .before .before .before .before .before .before .args .knots .now) - 4) / c .before .before .before .before
+    .before .before .before .before .before .before .args .step * c .before .before .before .before .before .before .before .before .before .before
+    .args .gap ≤ 16384
+few-turns c =
+    few-steps _ _ _ (c .before .before .before .before .before .before .before .before .before .before .pre .4)
+    (c .before .before .before .before .before .before .before .before .before .before .pre .2)
 
 mul-result : tie.Need-mul-result Inv-loop μ-loop
 mul-result c = let h = few-turns c in omega arith
@@ -95,8 +115,13 @@ same-length c = c .before .loop .inv .1 ∙ c .before .before .before .before .p
 returns : tie.Need-returns Inv-loop μ-loop
 returns c =
     let a = c .before .before .before .before .before .before .before .before .before .before .args in
-    let l = c .before .loop in
-    (refl, all-windows (a .m .now) (a .step) (a .gap) (a .knots .now) (l .s) _ _ _ _ (c .before .before .before .before .before .before .before .before .before .before .pre .2) (omega arith) (first-window (a .m .now) (a .step) (a .gap) (a .knots .now) _ (a .out .now) _ (c .before .before .before .before .before .sums .ensures) (c .before .before .before .before .put-last .ensures)) (l .inv .2))
+    let l = c .before .loop in (
+      refl,
+      all-windows (a .m .now) (a .step) (a .gap) (a .knots .now) (l .s) _ _ _ _
+          (c .before .before .before .before .before .before .before .before .before .before .pre .2) (omega arith)
+          (first-window (a .m .now) (a .step) (a .gap) (a .knots .now) _ (a .out .now) _ (c .before .before .before .before .before .sums .ensures)
+          (c .before .before .before .before .put-last .ensures)) (l .inv .2),
+    )
 
 pub put-windows-spec : {M : Type 1} → statement M
 put-windows-spec =

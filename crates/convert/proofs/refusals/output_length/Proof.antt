@@ -18,10 +18,12 @@ step-requires-2 : tie.Need-step-requires-2
 step-requires-2 c κs = search needs
 
 mul-result : tie.Need-mul-result
-mul-result c = omega (arith, few-steps (c .before .before .args .n) (c .before .step .result) (c .step2 .result) (c .before .before .pre .1) (c .step2 .ensures .2))
+mul-result c =
+    omega (arith, few-steps (c .before .before .args .n) (c .before .step .result) (c .step2 .result) (c .before .before .pre .1) (c .step2 .ensures .2))
 
 add-result : tie.Need-add-result
-add-result c = omega (arith, few-steps (c .before .before .args .n) (c .before .step .result) (c .step2 .result) (c .before .before .pre .1) (c .step2 .ensures .2))
+add-result c =
+    omega (arith, few-steps (c .before .before .args .n) (c .before .step .result) (c .step2 .result) (c .before .before .pre .1) (c .step2 .ensures .2))
 
 returns : tie.Need-returns
 returns c =

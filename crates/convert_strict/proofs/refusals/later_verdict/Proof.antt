@@ -35,7 +35,8 @@ returns-3 c =
     let linear = c .before .before .before .before .before in
     let a = linear .before .before .args in
     by-output (a .from) (a .to) (a .knots .now) (a .allowance) (a .room) (sym (linear .is-linear .ensures) ∙ c .before .before .before .before .if1 .left)
-    (sym (c .before .before .before .is-allowance .ensures) ∙ not-false _ (c .before .before .if2 .left)) (c .before .output-length .ensures) (c .output-verdict .ensures)
+    (sym (c .before .before .before .is-allowance .ensures) ∙ not-false _ (c .before .before .if2 .left)) (c .before .output-length .ensures)
+    (c .output-verdict .ensures)
 
 pub later-verdict-spec : {M : Type 1} → statement M
 later-verdict-spec =

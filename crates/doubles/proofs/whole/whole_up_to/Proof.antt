@@ -20,7 +20,9 @@ lesser-requires : tie.Need-lesser-requires
 lesser-requires c κs = search needs
 
 returns : tie.Need-returns
-returns c = confirmed _ _ _ (c .before .before .before .before .double-of .ensures) (c .before .before .before .if1 .taken) (c .before .before .double-of2 .ensures) (c .before .if2 .taken) (c .lesser .ensures)
+returns c =
+    confirmed _ _ _ (c .before .before .before .before .double-of .ensures) (c .before .before .before .if1 .taken) (c .before .before .double-of2 .ensures)
+    (c .before .if2 .taken) (c .lesser .ensures)
 
 by-halving-requires : tie.Need-by-halving-requires
 by-halving-requires c κs = search needs

@@ -40,7 +40,12 @@ lies-before-requires : tie.Need-lies-before-requires Inv-loop μ-loop
 lies-before-requires c κs = search needs
 
 returns : tie.Need-returns Inv-loop μ-loop
-returns c = (sym (turn-here (c .before .before .before .before .before .before .before .args .rising) (c .before .before .before .before .before .before .before .args .knots .now) (c .before .before .before .before .before .loop .i) (omega arith) (sym (c .before .lies-before .ensures) ∙ c .if1 .taken)) ∙ c .before .before .before .before .before .loop .inv .2, omega arith)
+returns c = (
+  sym (turn-here (c .before .before .before .before .before .before .before .args .rising)
+      (c .before .before .before .before .before .before .before .args .knots .now) (c .before .before .before .before .before .loop .i) (omega arith)
+      (sym (c .before .lies-before .ensures) ∙ c .if1 .taken)) ∙ c .before .before .before .before .before .loop .inv .2,
+  omega arith,
+)
 
 add-i : tie.Need-add-i Inv-loop μ-loop
 add-i c = search needs
@@ -49,10 +54,20 @@ loop-less : tie.Need-loop-less Inv-loop μ-loop
 loop-less c = search needs
 
 loop-again : tie.Need-loop-again Inv-loop μ-loop
-loop-again c = (omega arith, omega arith, sym (turn-later (c .before .before .before .before .before .before .before .args .rising) (c .before .before .before .before .before .before .before .args .knots .now) (c .before .before .before .before .before .loop .i) (omega arith) (sym (c .before .lies-before .ensures) ∙ c .if1 .left)) ∙ c .before .before .before .before .before .loop .inv .2)
+loop-again c = (
+  omega arith,
+  omega arith,
+  sym (turn-later (c .before .before .before .before .before .before .before .args .rising)
+      (c .before .before .before .before .before .before .before .args .knots .now) (c .before .before .before .before .before .loop .i) (omega arith)
+      (sym (c .before .lies-before .ensures) ∙ c .if1 .left)) ∙ c .before .before .before .before .before .loop .inv .2,
+)
 
 returns-2 : tie.Need-returns-2 Inv-loop μ-loop
-returns-2 c = (sym (turn-none (c .before .before .before .args .rising) (c .before .before .before .args .knots .now) (c .before .loop .i) (omega arith)) ∙ c .before .loop .inv .2, omega arith)
+returns-2 c = (
+  sym (turn-none (c .before .before .before .args .rising) (c .before .before .before .args .knots .now) (c .before .loop .i) (omega arith))
+      ∙ c .before .loop .inv .2,
+  omega arith,
+)
 
 pub first-turn-spec : {M : Type 1} → statement M
 first-turn-spec =

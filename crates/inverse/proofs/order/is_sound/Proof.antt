@@ -41,13 +41,28 @@ keeps-requires : tie.Need-keeps-requires
 keeps-requires c κs = search needs
 
 returns : tie.Need-returns
-returns c = c .keeps .ensures ∙ (ap (λ (z : Bool). kept z (drop 1 (c .before .before .before .before .before .before .before .before .before .before .before .before .args .knots .now))) (c .before .rising .ensures) ∙ sound-in (c .before .before .before .before .before .before .before .before .before .before .before .before .args .knots .now) (omega arith) (sym (c .before .before .before .before .before .before .before .before .before .in-range .ensures) ∙ c .before .before .before .before .before .before .before .before .if1 .taken) (sym (c .before .before .before .before .before .before .in-range2 .ensures) ∙ c .before .before .before .before .before .if2 .taken) (sym (c .before .before .before .in-range3 .ensures) ∙ c .before .before .if3 .taken))
+returns c =
+    c .keeps .ensures
+    ∙ (ap (λ (z : Bool). kept z
+    (drop 1 (c .before .before .before .before .before .before .before .before .before .before .before .before .args .knots .now)))
+    (c .before .rising .ensures)
+    ∙ sound-in (c .before .before .before .before .before .before .before .before .before .before .before .before .args .knots .now)
+    (omega arith) (sym (c .before .before .before .before .before .before .before .before .before .in-range .ensures)
+    ∙ c .before .before .before .before .before .before .before .before .if1 .taken)
+    (sym (c .before .before .before .before .before .before .in-range2 .ensures)
+    ∙ c .before .before .before .before .before .if2 .taken)
+    (sym (c .before .before .before .in-range3 .ensures) ∙ c .before .before .if3 .taken))
 
 returns-2 : tie.Need-returns-2
-returns-2 c = sound-out (c .before .before .before .before .before .before .before .before .before .before .args .knots .now) (length (c .before .before .before .before .before .before .before .before .before .before .args .knots .now) - 1) (omega arith) (sym (c .before .in-range3 .ensures) ∙ c .if3 .left)
+returns-2 c =
+    sound-out (c .before .before .before .before .before .before .before .before .before .before .args .knots .now)
+    (length (c .before .before .before .before .before .before .before .before .before .before .args .knots .now) - 1) (omega arith)
+    (sym (c .before .in-range3 .ensures) ∙ c .if3 .left)
 
 returns-3 : tie.Need-returns-3
-returns-3 c = sound-out (c .before .before .before .before .before .before .before .args .knots .now) 1 (omega arith) (sym (c .before .in-range2 .ensures) ∙ c .if2 .left)
+returns-3 c =
+    sound-out (c .before .before .before .before .before .before .before .args .knots .now) 1 (omega arith)
+    (sym (c .before .in-range2 .ensures) ∙ c .if2 .left)
 
 returns-4 : tie.Need-returns-4
 returns-4 c = sound-out (c .before .before .before .before .args .knots .now) 0 (omega arith) (sym (c .before .in-range .ensures) ∙ c .if1 .left)

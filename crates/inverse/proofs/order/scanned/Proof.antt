@@ -48,7 +48,8 @@ loop-less : tie.Need-loop-less Inv-loop μ-loop
 loop-less c = search needs
 
 loop-again : tie.Need-loop-again Inv-loop μ-loop
-loop-again c = let l = c .before .before .before .before .loop in (omega arith, omega arith, scanned _ _ (l .i) (l .good) _ (omega arith) (l .inv .2) (c .follows-in .ensures))
+loop-again c = let l = c .before .before .before .before .loop
+    in (omega arith, omega arith, scanned _ _ (l .i) (l .good) _ (omega arith) (l .inv .2) (c .follows-in .ensures))
 
 returns : tie.Need-returns Inv-loop μ-loop
 returns c = let l = c .before .loop in scanned-all _ _ (l .i) _ (omega arith) (l .inv .2)

@@ -14,7 +14,11 @@ same-length : tie.Need-same-length
 same-length c = search needs
 
 returns : tie.Need-returns
-returns c = (rw (le-leb (c .before .before .before .before .before .before .args .h) (c .before .before .before .before .before .before .args .e .hi) (omega arith)) (c .before .before .put-depth .ensures .0), c .before .before .put-depth .ensures .1)
+returns c = (
+  rw (le-leb (c .before .before .before .before .before .before .args .h) (c .before .before .before .before .before .before .args .e .hi) (omega arith))
+      (c .before .before .put-depth .ensures .0),
+  c .before .before .put-depth .ensures .1,
+)
 
 returns-2 : tie.Need-returns-2
 returns-2 c = (rw (lt-leb (c .before .before .args .h) (c .before .before .args .e .hi) (omega arith)) (nothing _ _), omega arith)

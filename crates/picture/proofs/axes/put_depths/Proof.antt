@@ -64,7 +64,44 @@ same-length : tie.Need-same-length
 same-length c = search needs
 
 returns : tie.Need-returns
-returns c = ((then (then (then (then (then (then (c .before .before .before .before .before .before .before .before .before .before .before .before .before .before .before .before .before .before .before .before .before .before .before .before .before .before .put-depth-label .ensures .0) (c .before .before .before .before .before .before .before .before .before .before .before .before .before .before .before .before .before .before .before .before .before .before .put-depth-label2 .ensures .0)) (c .before .before .before .before .before .before .before .before .before .before .before .before .before .before .before .before .before .before .put-depth-label3 .ensures .0)) (c .before .before .before .before .before .before .before .before .before .before .before .before .before .before .put-depth-label4 .ensures .0)) (c .before .before .before .before .before .before .before .before .before .before .put-depth-label5 .ensures .0)) (c .before .before .before .before .before .before .put-depth-label6 .ensures .0)) (c .before .before .put-depth-label7 .ensures .0)), omega (arith, c .before .before .before .before .before .before .before .before .before .before .before .before .before .before .before .before .before .before .before .before .before .before .before .before .before .before .put-depth-label .ensures .1, c .before .before .before .before .before .before .before .before .before .before .before .before .before .before .before .before .before .before .before .before .before .before .put-depth-label2 .ensures .1, c .before .before .before .before .before .before .before .before .before .before .before .before .before .before .before .before .before .before .put-depth-label3 .ensures .1, c .before .before .before .before .before .before .before .before .before .before .before .before .before .before .put-depth-label4 .ensures .1, c .before .before .before .before .before .before .before .before .before .before .put-depth-label5 .ensures .1, c .before .before .before .before .before .before .put-depth-label6 .ensures .1, c .before .before .put-depth-label7 .ensures .1))
+returns c = (
+  (then (then (then (then
+      (then (then (c .before .before .before .before .before .before .before .before .before .before .before .before .before .before .before .before
+      .before .before .before .before .before .before .before .before .before .before .put-depth-label .ensures .0)
+      (c .before .before .before .before .before .before .before .before .before .before .before .before .before .before .before .before .before
+      .before .before .before .before .before .put-depth-label2 .ensures .0))
+      (c .before .before .before .before .before .before .before .before .before .before .before .before .before .before .before .before
+      .before .before .put-depth-label3 .ensures .0))
+      (c .before .before .before .before .before .before .before .before .before .before .before .before .before .before
+      .put-depth-label4 .ensures .0))
+      (c .before .before .before .before .before .before .before .before .before .before .put-depth-label5 .ensures .0))
+      (c .before .before .before .before .before .before .put-depth-label6 .ensures .0))
+      (c .before .before .put-depth-label7 .ensures .0)),
+  omega (
+    arith,
+    c .before .before .before .before .before .before .before .before .before .before .before
+        .before .before .before .before .before .before .before .before .before .before .before
+        .before .before .before .before .put-depth-label .ensures .1,
+    c .before .before .before .before .before .before .before .before .before .before
+        .before .before .before .before .before .before .before .before .before .before
+        .before .before .put-depth-label2 .ensures .1,
+    c .before .before .before .before .before .before .before .before
+        .before .before .before .before .before .before .before .before
+        .before .before .put-depth-label3 .ensures .1,
+    c .before .before .before .before .before .before .before
+        .before .before .before .before .before .before .before
+        .put-depth-label4 .ensures .1,
+    c .before .before .before .before .before
+        .before .before .before .before .before
+        .put-depth-label5 .ensures .1,
+    c .before .before .before .before
+        .before .before
+        .put-depth-label6 .ensures
+        .1,
+    c .before .before
+        .put-depth-label7 .ensures .1,
+  ),
+)
 
 pub put-depths-spec : {M : Type 1} → statement M
 put-depths-spec =

@@ -23,7 +23,11 @@ same-length : tie.Need-same-length
 same-length c = search needs
 
 returns : tie.Need-returns
-returns c = (rw (lt-ltb (c .before .before .before .before .before .before .before .before .before .before .before .args .h) 2000000000000000 (omega arith)) (then (c .before .before .before .before .before .before .put-word .ensures) (c .before .before .put-fixed .ensures .0)), omega (arith, c .before .before .before .before .before .before .put-word .ensures .next, c .before .before .put-fixed .ensures .1))
+returns c = (
+  rw (lt-ltb (c .before .before .before .before .before .before .before .before .before .before .before .args .h) 2000000000000000 (omega arith))
+      (then (c .before .before .before .before .before .before .put-word .ensures) (c .before .before .put-fixed .ensures .0)),
+  omega (arith, c .before .before .before .before .before .before .put-word .ensures .next, c .before .before .put-fixed .ensures .1),
+)
 
 put-fixed-requires-2 : tie.Need-put-fixed-requires-2
 put-fixed-requires-2 c κs = search needs
@@ -32,7 +36,10 @@ same-length-2 : tie.Need-same-length-2
 same-length-2 c = search needs
 
 returns-2 : tie.Need-returns-2
-returns-2 c = (rw (le-ltb (c .before .before .before .before .before .before .args .h) 2000000000000000 (omega arith)) (c .before .before .put-fixed2 .ensures .0), omega (arith, c .before .before .put-fixed2 .ensures .1))
+returns-2 c = (
+  rw (le-ltb (c .before .before .before .before .before .before .args .h) 2000000000000000 (omega arith)) (c .before .before .put-fixed2 .ensures .0),
+  omega (arith, c .before .before .put-fixed2 .ensures .1),
+)
 
 pub put-label-spec : {M : Type 1} → statement M
 put-label-spec =

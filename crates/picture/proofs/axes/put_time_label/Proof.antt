@@ -17,10 +17,20 @@ same-length : tie.Need-same-length
 same-length c = search needs
 
 returns : tie.Need-returns
-returns c = (rw (← c .before .before .before .before .before .stretch .ensures .0, le-leb (c .before .before .before .before .before .before .before .args .v) (c .before .before .before .before .before .stretch .result) (omega arith)) (c .before .before .put-time .ensures .0), c .before .before .put-time .ensures .1)
+returns c = (
+  rw (
+    ← c .before .before .before .before .before .stretch .ensures .0,
+    le-leb (c .before .before .before .before .before .before .before .args .v) (c .before .before .before .before .before .stretch .result)
+        (omega arith),
+  ) (c .before .before .put-time .ensures .0),
+  c .before .before .put-time .ensures .1,
+)
 
 returns-2 : tie.Need-returns-2
-returns-2 c = (rw (← c .before .stretch .ensures .0, lt-leb (c .before .before .before .args .v) (c .before .stretch .result) (omega arith)) (nothing _ _), omega arith)
+returns-2 c = (
+  rw (← c .before .stretch .ensures .0, lt-leb (c .before .before .before .args .v) (c .before .stretch .result) (omega arith)) (nothing _ _),
+  omega arith,
+)
 
 pub put-time-label-spec : {M : Type 1} → statement M
 put-time-label-spec =

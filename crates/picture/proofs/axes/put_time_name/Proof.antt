@@ -17,7 +17,10 @@ same-length : tie.Need-same-length
 same-length c = search needs
 
 returns : tie.Need-returns
-returns c = (rw (eq-eqb _ _ (c .before .before .before .before .before .if1 .taken)) (c .before .before .put-word .ensures), omega (arith, c .before .before .put-word .ensures .next))
+returns c = (
+  rw (eq-eqb _ _ (c .before .before .before .before .before .if1 .taken)) (c .before .before .put-word .ensures),
+  omega (arith, c .before .before .put-word .ensures .next),
+)
 
 slice-aggregate-put-word-2 : tie.Need-slice-aggregate-put-word-2
 slice-aggregate-put-word-2 c = search needs
@@ -29,7 +32,10 @@ same-length-2 : tie.Need-same-length-2
 same-length-2 c = search needs
 
 returns-2 : tie.Need-returns-2
-returns-2 c = (rw (ne-eqb _ _ (c .before .before .before .before .before .if1 .left)) (c .before .before .put-word2 .ensures), omega (arith, c .before .before .put-word2 .ensures .next))
+returns-2 c = (
+  rw (ne-eqb _ _ (c .before .before .before .before .before .if1 .left)) (c .before .before .put-word2 .ensures),
+  omega (arith, c .before .before .put-word2 .ensures .next),
+)
 
 pub put-time-name-spec : {M : Type 1} → statement M
 put-time-name-spec =

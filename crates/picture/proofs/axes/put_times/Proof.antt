@@ -46,7 +46,44 @@ same-length : tie.Need-same-length
 same-length c = search needs
 
 returns : tie.Need-returns
-returns c = ((then (then (then (then (then (then (c .before .before .before .before .before .before .before .before .before .before .before .before .before .before .before .before .before .before .before .before .before .before .before .before .before .before .put-time-label .ensures .0) (c .before .before .before .before .before .before .before .before .before .before .before .before .before .before .before .before .before .before .before .before .before .before .put-time-label2 .ensures .0)) (c .before .before .before .before .before .before .before .before .before .before .before .before .before .before .before .before .before .before .put-time-label3 .ensures .0)) (c .before .before .before .before .before .before .before .before .before .before .before .before .before .before .put-time-label4 .ensures .0)) (c .before .before .before .before .before .before .before .before .before .before .put-time-label5 .ensures .0)) (c .before .before .before .before .before .before .put-time-label6 .ensures .0)) (c .before .before .put-time-label7 .ensures .0)), omega (arith, c .before .before .before .before .before .before .before .before .before .before .before .before .before .before .before .before .before .before .before .before .before .before .before .before .before .before .put-time-label .ensures .1, c .before .before .before .before .before .before .before .before .before .before .before .before .before .before .before .before .before .before .before .before .before .before .put-time-label2 .ensures .1, c .before .before .before .before .before .before .before .before .before .before .before .before .before .before .before .before .before .before .put-time-label3 .ensures .1, c .before .before .before .before .before .before .before .before .before .before .before .before .before .before .put-time-label4 .ensures .1, c .before .before .before .before .before .before .before .before .before .before .put-time-label5 .ensures .1, c .before .before .before .before .before .before .put-time-label6 .ensures .1, c .before .before .put-time-label7 .ensures .1))
+returns c = (
+  (then (then (then (then
+      (then (then (c .before .before .before .before .before .before .before .before .before .before .before .before .before .before .before .before
+      .before .before .before .before .before .before .before .before .before .before .put-time-label .ensures .0)
+      (c .before .before .before .before .before .before .before .before .before .before .before .before .before .before .before .before .before
+      .before .before .before .before .before .put-time-label2 .ensures .0))
+      (c .before .before .before .before .before .before .before .before .before .before .before .before .before .before .before .before
+      .before .before .put-time-label3 .ensures .0))
+      (c .before .before .before .before .before .before .before .before .before .before .before .before .before .before
+      .put-time-label4 .ensures .0))
+      (c .before .before .before .before .before .before .before .before .before .before .put-time-label5 .ensures .0))
+      (c .before .before .before .before .before .before .put-time-label6 .ensures .0))
+      (c .before .before .put-time-label7 .ensures .0)),
+  omega (
+    arith,
+    c .before .before .before .before .before .before .before .before .before .before .before
+        .before .before .before .before .before .before .before .before .before .before .before
+        .before .before .before .before .put-time-label .ensures .1,
+    c .before .before .before .before .before .before .before .before .before .before
+        .before .before .before .before .before .before .before .before .before .before
+        .before .before .put-time-label2 .ensures .1,
+    c .before .before .before .before .before .before .before .before
+        .before .before .before .before .before .before .before .before
+        .before .before .put-time-label3 .ensures .1,
+    c .before .before .before .before .before .before .before
+        .before .before .before .before .before .before .before
+        .put-time-label4 .ensures .1,
+    c .before .before .before .before .before
+        .before .before .before .before .before
+        .put-time-label5 .ensures .1,
+    c .before .before .before .before
+        .before .before .put-time-label6
+        .ensures .1,
+    c .before .before
+        .put-time-label7
+        .ensures .1,
+  ),
+)
 
 pub put-times-spec : {M : Type 1} → statement M
 put-times-spec =

@@ -31,7 +31,10 @@ same-length-2 : tie.Need-same-length-2
 same-length-2 c = search needs
 
 returns-2 : tie.Need-returns-2
-returns-2 c = (rw (c .before .before .before .before .before .before .v .given .1) (c .before .before .put-note .ensures .0), omega (arith, c .before .before .put-note .ensures .1))
+returns-2 c = (
+  rw (c .before .before .before .before .before .before .v .given .1) (c .before .before .put-note .ensures .0),
+  omega (arith, c .before .before .put-note .ensures .1),
+)
 
 pub put-body-spec : {M : Type 1} → statement M
 put-body-spec =

@@ -42,7 +42,26 @@ same-length c = search needs
 
 returns : tie.Need-returns
 unfolding headText
-returns c = ((then (then (then (then (c .before .before .before .before .before .before .before .before .before .before .before .before .before .before .before .before .before .before .before .before .before .before .put-word .ensures) (c .before .before .before .before .before .before .before .before .before .before .before .before .before .before .before .before .before .put-word2 .ensures)) (c .before .before .before .before .before .before .before .before .before .before .before .before .put-word3 .ensures)) (c .before .before .before .before .before .before .before .put-word4 .ensures)) (c .before .before .put-word5 .ensures)), omega (arith, c .before .before .before .before .before .before .before .before .before .before .before .before .before .before .before .before .before .before .before .before .before .before .put-word .ensures .next, c .before .before .before .before .before .before .before .before .before .before .before .before .before .before .before .before .before .put-word2 .ensures .next, c .before .before .before .before .before .before .before .before .before .before .before .before .put-word3 .ensures .next, c .before .before .before .before .before .before .before .put-word4 .ensures .next, c .before .before .put-word5 .ensures .next))
+returns c = (
+  (then (then (then (then
+      (c .before .before .before .before .before .before .before .before .before .before .before .before .before .before .before .before .before .before
+      .before .before .before .before .put-word .ensures)
+      (c .before .before .before .before .before .before .before .before .before .before .before .before .before .before .before .before .before
+      .put-word2 .ensures))
+      (c .before .before .before .before .before .before .before .before .before .before .before .before .put-word3 .ensures))
+      (c .before .before .before .before .before .before .before .put-word4 .ensures)) (c .before .before .put-word5 .ensures)),
+  omega (
+    arith,
+    c .before .before .before .before .before .before .before .before .before .before .before .before .before .before
+        .before .before .before .before .before .before .before .before .put-word .ensures .next,
+    c .before .before .before .before .before .before .before .before .before .before .before .before .before
+        .before .before .before .before .put-word2 .ensures .next,
+    c .before .before .before .before .before .before .before .before .before .before .before .before
+        .put-word3 .ensures .next,
+    c .before .before .before .before .before .before .before .put-word4 .ensures .next,
+    c .before .before .put-word5 .ensures .next,
+  ),
+)
 
 pub put-head-spec : {M : Type 1} → statement M
 put-head-spec =

@@ -22,7 +22,12 @@ same-length : tie.Need-same-length
 same-length c = search needs
 
 returns : tie.Need-returns
-returns c = (rw (← c .before .before .before .before .before .before .before .is-shown .ensures, c .before .before .before .before .before .before .if1 .taken) (rw (c .before .before .before .before .before .knot-column .ensures .0, c .before .before .before .height .ensures .0) at (c .before .before .put-dot .ensures .0)), c .before .before .put-dot .ensures .1)
+returns c = (
+  rw (← c .before .before .before .before .before .before .before .is-shown .ensures, c .before .before .before .before .before .before .if1 .taken)
+      (rw (c .before .before .before .before .before .knot-column .ensures .0, c .before .before .before .height .ensures .0) at
+      (c .before .before .put-dot .ensures .0)),
+  c .before .before .put-dot .ensures .1,
+)
 
 returns-2 : tie.Need-returns-2
 returns-2 c = (rw (← c .before .is-shown .ensures, c .if1 .left) (nothing _ _), omega arith)

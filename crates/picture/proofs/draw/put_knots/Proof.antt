@@ -27,7 +27,8 @@ shared-slice-read-put-knot : tie.Need-shared-slice-read-put-knot Inv-loop μ-loo
 shared-slice-read-put-knot c = search needs
 
 put-knot-requires : tie.Need-put-knot-requires Inv-loop μ-loop
-put-knot-requires c κs = (omega arith, omega arith, c .before .before .before .before .before .before .pre .1, omega (arith, c .before .before .before .loop .inv .2 .long))
+put-knot-requires c κs =
+    (omega arith, omega arith, c .before .before .before .before .before .before .pre .1, omega (arith, c .before .before .before .loop .inv .2 .long))
 
 add-j : tie.Need-add-j Inv-loop μ-loop
 add-j c = search needs
@@ -36,13 +37,19 @@ loop-less : tie.Need-loop-less Inv-loop μ-loop
 loop-less c = omega arith
 
 loop-again : tie.Need-loop-again Inv-loop μ-loop
-loop-again c = (omega arith, omega (arith, c .before .before .put-knot .ensures .1), knots-go-on _ _ _ (c .before .before .before .before .before .before .loop .j) (c .before .before .before .before .before .before .loop .inv .2) (c .before .before .put-knot .ensures .0))
+loop-again c = (
+  omega arith,
+  omega (arith, c .before .before .put-knot .ensures .1),
+  knots-go-on _ _ _ (c .before .before .before .before .before .before .loop .j) (c .before .before .before .before .before .before .loop .inv .2)
+      (c .before .before .put-knot .ensures .0),
+)
 
 same-length : tie.Need-same-length Inv-loop μ-loop
 same-length c = c .before .loop .inv .2 .long
 
 returns : tie.Need-returns Inv-loop μ-loop
-returns c = let z : c .before .loop .j ≡ length (c .before .before .before .before .args .knots .now) = omega arith in (rw z at (c .before .loop .inv .2), omega arith)
+returns c = let z : c .before .loop .j ≡ length (c .before .before .before .before .args .knots .now) = omega arith
+    in (rw z at (c .before .loop .inv .2), omega arith)
 
 pub put-knots-spec : {M : Type 1} → statement M
 put-knots-spec =

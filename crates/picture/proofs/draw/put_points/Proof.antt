@@ -29,7 +29,11 @@ curve-height-requires : tie.Need-curve-height-requires Inv-loop μ-loop
 curve-height-requires c κs = (omega arith, omega arith)
 
 put-point-requires : tie.Need-put-point-requires Inv-loop μ-loop
-put-point-requires c κs = (c .before .before .before .before .before .before .before .pre .0, omega (arith, c .before .curve-height .ensures .1 .1), omega (arith, c .before .before .before .before .loop .inv .2 .long))
+put-point-requires c κs = (
+  c .before .before .before .before .before .before .before .pre .0,
+  omega (arith, c .before .curve-height .ensures .1 .1),
+  omega (arith, c .before .before .before .before .loop .inv .2 .long),
+)
 
 add-i : tie.Need-add-i Inv-loop μ-loop
 add-i c = search needs
@@ -38,7 +42,13 @@ loop-less : tie.Need-loop-less Inv-loop μ-loop
 loop-less c = omega arith
 
 loop-again : tie.Need-loop-again Inv-loop μ-loop
-loop-again c = (omega arith, omega (arith, c .before .before .put-point .ensures .1), points-go-on _ _ _ _ (c .before .before .before .before .before .before .before .loop .i) (c .before .before .before .before .before .column .ensures .0) (c .before .before .before .before .curve-height .ensures .0) (c .before .before .before .before .before .before .before .loop .inv .2) (c .before .before .put-point .ensures .0))
+loop-again c = (
+  omega arith,
+  omega (arith, c .before .before .put-point .ensures .1),
+  points-go-on _ _ _ _ (c .before .before .before .before .before .before .before .loop .i)
+      (c .before .before .before .before .before .column .ensures .0) (c .before .before .before .before .curve-height .ensures .0)
+      (c .before .before .before .before .before .before .before .loop .inv .2) (c .before .before .put-point .ensures .0),
+)
 
 same-length : tie.Need-same-length Inv-loop μ-loop
 same-length c = c .before .loop .inv .2 .long

@@ -24,7 +24,12 @@ same-length : tie.Need-same-length
 same-length c = search needs
 
 returns-2 : tie.Need-returns-2
-returns-2 c = (rw (lt-leb (c .before .before .before .before .before .before .before .before .args .n) (c .before .before .before .before .before .before .before .before .args .slot - 2) (omega arith)) (rw (c .before .before .before .spline-inverse-by .ensures) at (c .before .before .put-found .ensures .0)), c .before .before .put-found .ensures .1)
+returns-2 c = (
+  rw (lt-leb (c .before .before .before .before .before .before .before .before .args .n)
+      (c .before .before .before .before .before .before .before .before .args .slot - 2) (omega arith))
+      (rw (c .before .before .before .spline-inverse-by .ensures) at (c .before .before .put-found .ensures .0)),
+  c .before .before .put-found .ensures .1,
+)
 
 pub put-find-spec : {M : Type 1} → statement M
 put-find-spec =

@@ -36,19 +36,27 @@ same-length : tie.Need-same-length
 same-length c = search needs
 
 returns : tie.Need-returns
-returns c = (rw (c .before .before .before .before .before .before .i .given .1) (c .before .before .put-note .ensures .0), c .before .before .put-note .ensures .1)
+returns c =
+    (rw (c .before .before .before .before .before .before .i .given .1) (c .before .before .put-note .ensures .0), c .before .before .put-note .ensures .1)
 
 same-length-2 : tie.Need-same-length-2
 same-length-2 c = search needs
 
 returns-2 : tie.Need-returns-2
-returns-2 c = (rw (c .before .before .before .before .before .enum-told .given .1) (c .before .before .put-note2 .ensures .0), c .before .before .put-note2 .ensures .1)
+returns-2 c = (
+  rw (c .before .before .before .before .before .enum-told .given .1) (c .before .before .put-note2 .ensures .0),
+  c .before .before .put-note2 .ensures .1,
+)
 
 same-length-3 : tie.Need-same-length-3
 same-length-3 c = search needs
 
 returns-3 : tie.Need-returns-3
-returns-3 c = (rw (c .before .before .before .before .before .before .i2 .given .1) (rw (c .before .before .before .segments .ensures .0) at (c .before .before .put-place .ensures .0)), c .before .before .put-place .ensures .1)
+returns-3 c = (
+  rw (c .before .before .before .before .before .before .i2 .given .1)
+      (rw (c .before .before .before .segments .ensures .0) at (c .before .before .put-place .ensures .0)),
+  c .before .before .put-place .ensures .1,
+)
 
 pub put-found-spec : {M : Type 1} → statement M
 put-found-spec =

@@ -46,13 +46,99 @@ slice-aggregate-put-word : tie.Need-slice-aggregate-put-word
 slice-aggregate-put-word c = search needs
 
 put-word-requires : tie.Need-put-word-requires
-put-word-requires c κs = omega (arith, c .before .before .before .before .before .before .before .before .before .before .before .before .before .before .before .before .before .before .before .before .before .before .before .before .before .before .before .before .before .before .before .before .before .pre, c .before .before .before .before .before .before .before .before .before .before .before .before .before .before .before .before .before .before .before .before .before .before .before .before .before .before .before .before .before .put-number .ensures .1, c .before .before .before .before .before .before .before .before .before .before .before .before .before .before .before .before .before .before .before .before .before .before .before .before .put-number2 .ensures .1, c .before .before .before .before .before .before .before .before .before .before .before .before .before .before .before .before .before .before .before .put-number3 .ensures .1, c .before .before .before .before .before .before .before .before .before .before .before .before .before .before .put-number4 .ensures .1, c .before .before .before .before .before .before .before .before .before .put-number5 .ensures .1, c .before .before .before .before .put-number6 .ensures .1, c .before .before .before .before .before .before .before .before .before .before .before .before .before .before .before .before .before .before .before .before .before .before .before .before .before .before .before .before .before .put-number .ensures .0 .long, c .before .before .before .before .before .before .before .before .before .before .before .before .before .before .before .before .before .before .before .before .before .before .before .before .put-number2 .ensures .0 .long, c .before .before .before .before .before .before .before .before .before .before .before .before .before .before .before .before .before .before .before .put-number3 .ensures .0 .long, c .before .before .before .before .before .before .before .before .before .before .before .before .before .before .put-number4 .ensures .0 .long, c .before .before .before .before .before .before .before .before .before .put-number5 .ensures .0 .long, c .before .before .before .before .put-number6 .ensures .0 .long)
+put-word-requires c κs =
+    omega (
+      arith,
+      c .before .before .before .before .before .before .before .before .before .before .before .before .before .before .before .before .before .before
+          .before .before .before .before .before .before .before .before .before .before .before .before .before .before .before .pre,
+      c .before .before .before .before .before .before .before .before .before .before .before .before .before .before .before .before .before
+          .before .before .before .before .before .before .before .before .before .before .before .before .put-number .ensures .1,
+      c .before .before .before .before .before .before .before .before .before .before .before .before .before .before .before .before
+          .before .before .before .before .before .before .before .before .put-number2 .ensures .1,
+      c .before .before .before .before .before .before .before .before .before .before .before .before .before .before .before
+          .before .before .before .before .put-number3 .ensures .1,
+      c .before .before .before .before .before .before .before .before .before .before .before .before .before .before
+          .put-number4 .ensures .1,
+      c .before .before .before .before .before .before .before .before .before .put-number5 .ensures .1,
+      c .before .before .before .before .put-number6 .ensures .1,
+      c .before .before .before .before .before .before .before .before .before .before .before .before
+          .before .before .before .before .before .before .before .before .before .before .before .before
+          .before .before .before .before .before .put-number .ensures .0 .long,
+      c .before .before .before .before .before .before .before .before .before .before
+          .before .before .before .before .before .before .before .before .before .before
+          .before .before .before .before .put-number2 .ensures .0 .long,
+      c .before .before .before .before .before .before .before .before .before
+          .before .before .before .before .before .before .before .before .before
+          .before .put-number3 .ensures .0 .long,
+      c .before .before .before .before .before .before .before
+          .before .before .before .before .before .before .before
+          .put-number4 .ensures .0 .long,
+      c .before .before .before .before .before .before
+          .before .before .before .put-number5 .ensures .0
+          .long,
+      c .before .before .before .before
+          .put-number6 .ensures .0 .long,
+    )
 
 same-length : tie.Need-same-length
-same-length c = c .before .before .put-word .ensures .long ∙ c .before .before .before .before .before .before .before .put-number6 .ensures .0 .long ∙ c .before .before .before .before .before .before .before .before .before .before .before .before .put-number5 .ensures .0 .long ∙ c .before .before .before .before .before .before .before .before .before .before .before .before .before .before .before .before .before .put-number4 .ensures .0 .long ∙ c .before .before .before .before .before .before .before .before .before .before .before .before .before .before .before .before .before .before .before .before .before .before .put-number3 .ensures .0 .long ∙ c .before .before .before .before .before .before .before .before .before .before .before .before .before .before .before .before .before .before .before .before .before .before .before .before .before .before .before .put-number2 .ensures .0 .long ∙ c .before .before .before .before .before .before .before .before .before .before .before .before .before .before .before .before .before .before .before .before .before .before .before .before .before .before .before .before .before .before .before .before .put-number .ensures .0 .long
+same-length c =
+    c .before .before .put-word .ensures .long ∙ c .before .before .before .before .before .before .before .put-number6 .ensures .0 .long
+    ∙ c .before .before .before .before .before .before .before .before .before .before .before .before .put-number5 .ensures .0 .long
+    ∙ c .before .before .before .before .before .before .before .before .before .before .before .before .before .before .before .before .before
+    .put-number4 .ensures .0 .long
+    ∙ c .before .before .before .before .before .before .before .before .before .before .before .before .before .before .before .before
+    .before .before .before .before .before .before .put-number3 .ensures .0 .long
+    ∙ c .before .before .before .before .before .before .before .before .before .before .before .before .before .before .before
+    .before .before .before .before .before .before .before .before .before .before .before .before .put-number2 .ensures .0
+    .long
+    ∙ c .before .before .before .before .before .before .before .before .before .before .before .before .before .before
+    .before .before .before .before .before .before .before .before .before .before .before .before .before .before
+    .before .before .before .before .put-number .ensures .0 .long
 
 returns : tie.Need-returns
-returns c = ((then (then (then (then (then (then (c .before .before .before .before .before .before .before .before .before .before .before .before .before .before .before .before .before .before .before .before .before .before .before .before .before .before .before .before .before .before .before .before .put-number .ensures .0) (c .before .before .before .before .before .before .before .before .before .before .before .before .before .before .before .before .before .before .before .before .before .before .before .before .before .before .before .put-number2 .ensures .0)) (c .before .before .before .before .before .before .before .before .before .before .before .before .before .before .before .before .before .before .before .before .before .before .put-number3 .ensures .0)) (c .before .before .before .before .before .before .before .before .before .before .before .before .before .before .before .before .before .put-number4 .ensures .0)) (c .before .before .before .before .before .before .before .before .before .before .before .before .put-number5 .ensures .0)) (c .before .before .before .before .before .before .before .put-number6 .ensures .0)) (c .before .before .put-word .ensures)), omega (arith, c .before .before .before .before .before .before .before .before .before .before .before .before .before .before .before .before .before .before .before .before .before .before .before .before .before .before .before .before .before .before .before .before .put-number .ensures .1, c .before .before .before .before .before .before .before .before .before .before .before .before .before .before .before .before .before .before .before .before .before .before .before .before .before .before .before .put-number2 .ensures .1, c .before .before .before .before .before .before .before .before .before .before .before .before .before .before .before .before .before .before .before .before .before .before .put-number3 .ensures .1, c .before .before .before .before .before .before .before .before .before .before .before .before .before .before .before .before .before .put-number4 .ensures .1, c .before .before .before .before .before .before .before .before .before .before .before .before .put-number5 .ensures .1, c .before .before .before .before .before .before .before .put-number6 .ensures .1, c .before .before .put-word .ensures .next))
+returns c = (
+  (then (then (then (then
+      (then (then (c .before .before .before .before .before .before .before .before .before .before .before .before .before .before .before .before
+      .before .before .before .before .before .before .before .before .before .before .before .before .before .before .before .before .put-number
+      .ensures .0) (c .before .before .before .before .before .before .before .before .before .before .before .before .before .before .before
+      .before .before .before .before .before .before .before .before .before .before .before .before .put-number2 .ensures .0))
+      (c .before .before .before .before .before .before .before .before .before .before .before .before .before .before .before .before
+      .before .before .before .before .before .before .put-number3 .ensures .0))
+      (c .before .before .before .before .before .before .before .before .before .before .before .before .before .before .before
+      .before .before .put-number4 .ensures .0))
+      (c .before .before .before .before .before .before .before .before .before .before .before .before .put-number5
+      .ensures .0)) (c .before .before .before .before .before .before .before .put-number6 .ensures .0))
+      (c .before .before .put-word .ensures)),
+  omega (
+    arith,
+    c .before .before .before .before .before .before .before .before .before .before .before
+        .before .before .before .before .before .before .before .before .before .before .before
+        .before .before .before .before .before .before .before .before .before .before
+        .put-number .ensures .1,
+    c .before .before .before .before .before .before .before .before .before
+        .before .before .before .before .before .before .before .before .before
+        .before .before .before .before .before .before .before .before .before
+        .put-number2 .ensures .1,
+    c .before .before .before .before .before .before .before
+        .before .before .before .before .before .before .before
+        .before .before .before .before .before .before .before
+        .before .put-number3 .ensures .1,
+    c .before .before .before .before .before
+        .before .before .before .before .before
+        .before .before .before .before .before
+        .before .before .put-number4
+        .ensures .1,
+    c .before .before .before
+        .before .before .before
+        .before .before
+        .before .before
+        .before
+        .before
+        .put-number5 .ensures .1,
+    c .before .before .before .before .before .before .before .put-number6 .ensures .1,
+    c .before .before .put-word .ensures .next,
+  ),
+)
 
 pub put-mark-spec : {M : Type 1} → statement M
 put-mark-spec =

@@ -27,7 +27,17 @@ same-length : tie.Need-same-length
 same-length c = search needs
 
 returns : tie.Need-returns
-returns c = (rw (c .before .before .before .before .before .before .before .before .place-column .ensures, c .before .before .before .before .before .before .row .ensures .0, c .before .before .before .before .before .before .before .height .ensures .0, c .before .before .before .before .before .local-column .ensures, c .before .before .before .before .local-column2 .ensures) at (c .before .before .put-mark .ensures .0), c .before .before .put-mark .ensures .1)
+returns c = (
+  rw (
+    c .before .before .before .before .before .before .before .before .place-column .ensures,
+    c .before .before .before .before .before .before .row .ensures .0,
+    c .before .before .before .before .before .before .before .height .ensures .0,
+    c .before .before .before .before .before .local-column .ensures,
+    c .before .before .before .before .local-column2 .ensures,
+  ) at
+      (c .before .before .put-mark .ensures .0),
+  c .before .before .put-mark .ensures .1,
+)
 
 pub put-place-spec : {M : Type 1} → statement M
 put-place-spec =

@@ -25,7 +25,8 @@ same-length : tie.Need-same-length
 same-length c = search needs
 
 returns-2 : tie.Need-returns-2
-returns-2 c = (rw (c .before .before .before .before .before .before .f .given .1) (c .before .before .put-note .ensures .0), c .before .before .put-note .ensures .1)
+returns-2 c =
+    (rw (c .before .before .before .before .before .before .f .given .1) (c .before .before .put-note .ensures .0), c .before .before .put-note .ensures .1)
 
 pub put-fault-spec : {M : Type 1} → statement M
 put-fault-spec =

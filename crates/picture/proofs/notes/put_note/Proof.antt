@@ -54,13 +54,94 @@ put-number-requires-3 : tie.Need-put-number-requires-3
 put-number-requires-3 c κs = search needs
 
 put-tail-requires : tie.Need-put-tail-requires
-put-tail-requires c κs = let w : c .before .before .before .before .before .before .before .before .before .put-word2 .result ≡ c .before .before .before .before .before .before .before .before .before .before .before .before .before .put-word .result + length (c .before .before .before .before .before .before .before .before .before .before .before .before .before .before .before .before .before .before .before .before .before .before .before .before .before .before .before .before .args .who .now) = c .before .before .before .before .before .before .before .before .before .put-word2 .ensures .next in omega (arith, c .before .before .before .before .before .before .before .before .before .before .before .before .before .before .before .before .before .before .before .before .before .before .before .before .before .before .before .before .pre .1, c .before .before .before .before .before .before .before .before .before .before .before .before .before .before .before .before .before .before .before .before .before .before .before .before .before .before .before .before .pre .2, c .before .before .before .before .before .before .before .before .before .before .before .before .before .before .before .before .before .before .before .before .before .before .before .put-number .ensures .1, c .before .before .before .before .before .before .before .before .before .before .before .before .before .before .before .before .before .before .put-number2 .ensures .1, c .before .before .before .before .before .before .before .before .before .before .before .before .before .put-word .ensures .next, w, c .before .before .before .put-number3 .ensures .1, c .before .before .before .before .before .before .before .before .before .before .before .before .before .before .before .before .before .before .before .before .before .before .before .put-number .ensures .0 .long, c .before .before .before .before .before .before .before .before .before .before .before .before .before .before .before .before .before .before .put-number2 .ensures .0 .long, c .before .before .before .before .before .before .before .before .before .before .before .before .before .put-word .ensures .long, c .before .before .before .before .before .before .before .before .before .put-word2 .ensures .long, c .before .before .before .put-number3 .ensures .0 .long)
+put-tail-requires c κs =
+    let w : c .before .before .before .before .before .before .before .before .before .put-word2 .result ≡ c .before .before .before .before .before .before
+    .before .before .before .before .before .before .before .put-word .result + length
+    (c .before .before .before .before .before .before .before .before .before .before .before .before .before .before .before .before .before
+    .before .before .before .before .before .before .before .before .before .before .before .args .who .now) =
+    c .before .before .before .before .before .before .before .before .before .put-word2 .ensures .next
+    in omega (
+      arith,
+      c .before .before .before .before .before .before .before .before .before .before .before .before .before .before .before
+          .before .before .before .before .before .before .before .before .before .before .before .before .before .pre .1,
+      c .before .before .before .before .before .before .before .before .before .before .before .before .before .before
+          .before .before .before .before .before .before .before .before .before .before .before .before .before .before .pre
+          .2,
+      c .before .before .before .before .before .before .before .before .before .before .before .before .before
+          .before .before .before .before .before .before .before .before .before .before .put-number .ensures .1,
+      c .before .before .before .before .before .before .before .before .before .before .before .before
+          .before .before .before .before .before .before .put-number2 .ensures .1,
+      c .before .before .before .before .before .before .before .before .before .before .before
+          .before .before .put-word .ensures .next,
+      w,
+      c .before .before .before .put-number3 .ensures .1,
+      c .before .before .before .before .before .before .before .before .before
+          .before .before .before .before .before .before .before .before .before
+          .before .before .before .before .before .put-number .ensures .0 .long,
+      c .before .before .before .before .before .before .before .before
+          .before .before .before .before .before .before .before .before
+          .before .before .put-number2 .ensures .0 .long,
+      c .before .before .before .before .before .before
+          .before .before .before .before .before .before
+          .before .put-word .ensures .long,
+      c .before .before .before .before .before
+          .before .before .before .before
+          .put-word2 .ensures .long,
+      c .before .before .before
+          .put-number3 .ensures .0
+          .long,
+    )
 
 same-length : tie.Need-same-length
 same-length c = search needs
 
 returns : tie.Need-returns
-returns c = let w : c .before .before .before .before .before .before .before .before .before .before .before .before .put-word2 .result ≡ c .before .before .before .before .before .before .before .before .before .before .before .before .before .before .before .before .put-word .result + length (c .before .before .before .before .before .before .before .before .before .before .before .before .before .before .before .before .before .before .before .before .before .before .before .before .before .before .before .before .before .before .before .args .who .now) = c .before .before .before .before .before .before .before .before .before .before .before .before .put-word2 .ensures .next in ((then (then (then (then (then (c .before .before .before .before .before .before .before .before .before .before .before .before .before .before .before .before .before .before .before .before .before .before .before .before .before .before .put-number .ensures .0) (c .before .before .before .before .before .before .before .before .before .before .before .before .before .before .before .before .before .before .before .before .before .put-number2 .ensures .0)) (c .before .before .before .before .before .before .before .before .before .before .before .before .before .before .before .before .put-word .ensures)) (c .before .before .before .before .before .before .before .before .before .before .before .before .put-word2 .ensures)) (rw (c .before .before .before .before .before .before .before .number .ensures) at (c .before .before .before .before .before .before .put-number3 .ensures .0))) (c .before .before .put-tail .ensures .0)), omega (arith, c .before .before .before .before .before .before .before .before .before .before .before .before .before .before .before .before .before .before .before .before .before .before .before .before .before .before .before .before .before .before .before .pre .1, c .before .before .before .before .before .before .before .before .before .before .before .before .before .before .before .before .before .before .before .before .before .before .before .before .before .before .put-number .ensures .1, c .before .before .before .before .before .before .before .before .before .before .before .before .before .before .before .before .before .before .before .before .before .put-number2 .ensures .1, c .before .before .before .before .before .before .before .before .before .before .before .before .before .before .before .before .put-word .ensures .next, w, c .before .before .before .before .before .before .put-number3 .ensures .1, c .before .before .put-tail .ensures .1))
+returns c =
+    let w : c .before .before .before .before .before .before .before .before .before .before .before .before .put-word2 .result ≡ c .before .before .before
+    .before .before .before .before .before .before .before .before .before .before .before .before .before .put-word .result + length
+    (c .before .before .before .before .before .before .before .before .before .before .before .before .before .before .before .before .before
+    .before .before .before .before .before .before .before .before .before .before .before .before .before .before .args .who .now) =
+    c .before .before .before .before .before .before .before .before .before .before .before .before .put-word2 .ensures .next
+    in (
+      (then (then (then
+          (then (then (c .before .before .before .before .before .before .before .before .before .before .before .before .before .before
+          .before .before .before .before .before .before .before .before .before .before .before .before .put-number .ensures .0)
+          (c .before .before .before .before .before .before .before .before .before .before .before .before .before .before
+          .before .before .before .before .before .before .before .put-number2 .ensures .0))
+          (c .before .before .before .before .before .before .before .before .before .before .before .before .before
+          .before .before .before .put-word .ensures))
+          (c .before .before .before .before .before .before .before .before .before .before .before .before
+          .put-word2 .ensures))
+          (rw (c .before .before .before .before .before .before .before .number .ensures) at
+          (c .before .before .before .before .before .before .put-number3 .ensures .0)))
+          (c .before .before .put-tail .ensures .0)),
+      omega (
+        arith,
+        c .before .before .before .before .before .before .before .before .before
+            .before .before .before .before .before .before .before .before .before
+            .before .before .before .before .before .before .before .before
+            .before .before .before .before .before .pre .1,
+        c .before .before .before .before .before .before .before
+            .before .before .before .before .before .before .before
+            .before .before .before .before .before .before
+            .before .before .before .before .before .before
+            .put-number .ensures .1,
+        c .before .before .before .before
+            .before .before .before .before
+            .before .before .before .before
+            .before .before .before
+            .before .before .before
+            .before .before
+            .before
+            .put-number2
+            .ensures
+            .1,
+        c .before .before .before .before .before .before .before .before .before .before .before .before .before .before .before .before .put-word .ensures .next,
+        w,
+        c .before .before .before .before .before .before .put-number3 .ensures .1,
+        c .before .before .put-tail .ensures .1,
+      ),
+    )
 
 pub put-note-spec : {M : Type 1} → statement M
 put-note-spec =

@@ -24,7 +24,12 @@ same-length : tie.Need-same-length
 same-length c = search needs
 
 returns : tie.Need-returns
-returns c = (rw (eq-eqb (numberOf (c .before .before .before .before .before .before .before .before .args .r)) 4 (sym (c .before .before .before .before .before .before .number .ensures) ∙ c .before .before .before .before .before .if1 .taken)) (rw (c .before .before .before .place .ensures) at (c .before .before .put-knot-tail .ensures .0)), c .before .before .put-knot-tail .ensures .1)
+returns c = (
+  rw (eq-eqb (numberOf (c .before .before .before .before .before .before .before .before .args .r)) 4
+      (sym (c .before .before .before .before .before .before .number .ensures) ∙ c .before .before .before .before .before .if1 .taken))
+      (rw (c .before .before .before .place .ensures) at (c .before .before .put-knot-tail .ensures .0)),
+  c .before .before .put-knot-tail .ensures .1,
+)
 
 place-requires-2 : tie.Need-place-requires-2
 place-requires-2 c κs = search needs
@@ -39,7 +44,18 @@ same-length-2 : tie.Need-same-length-2
 same-length-2 c = search needs
 
 returns-2 : tie.Need-returns-2
-returns-2 c = (rw (ne-eqb (numberOf (c .before .before .before .before .before .before .before .before .before .args .r)) 4 (λ q. c .before .before .before .before .before .before .if1 .left (c .before .before .before .before .before .before .before .number .ensures ∙ q)), eq-eqb (numberOf (c .before .before .before .before .before .before .before .before .before .args .r)) 10 (sym (c .before .before .before .before .before .before .before .number .ensures) ∙ c .before .before .before .before .before .if2 .taken)) (rw (c .before .before .before .place2 .ensures) at (c .before .before .put-knot-tail2 .ensures .0)), c .before .before .put-knot-tail2 .ensures .1)
+returns-2 c = (
+  rw (
+    ne-eqb (numberOf (c .before .before .before .before .before .before .before .before .before .args .r)) 4
+        (λ q. c .before .before .before .before .before .before .if1 .left
+        (c .before .before .before .before .before .before .before .number .ensures ∙ q)),
+    eq-eqb (numberOf (c .before .before .before .before .before .before .before .before .before .args .r)) 10
+        (sym (c .before .before .before .before .before .before .before .number .ensures)
+        ∙ c .before .before .before .before .before .if2 .taken),
+  )
+      (rw (c .before .before .before .place2 .ensures) at (c .before .before .put-knot-tail2 .ensures .0)),
+  c .before .before .put-knot-tail2 .ensures .1,
+)
 
 slice-aggregate-put-word : tie.Need-slice-aggregate-put-word
 slice-aggregate-put-word c = search needs
@@ -51,7 +67,17 @@ same-length-3 : tie.Need-same-length-3
 same-length-3 c = search needs
 
 returns-3 : tie.Need-returns-3
-returns-3 c = (rw (ne-eqb (numberOf (c .before .before .before .before .before .before .before .before .before .args .r)) 4 (λ q. c .before .before .before .before .before .before .if1 .left (c .before .before .before .before .before .before .before .number .ensures ∙ q)), ne-eqb (numberOf (c .before .before .before .before .before .before .before .before .before .args .r)) 10 (λ q. c .before .before .before .before .before .if2 .left (c .before .before .before .before .before .before .before .number .ensures ∙ q))) (c .before .before .put-word .ensures), omega (arith, c .before .before .put-word .ensures .next))
+returns-3 c = (
+  rw (
+    ne-eqb (numberOf (c .before .before .before .before .before .before .before .before .before .args .r)) 4
+        (λ q. c .before .before .before .before .before .before .if1 .left
+        (c .before .before .before .before .before .before .before .number .ensures ∙ q)),
+    ne-eqb (numberOf (c .before .before .before .before .before .before .before .before .before .args .r)) 10
+        (λ q. c .before .before .before .before .before .if2 .left
+        (c .before .before .before .before .before .before .before .number .ensures ∙ q)),
+  ) (c .before .before .put-word .ensures),
+  omega (arith, c .before .before .put-word .ensures .next),
+)
 
 pub put-tail-spec : {M : Type 1} → statement M
 put-tail-spec =

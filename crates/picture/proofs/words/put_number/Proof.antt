@@ -16,13 +16,20 @@ cast-put-decimal : tie.Need-cast-put-decimal
 cast-put-decimal c = search needs
 
 put-decimal-requires : tie.Need-put-decimal-requires
-put-decimal-requires c κs = (omega (arith, c .lesser .ensures), omega (arith, c .before .before .before .before .put-word .ensures .next, c .before .before .before .before .put-word .ensures .long))
+put-decimal-requires c κs = (
+  omega (arith, c .lesser .ensures),
+  omega (arith, c .before .before .before .before .put-word .ensures .next, c .before .before .before .before .put-word .ensures .long),
+)
 
 same-length : tie.Need-same-length
 same-length c = search needs
 
 returns : tie.Need-returns
-returns c = ((then (c .before .before .before .before .before .before .before .put-word .ensures) (rw (c .before .before .before .lesser .ensures) at (c .before .before .put-decimal .ensures .0))), omega (arith, c .before .before .before .before .before .before .before .put-word .ensures .next, c .before .before .put-decimal .ensures .1))
+returns c = (
+  (then (c .before .before .before .before .before .before .before .put-word .ensures)
+      (rw (c .before .before .before .lesser .ensures) at (c .before .before .put-decimal .ensures .0))),
+  omega (arith, c .before .before .before .before .before .before .before .put-word .ensures .next, c .before .before .put-decimal .ensures .1),
+)
 
 pub put-number-spec : {M : Type 1} → statement M
 put-number-spec =

@@ -25,7 +25,15 @@ same-length : tie.Need-same-length
 same-length c = search needs
 
 returns : tie.Need-returns
-returns c = ((then (c .before .before .before .before .before .before .before .before .put-number .ensures .0) (rw (c .before .before .before .row .ensures .0) at (c .before .before .put-number2 .ensures .0))), omega (arith, c .before .before .before .before .before .before .before .before .put-number .ensures .1, c .before .before .put-number2 .ensures .1))
+returns c = (
+  (then (c .before .before .before .before .before .before .before .before .put-number .ensures .0)
+      (rw (c .before .before .before .row .ensures .0) at (c .before .before .put-number2 .ensures .0))),
+  omega (
+    arith,
+    c .before .before .before .before .before .before .before .before .put-number .ensures .1,
+    c .before .before .put-number2 .ensures .1,
+  ),
+)
 
 pub put-point-spec : {M : Type 1} → statement M
 put-point-spec =

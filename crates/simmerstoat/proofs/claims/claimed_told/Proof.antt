@@ -27,7 +27,8 @@ returns-2 : tie.Need-returns-2
 returns-2 c = search needs
 
 returns-3 : tie.Need-returns-3
-returns-3 c = let is = c .before .before .c .given .1 in (c .reply .ensures ∙ sym (ap claimedReply is), sym (ap (λ e. holdsLeft e (c .before .before .before .before .args .holds .now)) is))
+returns-3 c = let is = c .before .before .c .given .1
+    in (c .reply .ensures ∙ sym (ap claimedReply is), sym (ap (λ e. holdsLeft e (c .before .before .before .before .args .holds .now)) is))
 
 pub claimed-told-spec : {M : Type 1} → statement M
 claimed-told-spec =

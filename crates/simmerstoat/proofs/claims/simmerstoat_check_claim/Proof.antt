@@ -32,7 +32,28 @@ claimed-told-requires : tie.Need-claimed-told-requires
 claimed-told-requires c κs = search needs
 
 returns-2 : tie.Need-returns-2
-returns-2 c = let old = c .before .before .before .before .before .before .before .before .args .holds .now in let call = c .before .before .check-claim .ensures in (found noBasis (λ b. claimedReply (claimOf b (c .before .before .before .before .before .before .before .before .args .y) (c .before .before .before .before .before .before .before .before .args .segment) (c .before .before .before .before .before .before .before .before .args .x) (c .before .before .before .before .before .before .before .before .args .precision) (c .before .before .before .before .before .before .before .before .args .knots .now))) (c .before .before .before .before .before .before .basis-of .ensures) (c .before .before .before .before .c .given .1) (c .claimed-told .ensures .0 ∙ ap claimedReply call), found old (λ b. holdsLeft (claimOf b (c .before .before .before .before .before .before .before .before .args .y) (c .before .before .before .before .before .before .before .before .args .segment) (c .before .before .before .before .before .before .before .before .args .x) (c .before .before .before .before .before .before .before .before .args .precision) (c .before .before .before .before .before .before .before .before .args .knots .now)) old) (c .before .before .before .before .before .before .basis-of .ensures) (c .before .before .before .before .c .given .1) (c .claimed-told .ensures .1 ∙ ap (λ e. holdsLeft e old) call))
+returns-2 c = let old = c .before .before .before .before .before .before .before .before .args .holds .now in let call =
+    c .before .before .check-claim .ensures
+    in (
+      found noBasis (λ b. claimedReply
+          (claimOf b (c .before .before .before .before .before .before .before .before .args .y)
+          (c .before .before .before .before .before .before .before .before .args .segment)
+          (c .before .before .before .before .before .before .before .before .args .x)
+          (c .before .before .before .before .before .before .before .before .args .precision)
+          (c .before .before .before .before .before .before .before .before .args .knots .now)))
+          (c .before .before .before .before .before .before .basis-of .ensures) (c .before .before .before .before .c .given .1)
+          (c .claimed-told .ensures .0 ∙ ap claimedReply call),
+      found old
+          (λ b. holdsLeft
+          (claimOf b (c .before .before .before .before .before .before .before .before .args .y)
+          (c .before .before .before .before .before .before .before .before .args .segment)
+          (c .before .before .before .before .before .before .before .before .args .x)
+          (c .before .before .before .before .before .before .before .before .args .precision)
+          (c .before .before .before .before .before .before .before .before .args .knots .now)) old)
+          (c .before .before .before .before .before .before .basis-of .ensures)
+          (c .before .before .before .before .c .given .1)
+          (c .claimed-told .ensures .1 ∙ ap (λ e. holdsLeft e old) call),
+    )
 
 pub simmerstoat-check-claim-spec : {M : Type 1} → statement M
 simmerstoat-check-claim-spec =

@@ -18,7 +18,9 @@ returns-3 : tie.Need-returns-3
 returns-3 c = ap (methodOf (c .before .args .ends)) (sym (c .match .keys3))
 
 returns-4 : tie.Need-returns-4
-returns-4 c = sym (List·getD-eq-default (map (Known (c .before .args .ends)) methods) Unknown {n = c .before .args .n} (omega (arith, c .match .rest .0 .0 .1, c .match .rest .0 .1, c .match .rest .1)))
+returns-4 c =
+    sym (List·getD-eq-default (map (Known (c .before .args .ends)) methods) Unknown {n = c .before .args .n}
+    (omega (arith, c .match .rest .0 .0 .1, c .match .rest .0 .1, c .match .rest .1)))
 
 pub by-method-spec : {M : Type 1} → statement M
 by-method-spec = tie.close (tie.spec returns returns-2 returns-3 returns-4)

@@ -23,7 +23,9 @@ returns-2 : tie.Need-returns-2
 returns-2 c = c .by-method2 .ensures ∙ ap (λ (n : ℕ). wayOf n (c .before .before .args .method)) (sym (c .before .match .keys2))
 
 returns-3 : tie.Need-returns-3
-returns-3 c = sym (List·getD-eq-default (map (λ e. methodOf e (c .before .args .method)) rules) Unknown {n = c .before .args .ends} (omega (arith, c .match .rest .0 .1, c .match .rest .1)))
+returns-3 c =
+    sym (List·getD-eq-default (map (λ e. methodOf e (c .before .args .method)) rules) Unknown {n = c .before .args .ends}
+    (omega (arith, c .match .rest .0 .1, c .match .rest .1)))
 
 pub way-of-spec : {M : Type 1} → statement M
 way-of-spec = tie.close (tie.spec by-method-requires by-method-requires-2 returns returns-2 returns-3)

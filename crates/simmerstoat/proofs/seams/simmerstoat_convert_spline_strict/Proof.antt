@@ -25,9 +25,11 @@ returns c =
     let out = args .out .now in
     let asked = c .before .before .basis-of .ensures in
     let unknown = c .enum-told .given .1 in (
-      unfound noBasis (λ f. chosen (chosenOf (args .to)) noBasis (λ t. convertedReply (answerOf (strictOf f t (args .knots .now) (args .allowance) (length out))))) asked unknown,
+      unfound noBasis (λ f. chosen (chosenOf (args .to)) noBasis
+          (λ t. convertedReply (answerOf (strictOf f t (args .knots .now) (args .allowance) (length out))))) asked unknown,
       (
-        unfound written (λ f. chosen (chosenOf (args .to)) written (λ t. lengthLeft (answerOf (strictOf f t (args .knots .now) (args .allowance) (length out))) written)) asked unknown,
+        unfound written (λ f. chosen (chosenOf (args .to)) written
+            (λ t. lengthLeft (answerOf (strictOf f t (args .knots .now) (args .allowance) (length out))) written)) asked unknown,
         unfound out (λ f. chosen (chosenOf (args .to)) out (λ t. bufferOf (strictOf f t (args .knots .now) (args .allowance) (length out)) out)) asked unknown,
       ),
     )
@@ -51,10 +53,15 @@ returns-2 c =
     let from = c .before .before .before .before .c .given .0 .0 in
     let asked-to = c .before .before .basis-of2 .ensures in
     let unknown = c .enum-told2 .given .1 in (
-      found noBasis (λ f. chosen (chosenOf (args .to)) noBasis (λ t. convertedReply (answerOf (strictOf f t (args .knots .now) (args .allowance) (length out))))) asked known (unfound noBasis (λ t. convertedReply (answerOf (strictOf from t (args .knots .now) (args .allowance) (length out)))) asked-to unknown),
+      found noBasis (λ f. chosen (chosenOf (args .to)) noBasis
+          (λ t. convertedReply (answerOf (strictOf f t (args .knots .now) (args .allowance) (length out))))) asked known
+          (unfound noBasis (λ t. convertedReply (answerOf (strictOf from t (args .knots .now) (args .allowance) (length out)))) asked-to unknown),
       (
-        found written (λ f. chosen (chosenOf (args .to)) written (λ t. lengthLeft (answerOf (strictOf f t (args .knots .now) (args .allowance) (length out))) written)) asked known (unfound written (λ t. lengthLeft (answerOf (strictOf from t (args .knots .now) (args .allowance) (length out))) written) asked-to unknown),
-        found out (λ f. chosen (chosenOf (args .to)) out (λ t. bufferOf (strictOf f t (args .knots .now) (args .allowance) (length out)) out)) asked known (unfound out (λ t. bufferOf (strictOf from t (args .knots .now) (args .allowance) (length out)) out) asked-to unknown),
+        found written (λ f. chosen (chosenOf (args .to)) written
+            (λ t. lengthLeft (answerOf (strictOf f t (args .knots .now) (args .allowance) (length out))) written)) asked known
+            (unfound written (λ t. lengthLeft (answerOf (strictOf from t (args .knots .now) (args .allowance) (length out))) written) asked-to unknown),
+        found out (λ f. chosen (chosenOf (args .to)) out (λ t. bufferOf (strictOf f t (args .knots .now) (args .allowance) (length out)) out)) asked known
+            (unfound out (λ t. bufferOf (strictOf from t (args .knots .now) (args .allowance) (length out)) out) asked-to unknown),
       ),
     )
 
@@ -81,10 +88,16 @@ returns-3 c =
     let reply = c .length-told .ensures .0 ∙ ap convertedReply (call .0) in
     let length-left = c .length-told .ensures .1 ∙ ap (λ a. lengthLeft a written) (call .0) in
     let buffer = call .1 in (
-      found noBasis (λ f. chosen (chosenOf (args .to)) noBasis (λ t. convertedReply (answerOf (strictOf f t (args .knots .now) (args .allowance) (length out))))) asked known (found noBasis (λ t. convertedReply (answerOf (strictOf from t (args .knots .now) (args .allowance) (length out)))) asked-to known-to reply),
+      found noBasis (λ f. chosen (chosenOf (args .to)) noBasis
+          (λ t. convertedReply (answerOf (strictOf f t (args .knots .now) (args .allowance) (length out))))) asked known
+          (found noBasis (λ t. convertedReply (answerOf (strictOf from t (args .knots .now) (args .allowance) (length out)))) asked-to known-to reply),
       (
-        found written (λ f. chosen (chosenOf (args .to)) written (λ t. lengthLeft (answerOf (strictOf f t (args .knots .now) (args .allowance) (length out))) written)) asked known (found written (λ t. lengthLeft (answerOf (strictOf from t (args .knots .now) (args .allowance) (length out))) written) asked-to known-to length-left),
-        found out (λ f. chosen (chosenOf (args .to)) out (λ t. bufferOf (strictOf f t (args .knots .now) (args .allowance) (length out)) out)) asked known (found out (λ t. bufferOf (strictOf from t (args .knots .now) (args .allowance) (length out)) out) asked-to known-to buffer),
+        found written (λ f. chosen (chosenOf (args .to)) written
+            (λ t. lengthLeft (answerOf (strictOf f t (args .knots .now) (args .allowance) (length out))) written)) asked known
+            (found written (λ t. lengthLeft (answerOf (strictOf from t (args .knots .now) (args .allowance) (length out))) written) asked-to known-to
+            length-left),
+        found out (λ f. chosen (chosenOf (args .to)) out (λ t. bufferOf (strictOf f t (args .knots .now) (args .allowance) (length out)) out)) asked known
+            (found out (λ t. bufferOf (strictOf from t (args .knots .now) (args .allowance) (length out)) out) asked-to known-to buffer),
       ),
     )
 

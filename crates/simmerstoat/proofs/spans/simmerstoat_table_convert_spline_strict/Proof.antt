@@ -20,7 +20,9 @@ enum-told c = search needs
 returns : tie.Need-returns
 returns c =
     let args = c .before .before .before .before .before .args in
-    left-unknown (args .span) (λ f t. tableStrictOf (tableOf (args .span) f) t (args .knots .now) (args .allowance) (length (args .out .now))) (chosenOf (args .from)) (chosenOf (args .to)) (args .handed .now) (args .written .now) (args .out .now) (c .before .before .basis-of .ensures) (c .enum-told .given .1)
+    left-unknown (args .span) (λ f t. tableStrictOf (tableOf (args .span) f) t (args .knots .now) (args .allowance) (length (args .out .now)))
+    (chosenOf (args .from)) (chosenOf (args .to)) (args .handed .now) (args .written .now) (args .out .now) (c .before .before .basis-of .ensures)
+    (c .enum-told .given .1)
 
 basis-of-requires-2 : tie.Need-basis-of-requires-2
 basis-of-requires-2 c κs = search needs
@@ -34,7 +36,10 @@ enum-told-2 c = search needs
 returns-2 : tie.Need-returns-2
 returns-2 c =
     let args = c .before .before .before .before .before .before .before .before .before .args in
-    left-unknown-to (args .span) (λ f t. tableStrictOf (tableOf (args .span) f) t (args .knots .now) (args .allowance) (length (args .out .now))) (chosenOf (args .from)) (chosenOf (args .to)) (args .handed .now) (args .written .now) (args .out .now) (c .before .before .before .before .before .before .basis-of .ensures) (c .before .before .before .before .c .given .1) (c .before .before .basis-of2 .ensures) (c .enum-told2 .given .1)
+    left-unknown-to (args .span) (λ f t. tableStrictOf (tableOf (args .span) f) t (args .knots .now) (args .allowance) (length (args .out .now)))
+    (chosenOf (args .from)) (chosenOf (args .to)) (args .handed .now) (args .written .now) (args .out .now)
+    (c .before .before .before .before .before .before .basis-of .ensures) (c .before .before .before .before .c .given .1)
+    (c .before .before .basis-of2 .ensures) (c .enum-told2 .given .1)
 
 table-convert-spline-strict-requires : tie.Need-table-convert-spline-strict-requires
 table-convert-spline-strict-requires c κs = search needs
@@ -47,14 +52,17 @@ same-length c = search needs
 
 returns-3 : tie.Need-returns-3
 returns-3 c =
-    let args = c .before .before .before .before .before .before .before .before .before .before .before .before .before .before .before .before .before .args in
+    let args =
+    c .before .before .before .before .before .before .before .before .before .before .before .before .before .before .before .before .before .args in
     let asked = c .before .before .before .before .before .before .before .before .before .before .before .before .before .before .basis-of .ensures in
     let known = c .before .before .before .before .before .before .before .before .before .before .before .before .c .given .1 in
     let asked-to = c .before .before .before .before .before .before .before .before .before .before .basis-of2 .ensures in
     let known-to = c .before .before .before .before .before .before .before .before .d .given .1 in
     let call = c .before .before .before .before .before .table-convert-spline-strict .ensures in
     let told = c .handed-told .ensures in
-    left (args .span) (λ f t. tableStrictOf (tableOf (args .span) f) t (args .knots .now) (args .allowance) (length (args .out .now))) (chosenOf (args .from)) (chosenOf (args .to)) (args .handed .now) (args .written .now) (args .out .now) asked known asked-to known-to (call .0) (call .1) (told .0) (told .1) (told .2)
+    left (args .span) (λ f t. tableStrictOf (tableOf (args .span) f) t (args .knots .now) (args .allowance) (length (args .out .now)))
+    (chosenOf (args .from)) (chosenOf (args .to)) (args .handed .now) (args .written .now) (args .out .now) asked known asked-to known-to (call .0)
+    (call .1) (told .0) (told .1) (told .2)
 
 pub simmerstoat-table-convert-spline-strict-spec : {M : Type 1} → statement M
 simmerstoat-table-convert-spline-strict-spec =

@@ -33,8 +33,10 @@ returns-2 c =
     let known = c .before .before .before .before .c .given .1 in
     let old = args .value .now in
     let call = c .before .before .table-spline .ensures in (
-      found noBasis (λ b. evaluatedReply (tableSplineOf (tableOf (args .span) b) (args .x) (args .knots .now))) asked known (c .value-told .ensures .0 ∙ ap evaluatedReply call),
-      found old (λ b. valueLeft (tableSplineOf (tableOf (args .span) b) (args .x) (args .knots .now)) old) asked known (c .value-told .ensures .1 ∙ ap (λ e. valueLeft e old) call),
+      found noBasis (λ b. evaluatedReply (tableSplineOf (tableOf (args .span) b) (args .x) (args .knots .now))) asked known
+          (c .value-told .ensures .0 ∙ ap evaluatedReply call),
+      found old (λ b. valueLeft (tableSplineOf (tableOf (args .span) b) (args .x) (args .knots .now)) old) asked known
+          (c .value-told .ensures .1 ∙ ap (λ e. valueLeft e old) call),
     )
 
 pub simmerstoat-table-spline-spec : {M : Type 1} → statement M

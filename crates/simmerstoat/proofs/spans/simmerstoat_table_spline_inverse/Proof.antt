@@ -27,10 +27,15 @@ returns c =
     let whole = args .whole .now in
     let asked = c .before .before .basis-of .ensures in
     let unknown = c .enum-told .given .1 in (
-      unfound noBasis (λ b. timedReply (tableInverseBy Knots AsCrate (tableOf (args .span) b) (args .y) (args .knots .now) (args .check) defaultLimit defaultPrecision)) asked unknown,
+      unfound noBasis (λ b. timedReply
+          (tableInverseBy Knots AsCrate (tableOf (args .span) b) (args .y) (args .knots .now) (args .check) defaultLimit defaultPrecision)) asked unknown,
       (
-        unfound place (λ b. timedPlace (tableInverseBy Knots AsCrate (tableOf (args .span) b) (args .y) (args .knots .now) (args .check) defaultLimit defaultPrecision) place) asked unknown,
-        unfound whole (λ b. timedWhole (tableInverseBy Knots AsCrate (tableOf (args .span) b) (args .y) (args .knots .now) (args .check) defaultLimit defaultPrecision) whole) asked unknown,
+        unfound place (λ b. timedPlace
+            (tableInverseBy Knots AsCrate (tableOf (args .span) b) (args .y) (args .knots .now) (args .check) defaultLimit defaultPrecision) place) asked
+            unknown,
+        unfound whole (λ b. timedWhole
+            (tableInverseBy Knots AsCrate (tableOf (args .span) b) (args .y) (args .knots .now) (args .check) defaultLimit defaultPrecision) whole) asked
+            unknown,
       ),
     )
 
@@ -48,10 +53,16 @@ returns-2 c =
     let asked = c .before .before .before .before .before .before .before .basis-of .ensures in
     let known = c .before .before .before .before .before .c .given .1 in
     let call = c .before .before .before .table-spline-inverse .ensures in (
-      found noBasis (λ b. timedReply (tableInverseBy Knots AsCrate (tableOf (args .span) b) (args .y) (args .knots .now) (args .check) defaultLimit defaultPrecision)) asked known (c .timed-told .ensures .0 ∙ ap timedReply call),
+      found noBasis (λ b. timedReply
+          (tableInverseBy Knots AsCrate (tableOf (args .span) b) (args .y) (args .knots .now) (args .check) defaultLimit defaultPrecision)) asked known
+          (c .timed-told .ensures .0 ∙ ap timedReply call),
       (
-        found place (λ b. timedPlace (tableInverseBy Knots AsCrate (tableOf (args .span) b) (args .y) (args .knots .now) (args .check) defaultLimit defaultPrecision) place) asked known (c .timed-told .ensures .1 ∙ ap (λ a. timedPlace a place) call),
-        found whole (λ b. timedWhole (tableInverseBy Knots AsCrate (tableOf (args .span) b) (args .y) (args .knots .now) (args .check) defaultLimit defaultPrecision) whole) asked known (c .timed-told .ensures .2 ∙ ap (λ a. timedWhole a whole) call),
+        found place (λ b. timedPlace
+            (tableInverseBy Knots AsCrate (tableOf (args .span) b) (args .y) (args .knots .now) (args .check) defaultLimit defaultPrecision) place) asked
+            known (c .timed-told .ensures .1 ∙ ap (λ a. timedPlace a place) call),
+        found whole (λ b. timedWhole
+            (tableInverseBy Knots AsCrate (tableOf (args .span) b) (args .y) (args .knots .now) (args .check) defaultLimit defaultPrecision) whole) asked
+            known (c .timed-told .ensures .2 ∙ ap (λ a. timedWhole a whole) call),
       ),
     )
 

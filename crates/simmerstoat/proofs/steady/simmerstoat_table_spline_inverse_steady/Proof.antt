@@ -45,10 +45,13 @@ returns-2 c =
     let asked = c .before .before .before .before .before .before .before .basis-of .ensures in
     let known = c .before .before .before .before .before .c .given .1 in
     let call = c .before .before .before .table-spline-inverse-steady .ensures in (
-      found noBasis (λ b. timedReply (tableSteadyOf (tableOf (args .span) b) (args .y) (args .knots .now) (args .check))) asked known (c .timed-told .ensures .0 ∙ ap timedReply call),
+      found noBasis (λ b. timedReply (tableSteadyOf (tableOf (args .span) b) (args .y) (args .knots .now) (args .check))) asked known
+          (c .timed-told .ensures .0 ∙ ap timedReply call),
       (
-        found place (λ b. timedPlace (tableSteadyOf (tableOf (args .span) b) (args .y) (args .knots .now) (args .check)) place) asked known (c .timed-told .ensures .1 ∙ ap (λ a. timedPlace a place) call),
-        found whole (λ b. timedWhole (tableSteadyOf (tableOf (args .span) b) (args .y) (args .knots .now) (args .check)) whole) asked known (c .timed-told .ensures .2 ∙ ap (λ a. timedWhole a whole) call),
+        found place (λ b. timedPlace (tableSteadyOf (tableOf (args .span) b) (args .y) (args .knots .now) (args .check)) place) asked known
+            (c .timed-told .ensures .1 ∙ ap (λ a. timedPlace a place) call),
+        found whole (λ b. timedWhole (tableSteadyOf (tableOf (args .span) b) (args .y) (args .knots .now) (args .check)) whole) asked known
+            (c .timed-told .ensures .2 ∙ ap (λ a. timedWhole a whole) call),
       ),
     )
 

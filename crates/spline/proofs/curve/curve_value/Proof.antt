@@ -22,22 +22,40 @@ step-requires c κs = search needs
 mul-start : tie.Need-mul-start
 mul-start c =
     let o = c .before .before .before .before in
-    omega (arith, o .pre .1, starts (o .args .b) (length (o .args .knots .now)) (o .pre .0) (c .before .before .segments .ensures) (c .step .ensures .0) (c .before .place .ensures))
+    omega (
+      arith,
+      o .pre .1,
+      starts (o .args .b) (length (o .args .knots .now)) (o .pre .0) (c .before .before .segments .ensures) (c .step .ensures .0)
+          (c .before .place .ensures),
+    )
 
 mul-value-in : tie.Need-mul-value-in
 mul-value-in c =
     let o = c .before .before .before .before in
-    omega (arith, o .pre .1, starts (o .args .b) (length (o .args .knots .now)) (o .pre .0) (c .before .before .segments .ensures) (c .step .ensures .0) (c .before .place .ensures))
+    omega (
+      arith,
+      o .pre .1,
+      starts (o .args .b) (length (o .args .knots .now)) (o .pre .0) (c .before .before .segments .ensures) (c .step .ensures .0)
+          (c .before .place .ensures),
+    )
 
 sub-value-in : tie.Need-sub-value-in
 sub-value-in c =
     let o = c .before .before .before .before in
-    omega (arith, starts (o .args .b) (length (o .args .knots .now)) (o .pre .0) (c .before .before .segments .ensures) (c .step .ensures .0) (c .before .place .ensures))
+    omega (
+      arith,
+      starts (o .args .b) (length (o .args .knots .now)) (o .pre .0) (c .before .before .segments .ensures) (c .step .ensures .0)
+          (c .before .place .ensures),
+    )
 
 part-value-in-start : tie.Need-part-value-in-start
 part-value-in-start c =
     let o = c .before .before .before .before in
-    omega (arith, starts (o .args .b) (length (o .args .knots .now)) (o .pre .0) (c .before .before .segments .ensures) (c .step .ensures .0) (c .before .place .ensures))
+    omega (
+      arith,
+      starts (o .args .b) (length (o .args .knots .now)) (o .pre .0) (c .before .before .segments .ensures) (c .step .ensures .0)
+          (c .before .place .ensures),
+    )
 
 part-value-in-end : tie.Need-part-value-in-end
 part-value-in-end c = search needs
@@ -46,13 +64,19 @@ value-in-requires : tie.Need-value-in-requires
 value-in-requires c κs =
     let p = c .before in
     let o = p .before .before .before .before in
-    simp (rest, length-drop) (omega (arith, starts (o .args .b) (length (o .args .knots .now)) (o .pre .0) (p .before .before .segments .ensures) (p .step .ensures .0) (p .before .place .ensures)))
+    simp (rest, length-drop)
+    (omega (
+      arith,
+      starts (o .args .b) (length (o .args .knots .now)) (o .pre .0) (p .before .before .segments .ensures) (p .step .ensures .0)
+          (p .before .place .ensures),
+    ))
 
 returns : tie.Need-returns
 returns c =
     let p = c .before .before in
     let o = p .before .before .before .before in
-    put-together (o .args .b) (o .args .x) (o .args .knots .now) (p .before .before .segments .ensures) (p .step .ensures .0) (p .before .place .ensures) refl (c .value-in .ensures)
+    put-together (o .args .b) (o .args .x) (o .args .knots .now) (p .before .before .segments .ensures) (p .step .ensures .0) (p .before .place .ensures)
+    refl (c .value-in .ensures)
 
 pub curve-value-spec : {M : Type 1} → statement M
 curve-value-spec =

@@ -21,7 +21,9 @@ double-of-requires-2 : tie.Need-double-of-requires-2
 double-of-requires-2 c κs = search needs
 
 returns : tie.Need-returns
-returns c = spotted _ _ (omega arith) (c .before .before .before .clamped .ensures) (c .before .before .double-of .ensures) (c .before .whole-up-to .ensures .0) (c .before .whole-up-to .ensures .1) (c .double-of2 .ensures)
+returns c =
+    spotted _ _ (omega arith) (c .before .before .before .clamped .ensures) (c .before .before .double-of .ensures) (c .before .whole-up-to .ensures .0)
+    (c .before .whole-up-to .ensures .1) (c .double-of2 .ensures)
 
 pub place-spec : {M : Type 1} → statement M
 place-spec =
