@@ -170,7 +170,7 @@ impl<B: Basis> Table<B> {
     /// let bend = [0.0, 0.0, 0.0, 0.0, 1.0, 1.0, 1.0];
     /// let (night, mut out) = (Table::<Bezier>::new(7_200), [7.0; 7]);
     /// let told = night.convert_spline_strict_into::<Hermite>(&bend, 0.0, &mut out);
-    /// assert_eq!((told, out), (Err(Refusal::LostSeam(1)), [7.0; 7]));
+    /// assert_eq!((told.err(), out), (Some(Refusal::LostSeam(1)), [7.0; 7]));
     /// let (new, written) = night.convert_spline_strict_into::<Hermite>(&bend, 3.0, &mut out)?;
     /// assert_eq!((new.span, written, out[6]), (7_200, 6, 7.0));
     /// # Ok::<(), Refusal>(())
