@@ -1,5 +1,5 @@
-// The refusals that several calls share: lengths, knots, and what an inversion is asked. A call takes its own from here, in the table's
-// order.
+// The refusals that several calls share: lengths, knots, and what an inversion is asked.
+// A call asks for those that it has use for, in the order of the table (crates/error/specs/Refusals.antt).
 ghost use mathlib.Core.Path.{_≡_};
 ghost use mathlib.Core.List.{[], _∷_};
 ghost use Prim.Native.Nat.{_≤_};

@@ -8,8 +8,8 @@ use Rattle.basis.specs.declared.Basis.{Basis}
 use Rattle.basis.specs.declared.Basis.the-variants.{Bspline, Bezier, CatmullRom, Hermite, Linear, Power}
 use Rattle.table.specs.declared.Table.{Table}
 
--- two bases, old and new; two spans, 0 for none; a knot place with what stood there and what stands there now; or a place that one table
--- alone has, with what stands there
+-- two bases, old and new; two spans, 0 for none; a knot place with what stood there and what stands there now;
+-- or a place that one table alone has, with what stands there
 pub data Difference : Type 0 where
   basis : Basis → Basis → Difference
   span : ℕ → ℕ → Difference

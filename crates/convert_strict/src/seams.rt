@@ -72,8 +72,8 @@ fn shifted(gap: usize, h: Weights, w: Weights) -> Weights
     w
 }
 
-// The lowest segment at whose seam a double is lost; 0 where none is. Nothing is written:
-// `held` is the part of the output that the next seam overlaps.
+// The lowest segment at whose seam a double is lost; 0 where none is. Nothing is written: `held` has the four doubles of the output that
+// the next seam overlaps.
 pub fn lost_seam(m: [[f64; 4]; 4], step: usize, knots: &[f64], gap: usize, allowance: f64) -> usize
     requires { ⌜ (0 < step) × (0 < gap) × (gap ≤ 4) × (4 ≤ length (now knots)) × (length (now knots) ≤ 4096) ⌝ }
     ensures lowest { λ r. ⌜ r ≡ lostSeam m step gap allowance (now (knots .entry)) ((length (now (knots .entry)) - 4) / step) ⌝ }

@@ -1,5 +1,5 @@
--- The interpolation: the one definition of it. It stands in for that of a dependency of the Rust crate, which could not be had. Definitions
--- only.
+-- The interpolation: the one definition of it. It stands in for that of a dependency of the Rust crate, which could not be had.
+-- Definitions only.
 use lib.Ieee.{Float, binary64, add, sub, mul}
 
 -- lower + (upper - lower)·t, each operation rounded once

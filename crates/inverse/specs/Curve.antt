@@ -1,5 +1,5 @@
--- The inversion of a curve, past the refusals: g s is its segment s, of k; e is what the end rule goes by, and ev the evaluations made for
--- that: none where it goes by knots. Definitions only.
+-- The inversion of a curve that no row refuses: g s is its segment s, of k; e is what the end rule goes by,
+-- and ev the evaluations made for that, none where it goes by knots. Definitions only.
 use mathlib.Core.Bool.{cond}
 use Prim.Native.Nat.{ℕ, _-_}
 use lib.Ieee.{Float, binary64, add, mul, div}

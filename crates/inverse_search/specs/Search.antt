@@ -22,14 +22,13 @@ module _ (E : Trial) where
   tries zero s ev = off ev
   tries (suc n) s ev = orElse (E s ev) (λ v t. tries n (suc s) t)
 
-  -- nothing is open: left is l, and right l − 1, at least 0, as after going left at segment 0. From left − 1, at least 0, up to but not
-  -- including the lesser of right + 2 and k
+  -- nothing is open: left is l, and right is l − 1, or 0 after going left at segment 0. The last tries go from left − 1, at least 0, up to
+  -- but not including the lesser of right + 2 and k
   unfoldable pub last : ℕ → ℕ → Evaluations → Outcome
   last k l ev = tries (min (l - 1 + 2) k - (l - 1)) (l - 1) ev
 
-  -- c segments are open, from l on: the middle one, rounded down, is entered if it encloses y; else go left when y lies before its start,
-  -- and
-  -- right otherwise. n halvings at most
+  -- c segments are open, from l on: the middle one, rounded down, is entered if it encloses y; else the search goes left where y lies
+  -- before its start, and right otherwise. n halvings at most
   unfoldable pub halve : Float → Bool → ℕ → ℕ → ℕ → ℕ → Evaluations → Outcome
   halve y rising k zero l c ev = last k l ev
   halve y rising k (suc n) l zero ev = last k l ev

@@ -37,8 +37,8 @@ abbrev pub went : (ℕ → Float → Float) → Float → ℕ → ℕ → Rule �
 went g y k s R ε limit ev = cond (ltb s k) (placed (entered R (g s) s y ε limit (g s nought) (g s one) ev)) (off ev)
 
 module _ (b : Basis) (ks : List Float) (y : Float) where
-  -- a search that comes to segment r of k, whatever the n evaluations before it were: m have been made by then, and e is what it keeps of
-  -- segment r
+  -- a search that comes to segment r of k, whatever the n evaluations before it were:
+  -- m have been made by then, and e is what it keeps of segment r
   pub record Seeks (o : Trial → Evaluations → Outcome) (k n r m : ℕ) (e : List Float) : Type 0 where
     pub comes-to : (ev : Evaluations) → length ev ≡ n
         → (t : Evaluations) × (length t ≡ m)

@@ -149,8 +149,8 @@ pub fn lies_before(rising: bool, y: f64, v: f64) -> bool
 }
 
 // The `wide` segments from `left` on are open: the middle one is tested, then the part before it or the part after it is searched.
-// The knots stand behind a second reference and the answer is a number: so a level hands on words alone, and the compiler makes a loop of
-// it.
+// The knots stand behind a second reference and the answer is a number, so that each call hands on machine words alone and the compiler
+// makes a loop of the recursion.
 pub fn halve(
     b: Basis,
     knots: &&[f64],

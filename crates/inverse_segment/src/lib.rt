@@ -18,9 +18,8 @@ pub enum Ground {
     Spent,
 }
 
-// What is weighed where a side repeats: the value of the end that moved last is halved, as in the crate; or, as it is taught, the distance
-// to the
-// target at the other end.
+// What is halved where the same end of the bracket moves again: the value of that end, as in the crate;
+// or, as regula falsi is taught, the distance to the target at the other end.
 pub enum Weighing {
     Value,
     Distance,

@@ -79,8 +79,8 @@ replyTo (on t m ks) (Find y) = placeReply (t .span) (foundOf m (t .basis) y ks)
 replyTo (on t m ks) (Turn c) = curveReply (t .span) c (convertedOf (t .basis) c ks places)
 replyTo (on t m ks) Bad = refused BadLine
 
--- the curve after it: `curve` clears knots and span and keeps the ends; `span` and `ends` replace theirs; `knot` adds where there is a
--- place
+-- the curve after it: `curve` clears knots and span and keeps the ends; `span` and `ends` replace theirs;
+-- `knot` adds one where there is a place left
 unfoldable pub afterOf : Curve → Record → Curve
 afterOf none (CurveOf c) = on (bare c) Knots []
 afterOf none (Span s) = none

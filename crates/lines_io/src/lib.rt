@@ -1,5 +1,5 @@
-// The loop of every program over lines: it reads, feeds `programs` and writes, in large pieces and fixed memory. Where a read or a write
-// fails it stops without ending the input, and says so on standard error.
+// The loop of every program over lines: it reads, hands the bytes to `lines_programs::feed` and writes, in large pieces and fixed memory.
+// Where a read or a write fails it stops without ending the input, and says so on standard error.
 ghost use mathlib.Core.Path.{_≡_};
 ghost use Prim.Native.Nat.{_+_, _≤_};
 ghost use lib.ListN.{length};

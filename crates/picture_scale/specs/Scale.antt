@@ -62,8 +62,8 @@ shown Hermite n j = eqb (j % 2) 0
 shown Linear n j = leb 1 j && ltb (j + 1) n
 shown Power n j = eqb (j % 4) 3
 
--- knot j's place, by the end rule: knot 1 at the start and knot n - 2 at the end where STEP is 1, else knot 0 and knot n - 1; the four of a
--- Power segment stand at its start, a slope of Hermite at its point
+-- knot j's place, by the end rule: knot 1 at the start and knot n - 2 at the end where STEP is 1, else knot 0 and knot n - 1;
+-- the four of a Power segment stand at its start, a slope of Hermite at its point
 unfoldable pub knotColumn : Basis → ℕ → ℕ → ℕ
 knotColumn Bspline n j = columnOf (j - 1) (n - 3)
 knotColumn Bezier n j = columnOf j (n - 1)

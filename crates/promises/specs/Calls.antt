@@ -11,8 +11,8 @@ abbrev pub Keeps : {L : Type 0} {A Z E : L → Type 0} → ((κs : L) → A κs 
     → ((κs : L) → A κs → Z κs → E κs → Type 0) → Type 0
 Keeps {L} {A} {Z} {E} C P = (κs : L) (a : A κs) (z : Z κs) (e : E κs) → C κs a z e → P κs a z e
 
--- no second reply fits: two that the contract allows on the same arguments are the same, by what a caller sees of a reply and of what it
--- leaves
+-- no second reply fits: two that the contract allows on the same arguments are the same,
+-- by what a caller sees of a reply and of what it leaves
 abbrev pub OneReply : {L : Type 0} {A Z E : L → Type 0} → ((κs : L) → A κs → Z κs → E κs → Type 0)
     → ((κs : L) → Z κs → E κs → Z κs → E κs → Type 0) → Type 0
 OneReply {L} {A} {Z} {E} C Same = (κs : L) (a : A κs) (z z′ : Z κs) (e e′ : E κs) → C κs a z e → C κs a z′ e′ → Same κs z e z′ e′

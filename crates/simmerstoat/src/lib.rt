@@ -1,5 +1,5 @@
-// What C and Rust call: every function of the library by a plain name, with a basis by its number. A reply is 0, or a refusal's number with
-// its place above the lowest eight bits.
+// What C and Rust call: every function of the library by a plain name, with a basis by its number.
+// A reply is 0, or a refusal's number in the lowest eight bits with its place above them.
 ghost use mathlib.Core.Path.{_≡_};
 ghost use mathlib.Core.Bool.{cond};
 ghost use lib.ListN.{length};

@@ -1,5 +1,5 @@
--- The calls on a table with its span: the rows of the base's call and 14; where none applies, what the base's call answers, with the
--- second beside a place and the span handed on. Definitions only.
+-- The calls on a table with its span: the rows of the call without a span, and 14; where none applies, what that call answers,
+-- with the second beside a place and the span handed on. Definitions only.
 use mathlib.Core.Bool.{Bool}
 use mathlib.Core.List.{List, _∷_}
 use Prim.Native.Nat.{ℕ}
@@ -44,7 +44,7 @@ unfoldable pub tableSplineOf : Table → Float → List Float → Evaluated
 tableSplineOf t x ks = valueUnless (verdictOf t (splineUses (t .basis) x ks)) (splineOf (t .basis) x ks)
 
 -- ---- inversion
--- the answer of the base's call, with the second of its place
+-- the answer of the call without a span, with the second of its place
 abbrev pub timedOf : ℕ → Inverted → Timed
 timedOf span (I.Refused r) = T.Refused r
 timedOf span (I.OffCurve n) = T.OffCurve n

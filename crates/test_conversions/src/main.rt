@@ -1,5 +1,5 @@
-// Runs conversions and prints what each leaves: readings, all pairs at the ends of the range, boundaries, a curve that is not kept, and the
-// elimination beside its constants.
+// Runs conversions and prints what each leaves: readings, all pairs at the ends of the range, boundaries, a curve that is not kept,
+// and the elimination beside its constants.
 use basis::Basis;
 use convert::Converted;
 use spline::Evaluated;

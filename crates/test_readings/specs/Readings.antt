@@ -29,8 +29,8 @@ use Rattle.inverse_methods.specs.declared.Method.the-variants.{AsCrate, Taught,
 use Rattle.inverse_methods.specs.Method.{ruleOf}
 use Rattle.convert.specs.Conversion.{Conversion, gives, refuses, convertedOf}
 
--- ---- what a reading tells: a value or the knots, a place by its parameter, ground and count, a bracket, or a refusal's number, 11 with
--- its count; that a length is accepted; segments
+-- ---- what a reading tells: a value or the knots, a place by its parameter, ground and count, a bracket,
+-- or a refusal's number, 11 with its count; that a length is accepted; segments
 pub data Told : Type 0 where
   value : Float → Told
   place : Float → Ground → ℕ → Told
