@@ -1,4 +1,4 @@
-// The six bases: STEP, the length rule and the matrices. Rust: src/basis.rs.
+// The six bases, with STEP, the length rule and the matrices. Rust: src/basis.rs.
 ghost use mathlib.Core.Path.{_≡_};
 ghost use Prim.Native.Nat.{_≤_, _<_};
 ghost use Rattle.basis.specs.Basis.{stepOf, regular, lengthOk, segmentsOf, isLinear};

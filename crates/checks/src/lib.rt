@@ -83,7 +83,7 @@ fn bad_knot(knots: &[f64]) -> Refusal
     Refusal::BadKnot(first_bad(knots) as u16)
 }
 
-// Refusal 4. The length is tested before, and the knot's number fits.
+// Refusal 4. The length has been tested, so that the knot's number fits 16 bits.
 pub fn knots(knots: &[f64]) -> Verdict
     requires { ⌜ length (now knots) ≤ 4096 ⌝ }
     ensures { λ r. ⌜ r ≡ first (badKnot (now (knots .entry)) ∷ []) ⌝ }

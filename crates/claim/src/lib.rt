@@ -1,4 +1,4 @@
-// A claim: that a curve's segment, at a local place, comes near a target.
+// The check of a claim, that a curve's segment comes near a target at a local place.
 ghost use mathlib.Core.Path.{_≡_};
 ghost use Prim.Native.Nat.{_+_, _*_, _≤_};
 ghost use lib.ListN.{length};

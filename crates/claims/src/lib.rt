@@ -1,4 +1,4 @@
-// The checker of claims: the reply to a line, and the table after it.
+// What the checker of claims replies to a line, and the table after it.
 ghost use mathlib.Core.Path.{_≡_};
 ghost use mathlib.Core.List.{_∷_};
 ghost use Prim.Native.Nat.{_+_, _≤_};

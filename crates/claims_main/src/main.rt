@@ -1,4 +1,4 @@
-// The checker of claims.
+// bin/claims, the checker of claims.
 fn main() {
     lines_io::run(lines_programs::claims_program());
 }

@@ -1,4 +1,4 @@
-// The comparison of two tables.
+// bin/compare, the comparison of two tables.
 fn main() {
     lines_io::run(lines_programs::compare_program());
 }

@@ -12,7 +12,7 @@ use Rattle.convert_matrix.specs.Elimination.{conversionOf}
 abbrev pub windowOf : Matrix → ℕ → List Float → ℕ → List Float
 windowOf m step ks s = applied m (drop (s * step) ks)
 
--- segments 0 to n: segment 0 gives four doubles, each later one its last gap
+-- segments 0 to n: segment 0 gives four doubles, each later one the last `gap` of its four
 unfoldable pub windows : Matrix → ℕ → ℕ → List Float → ℕ → List Float
 unfolding add mul
 windows m step gap ks zero = windowOf m step ks 0

@@ -15,7 +15,7 @@ pub enum Converted {
     Refused(Refusal),
 }
 
-// Writes four.
+// One segment: four doubles are written.
 pub fn convert_segment(from: Basis, to: Basis, cv: &[f64], out: &mut [f64]) -> Converted
     ensures { λ r. ⌜ (r ≡ answerOf (convertedSegmentOf from to (now (cv .entry)) (length (now (out .entry)))))
         × (now (out .exit) ≡ bufferOf (convertedSegmentOf from to (now (cv .entry)) (length (now (out .entry)))) (now (out .entry))) ⌝ }
@@ -31,7 +31,7 @@ pub fn convert_segment(from: Basis, to: Basis, cv: &[f64], out: &mut [f64]) -> C
     }
 }
 
-// Writes 4 + (k - 1) * STEP of the output's basis.
+// A curve of k segments: 4 + (k - 1) * STEP doubles are written, by the STEP of the output's basis.
 pub fn convert_spline(from: Basis, to: Basis, knots: &[f64], out: &mut [f64]) -> Converted
     ensures { λ r. ⌜ (r ≡ answerOf (convertedOf from to (now (knots .entry)) (length (now (out .entry)))))
         × (now (out .exit) ≡ bufferOf (convertedOf from to (now (knots .entry)) (length (now (out .entry)))) (now (out .entry))) ⌝ }

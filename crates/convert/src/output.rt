@@ -1,4 +1,5 @@
-// The writing, past the refusals: windows through the matrix, straight into the buffer.
+// The writing, once nothing is refused. A window is the four doubles that the matrix makes of a segment. Segment 0 writes its whole window;
+// a later one writes the last `gap` doubles of its own, which is the output's STEP.
 ghost use mathlib.Core.Path.{_≡_};
 ghost use Prim.Native.Nat.{_+_, _-_, _*_, _/_, _≤_, _<_};
 ghost use lib.ListN.{length, drop};
@@ -8,7 +9,7 @@ ghost use Rattle.convert.specs.Buffer.{bufferOf};
 ghost use Rattle.convert.specs.Shown.{placed, listOf};
 use spline::Weights;
 
-// The last gap of the four, from place at on.
+// Writes the last `gap` doubles of a window, from place `at` on.
 pub fn put_last(out: &mut [f64], at: usize, w: Weights, gap: usize)
     requires { ⌜ (0 < gap) × (gap ≤ 4) × (at + gap ≤ length (now out)) ⌝ }
     ensures { λ _. ⌜ now (out .exit) ≡ placed at (drop (4 - gap) (listOf w)) (now (out .entry)) ⌝ }
@@ -34,7 +35,7 @@ pub fn put_last(out: &mut [f64], at: usize, w: Weights, gap: usize)
     out[at + 3] = w.w3;
 }
 
-// Segment 0 fills four places, each later one gap more. The matrix is lent: by value it would stand on the stack twice.
+// Segment 0 fills four places, and each later one `gap` more. The matrix is lent: by value it would stand on the stack twice.
 pub fn put_windows(
     m: &[[f64; 4]; 4],
     step: usize,

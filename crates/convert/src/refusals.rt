@@ -9,7 +9,7 @@ use basis::Basis;
 use error::Refusal;
 use error::Verdict;
 
-// Where the output has need of so many places, and so many are lent.
+// Refusals 8 and 9, then 4, of an output that needs so many places where so many are lent.
 pub fn output_verdict(to: Basis, knots: &[f64], need: usize, room: usize) -> Verdict
     requires { ⌜ length (now knots) ≤ 4096 ⌝ }
     ensures { λ r. ⌜ r ≡ first (outputUses to (now (knots .entry)) need room) ⌝ }

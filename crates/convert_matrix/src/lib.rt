@@ -1,4 +1,4 @@
-// Matrices of four rows by value: Gauss-Jordan, the product, a matrix applied to four values. Rust: src/convert.rs.
+// The matrix of a conversion, by value: Gauss-Jordan, the product, a matrix applied to four values. Rust: src/convert.rs.
 ghost use mathlib.Core.Path.{_≡_};
 ghost use Prim.Native.Nat.{_<_};
 ghost use Rattle.convert_matrix.specs.Matrix.{row, rowTimes};

@@ -28,7 +28,7 @@ module _ (m : Matrix) (step gap : ℕ) (allowance : Float) (ks : List Float) (la
   abbrev pub isLost : ℕ → ℕ → Bool
   isLost s j = isApart allowance (getD (windowOf m step ks s) j nan) (getD (windows m step gap ks last) (s * gap + j) nan)
 
-  -- a later segment drops all doubles but its last gap
+  -- a later segment drops all its doubles but the last `gap`
   abbrev pub loses : ℕ → Bool
   loses s = any (4 - gap) (isLost s)
 

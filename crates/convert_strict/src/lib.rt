@@ -1,4 +1,4 @@
-// Strict conversion: a knot vector is converted only where no seam loses more than an allowance.
+// Strict conversion, of a knot vector where no seam loses more than an allowance.
 ghost use mathlib.Core.Path.{_≡_};
 ghost use lib.ListN.{length};
 ghost use Rattle.convert.specs.Buffer.{answerOf, bufferOf};

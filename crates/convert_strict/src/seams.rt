@@ -14,7 +14,7 @@ fn is_apart(allowance: f64, a: f64, b: f64) -> bool
     allowance < doubles::magnitude(a - b)
 }
 
-// Whether one of the doubles that a window w would drop is apart from what stands there: the last of h.
+// Whether a double that the window w drops lies apart from the one that the output has in its place; h holds the output's last four.
 fn loses(allowance: f64, gap: usize, w: Weights, h: Weights) -> bool
     requires { ⌜ (0 < gap) × (gap ≤ 4) ⌝ }
     ensures { λ r. ⌜ r ≡ any (4 - gap) (λ j. isApart allowance (getD (listOf w) j nan) (getD (listOf h) (gap + j) nan)) ⌝ }
@@ -40,7 +40,7 @@ fn loses(allowance: f64, gap: usize, w: Weights, h: Weights) -> bool
     false
 }
 
-// The four doubles of the output that begin where w's window does, once its last gap are written.
+// The output's last four doubles once the last `gap` ones of the window w are written behind h.
 fn shifted(gap: usize, h: Weights, w: Weights) -> Weights
     requires { ⌜ (0 < gap) × (gap ≤ 4) ⌝ }
     ensures { λ r. ⌜ listOf r ≡ drop gap (listOf h) ++ drop (4 - gap) (listOf w) ⌝ }

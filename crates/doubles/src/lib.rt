@@ -1,4 +1,4 @@
-// Doubles: the magnitude, the clamp to 0..1 and the interpolation. Rust: the dependency `lerp`, and methods of f64.
+// Magnitude, clamp to 0..1, interpolation and whole part of doubles. Rust: the dependency `lerp`, and methods of f64.
 ghost use mathlib.Core.Path.{_≡_};
 ghost use Rattle.doubles.specs.Numbers.{magnitudeOf, clamp};
 ghost use Rattle.doubles.specs.Lerp.{lerpOf};

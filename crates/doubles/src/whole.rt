@@ -17,8 +17,8 @@ pub fn lesser(a: usize, b: usize) -> usize
     if a < b { a } else { b }
 }
 
-// Up to 4096, and nearly always the whole part of y: the last bits of y - 1/2, pushed to where a unit is the last bit.
-// Nothing rests on it: `whole_up_to` compares.
+// A guess at the whole part of y, 4096 at most. To y - 1/2, or very nearly that, 1.5 × 2^52 is added: in such a sum the last bit counts
+// units, so its bits less those of 1.5 × 2^52 are a whole number. Nothing rests on the guess: `whole_up_to` tests it by comparing.
 fn guess(y: f64) -> usize
     ensures { λ r. ⌜ r ≤ 4096 ⌝ }
 {
@@ -30,7 +30,7 @@ fn guess(y: f64) -> usize
     if n < 4096 { n as usize } else { 4096 }
 }
 
-// By comparing with the whole number in the middle.
+// The greatest whole number up to m that is at most y, by comparing with the whole number in the middle.
 fn by_halving(m: usize, y: f64) -> usize
     requires { ⌜ m ≤ 4096 ⌝ }
     ensures { λ r. ⌜ r ≡ wholeUpTo m y ⌝ }
@@ -48,7 +48,7 @@ fn by_halving(m: usize, y: f64) -> usize
     low
 }
 
-// The greatest whole number up to m that is at most y: the guess, if y lies from it up to the next.
+// The same: the guess, where y lies from it up to the next whole number, and else by halving.
 pub fn whole_up_to(m: usize, y: f64) -> usize
     requires { ⌜ m ≤ 4096 ⌝ }
     ensures { λ r. ⌜ (r ≡ wholeUpTo m y) × (r ≤ m) ⌝ }

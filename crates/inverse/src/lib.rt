@@ -171,7 +171,7 @@ fn located(
     searched(how, b, y, knots, limit, precision, e.rising, k, n)
 }
 
-// One call of `located` follows, so that it is inlined.
+// What the end rule goes by. It stands apart so that `locate` calls `located` in one place alone, and the compiler can inline it there.
 fn ends_by(ends: EndsBy, b: Basis, knots: &[f64], k: usize) -> Ends
     requires { ⌜ (k ≡ segmentsOf b (length (now knots))) × (4 ≤ length (now knots)) × (length (now knots) ≤ 4096) ⌝ }
     ensures { λ r. ⌜ r ≡ endRuleOf ends b (now (knots .entry)) (segmentOf b (now (knots .entry))) .ends ⌝ }
@@ -191,7 +191,7 @@ fn evaluations(ends: EndsBy) -> u32
     }
 }
 
-// Past the refusals, by the end rule that is asked for.
+// The inversion where no row refuses it, by the end rule that is asked for.
 fn locate(
     ends: EndsBy,
     how: Method,

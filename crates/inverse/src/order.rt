@@ -34,7 +34,7 @@ fn scanned(rising: bool, knots: &[f64]) -> bool
     good
 }
 
-// From knot 1 on, each pair in its direction. The direction is a constant of either scan, and so no test in its loop.
+// Whether each pair from knot 1 on keeps the direction. Each scan has the direction as a constant, and so no test of it in its loop.
 fn keeps(rising: bool, knots: &[f64]) -> bool
     requires { ⌜ 4 ≤ length (now knots) ⌝ }
     ensures { λ r. ⌜ r ≡ kept rising (drop 1 (now (knots .entry))) ⌝ }
@@ -75,7 +75,7 @@ fn first_turn(rising: bool, knots: &[f64]) -> usize
     i
 }
 
-// Which knot turns back; looked for only where one does.
+// Refusal 10, with the knot that turns back: looked for only where there is one.
 pub fn turning_knot(knots: &[f64]) -> Refusal
     requires { ⌜ (4 ≤ length (now knots)) × (length (now knots) ≤ 4096) ⌝ }
     ensures { λ r. ⌜ r ≡ TurnsBack (turningKnot (now (knots .entry))) ⌝ }

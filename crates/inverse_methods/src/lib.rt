@@ -19,14 +19,15 @@ use inverse_segment::Turned;
 use inverse_segment::Weighing;
 use spline::Weights;
 
-// How the next place is chosen: as the crate does, with the weighting as it is taught, or at the pace.
+// How the next place is chosen: as the crate does; with the weighting as it is taught; or steadily, at a pace: a round allows the bracket
+// half the width that the round before it did, and takes the midpoint of one that is wider.
 pub enum Method {
     AsCrate,
     Taught,
     Steady,
 }
 
-// The rounds of a method: the crate's, with what they weigh, or those at the pace.
+// The rounds of a method: those of `inverse_segment`, with what they weigh, or those at the pace, which stand below.
 pub enum RoundsBy {
     Weight(Weighing),
     Pace,
@@ -77,7 +78,7 @@ pub fn choose(y: f64, width: f64, st: State) -> Chosen
     }
 }
 
-// n evaluations have been made before the round.
+// One steady round; n evaluations have been made before it.
 pub fn turn(
     w: Weights,
     y: f64,
@@ -106,7 +107,7 @@ pub fn turn(
     Turned::Next(next, n + 1)
 }
 
-// The rounds, from the bracket that is given; n evaluations have been made before them.
+// The steady rounds, from the bracket that is given; n evaluations have been made before them.
 pub fn rounds(
     w: Weights,
     s: usize,

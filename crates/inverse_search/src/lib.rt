@@ -79,7 +79,7 @@ fn settle_by(b: Basis, cv: &[f64], y: f64, ends: &mut [f64; 6]) -> bool
     }
 }
 
-// Segment s is tested.
+// Whether the end values of segment s enclose the target; its row sums and end values are left in `ends`.
 pub fn probe(b: Basis, knots: &[f64], s: usize, y: f64, ends: &mut [f64; 6]) -> bool
     requires { ⌜ (s * stepOf b + 4 ≤ length (now knots)) × (length (now knots) ≤ 4096) ⌝ }
     ensures { λ r. ⌜ TestedIs b (now (knots .entry)) s y (now (ends .exit)) r ⌝ }
@@ -122,7 +122,7 @@ fn one_less(n: usize) -> usize
     if 0 < n { n - 1 } else { 0 }
 }
 
-// Nothing is open any more, at `left` of k segments: those beside it are tried once more.
+// The halving ended at `left` of k segments without one that encloses the target: those beside it are tried once more.
 pub fn last_tries(
     b: Basis,
     knots: &[f64],

@@ -9,7 +9,8 @@ use spline::Weights;
 pub mod refusals;
 pub mod round;
 
-// Why an inversion stopped.
+// Why an inversion stopped: the target lies at or beyond an end of the curve; a segment's start or end is within twice the precision of it;
+// the value at the place is within the precision; the bracket is narrower than the precision; or all rounds were made.
 pub enum Ground {
     End,
     Edge,
@@ -25,7 +26,7 @@ pub enum Weighing {
     Distance,
 }
 
-// Two local places and two weighed values.
+// Two local places and their values, as weighed.
 pub struct Bracket {
     pub lower: f64,
     pub upper: f64,
@@ -64,7 +65,7 @@ pub enum Inverted {
     At(Place),
 }
 
-// For one segment the parameter is the local place.
+// A place in segment s. Its parameter is the local place, as for one segment alone; of a curve, the caller puts its own there.
 pub fn told_at(s: usize, ground: Ground, x: f64, b: Bracket, n: u32) -> Place
     ensures { λ r. ⌜ r ≡ toldAt s ground x b n ⌝ }
 {
@@ -79,7 +80,7 @@ pub fn told_at(s: usize, ground: Ground, x: f64, b: Bracket, n: u32) -> Place
     }
 }
 
-// The rounds, from the bracket that is given; n evaluations have been made before them.
+// The rounds by either weighting, from the bracket that is given; n evaluations have been made before them.
 fn rounds(
     m: Weighing,
     w: Weights,

@@ -1,4 +1,4 @@
-// One round of the inversion of a segment, over the segment's row sums.
+// One round of the inversion of a segment, given by its row sums: what is weighed, the next place, the move.
 ghost use mathlib.Core.Path.{_≡_};
 ghost use Prim.Native.Nat.{_≤_, _<_, _+_};
 ghost use lib.Dec.{ltb};
@@ -156,7 +156,7 @@ pub fn is_falsi(i: u32, early: u32, repeats: u32) -> bool
     i < early && repeats < 3
 }
 
-// n evaluations have been made before the round.
+// One round: the width test, the place chosen and evaluated, the move, the value test. n evaluations have been made before it.
 pub fn turn(
     m: Weighing,
     w: Weights,

@@ -1,4 +1,4 @@
-// The line program: the reply to a line, and the curve after it.
+// What the line program replies to a line, and the curve after it.
 ghost use mathlib.Core.Path.{_≡_};
 ghost use Prim.Native.Nat.{_+_, _≤_};
 ghost use lib.ListN.{length};

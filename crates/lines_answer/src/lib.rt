@@ -1,4 +1,4 @@
-// What each record gets, and the curve after it.
+// What each record of a listing gets for a reply, and the curve after it.
 ghost use mathlib.Core.Path.{_≡_};
 ghost use mathlib.Core.List.{List};
 ghost use Prim.Native.Nat.{_≤_};

@@ -1,4 +1,4 @@
-// The line program: a listing on standard input, its replies on standard output.
+// bin/lines, the line program: a listing on standard input, its replies on standard output.
 fn main() {
     lines_io::run(lines_programs::line_program());
 }

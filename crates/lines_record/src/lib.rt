@@ -1,4 +1,4 @@
-// What a line says.
+// What a line of a listing says, which is its record.
 ghost use mathlib.Core.Path.{_≡_};
 ghost use mathlib.Core.List.{_∷_};
 ghost use Rattle.text.specs.Text.{fieldsOf};

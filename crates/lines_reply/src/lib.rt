@@ -38,7 +38,7 @@ pub enum Told {
     Curve(Table, usize),
 }
 
-// A knot's number, after a tab.
+// The number of a knot or a segment, after a tab.
 fn put_knot(out: &mut [u8], at: usize, i: u16) -> usize
     requires { ⌜ at + 6 ≤ length (now out) ⌝ }
     ensures { λ n. ⌜ Wrote (now (out .entry)) at (placesText (i ∷ [])) (now (out .exit)) n × (n ≤ at + 6) ⌝ }
@@ -47,7 +47,7 @@ fn put_knot(out: &mut [u8], at: usize, i: u16) -> usize
     text::put_decimal(out, a, i as u32, 4)
 }
 
-// The knot that a refusal tells.
+// The knot or segment that a refusal tells.
 pub enum Where {
     Nowhere,
     Knot(u16),

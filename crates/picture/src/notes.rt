@@ -35,7 +35,7 @@ fn put_tail(out: &mut [u8], at: usize, b: Basis, n: u64, r: Refusal) -> usize
     text::put_word(out, at, b"</text>\n")
 }
 
-// In one of ten slots; `who` was refused.
+// The line of text that `who` was refused, in one of ten slots below the axes.
 pub fn put_note(
     out: &mut [u8],
     at: usize,

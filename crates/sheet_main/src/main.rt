@@ -1,4 +1,4 @@
-// The reader of sheets.
+// bin/sheet, the reader of sheets.
 fn main() {
     lines_io::run(lines_programs::sheet_program());
 }

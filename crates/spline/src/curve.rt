@@ -1,4 +1,4 @@
-// A curve's value, past the refusals.
+// A curve's value, once nothing is refused: the segment and local place of the parameter, then that segment's value.
 ghost use mathlib.Core.Path.{_≡_};
 ghost use Prim.Native.Nat.{_≤_, _<_};
 ghost use lib.ListN.{length};
@@ -25,7 +25,7 @@ fn place(k: usize, x: f64) -> Spot
     Spot { s: s, t: t }
 }
 
-// The same match as in `segment_value`, here for the one caller: so it is copied into it, and no row sum goes through memory.
+// The same match as in `segment_value`, repeated for the one caller here: so it is inlined there, and no row sum goes through memory.
 fn value_in(b: Basis, cv: &[f64], t: f64) -> f64
     requires { ⌜ 4 ≤ length (now cv) ⌝ }
     ensures { λ r. ⌜ r ≡ segmentValue (matrixOf b) (now (cv .entry)) t ⌝ }

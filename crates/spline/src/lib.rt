@@ -14,7 +14,7 @@ pub enum Evaluated {
     Refused(Refusal),
 }
 
-// The four row sums of a segment.
+// The four row sums of a segment: the coefficients of its cubic, that of the third power first.
 pub struct Weights {
     pub w0: f64,
     pub w1: f64,

@@ -1,4 +1,4 @@
-// Many inversions, every answer judged by evaluating again: of curves and of single segments, by either rule of the ends and by each method.
+// Many inversions, every answer judged by evaluating again: of curves and of single segments, by either rule of the ends, by each method.
 // Prints how many answers there were of each kind, and how many of them broke a promise.
 ghost use mathlib.Core.Path.{_≡_};
 ghost use Prim.Native.Nat.{_≤_, _<_};

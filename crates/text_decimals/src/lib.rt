@@ -1,4 +1,4 @@
-// Decimal digits: whole numbers, and thousandths with a point.
+// Decimal digits read as whole numbers, and as thousandths with a point.
 ghost use mathlib.Core.Path.{_≡_};
 ghost use Prim.Native.Nat.{_≤_, _<_};
 ghost use lib.ListN.{length};

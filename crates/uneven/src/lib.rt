@@ -14,7 +14,7 @@ use spline::Evaluated;
 
 pub mod refusals;
 
-// The table that a refusal is of.
+// Which of the two tables a refusal is about.
 pub enum Named {
     Times,
     Depths,
@@ -48,7 +48,7 @@ fn depth_told(p: Place, e: Evaluated) -> Sounded
     }
 }
 
-// Where no row of the depths applies.
+// The reply where nothing is refused of the depths.
 fn suited(a: Inverted, db: Basis, depths: &[f64]) -> Sounded
     requires { ⌜ countTold a < 4294967295 ⌝ }
     ensures { λ r. ⌜ r ≡ suited a (λ x. splineOf db x (now (depths .entry))) ⌝ }
@@ -60,7 +60,7 @@ fn suited(a: Inverted, db: Basis, depths: &[f64]) -> Sounded
     }
 }
 
-// Where the depths are refused: a refusal of the times comes before it, 11 does not.
+// The reply where the depths are refused with r: a refusal of the times comes before r, but 11 comes after it.
 fn unsuited(a: Inverted, r: Refusal) -> Sounded
     ensures { λ s. ⌜ s ≡ unsuited a r ⌝ }
 {

@@ -7,7 +7,7 @@ use basis::Basis;
 use error::Refusal;
 use error::Verdict;
 
-// So many segments as n knots make; as 4 do where there are fewer.
+// How many segments n knots make; below 4 knots, how many 4 make.
 fn segments_of(b: Basis, n: usize) -> usize
     ensures { λ r. ⌜ r ≡ segmentsOf b n ⌝ }
 {
