@@ -111,8 +111,8 @@ enum {
 
 /* By which values a target lies at or beyond an end of the curve. */
 enum {
-    SIMMERSTOAT_ENDS_KNOTS = 0, /* the second and the last but one knot, as the crate has it: good where the curve goes
-                                   through its knots */
+    SIMMERSTOAT_ENDS_KNOTS = 0, /* two knots, as the crate has it: the second and the last but one where the basis's step
+                                   is 1, else the first and the last; good where the curve goes through its knots */
     SIMMERSTOAT_ENDS_CURVE = 1  /* the curve's own first and last value, which are evaluated */
 };
 

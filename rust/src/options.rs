@@ -7,7 +7,8 @@ use crate::Double;
 /// By which values a target lies at or beyond an end of the curve.
 #[derive(Clone, Copy, Debug, Default, PartialEq, Eq)]
 pub enum Ends {
-    /// The second and the last but one knot, as the crate has it: good where the curve goes through its knots.
+    /// Two knots, as the crate has it: the second and the last but one where the basis's STEP is 1, else the first and the last.
+    /// Good where the curve goes through its knots.
     #[default]
     Knots,
     /// The curve's own first and last value, which are evaluated: two evaluations more.
