@@ -1,4 +1,4 @@
--- How code holds two listings, and what it is to have heard a record. Definitions only.
+-- How code holds two listings, and what it is to have taken in a record. Definitions only.
 use mathlib.Core.Path.{_≡_}
 use mathlib.Core.List.{List}
 use Prim.Native.Nat.{ℕ, _≤_, max}

@@ -192,7 +192,7 @@ fn mul_row(r: [f64; 4], b: [[f64; 4]; 4]) -> [f64; 4]
     ]
 }
 
-// The one place where a basis's inverse is had.
+// The inverse of a basis's matrix: whoever needs it takes it from here.
 pub fn inverse_of(b: Basis) -> [[f64; 4]; 4]
     ensures { λ r. ⌜ r ≡ inverseOf b ⌝ }
 {

@@ -17,7 +17,7 @@ pub fn is_allowance(x: f64) -> bool
     0.0 <= x && x < 1.0 / 0.0
 }
 
-// The rows past the lengths: the allowance comes between the output's basis and its room.
+// The rows after those of the lengths: that of the allowance comes between that of the output's basis and that of its room.
 fn later_verdict(from: Basis, to: Basis, knots: &[f64], allowance: f64, room: usize) -> Verdict
     requires { ⌜ (4 ≤ length (now knots)) × (length (now knots) ≤ 4096) ⌝ }
     ensures { λ r. ⌜ r ≡ first
@@ -34,7 +34,7 @@ fn later_verdict(from: Basis, to: Basis, knots: &[f64], allowance: f64, room: us
     convert::refusals::output_verdict(to, knots, need, room)
 }
 
-// All but the seams.
+// Every row but that of the seams.
 pub fn allowed_verdict(
     from: Basis,
     to: Basis,

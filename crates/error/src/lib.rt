@@ -26,7 +26,7 @@ pub enum Refusal {
     LostSeam(u16),
 }
 
-// What the tests of a call come to.
+// What the tests of a call come to: nothing is refused, or the first refusal that applies.
 pub enum Verdict {
     Passed,
     Failed(Refusal),

@@ -14,7 +14,7 @@ use Rattle.inverse.specs.declared.EndsBy.{EndsBy}
 use Rattle.inverse.specs.declared.EndsBy.the-variants.{Knots, Curve}
 use Rattle.inverse.specs.Order.{knot, rises}
 
--- it goes by a direction, and a value at either end. Rising: y ≤ low gives 0, y ≥ high gives 1; otherwise with ≥ and ≤
+-- it goes by a direction, and a value at either end. Rising: y ≤ low gives parameter 0, and y ≥ high gives 1; falling: y ≥ low and y ≤ high
 abbrev pub atLow : Ends → Float → Bool
 atLow e y = cond (e .rising) (le y (e .low)) (le (e .low) y)
 
@@ -40,12 +40,12 @@ curveRule g k =
     let b = see (g (k - 1)) (k - 1) one (a .made) in
     record { ends = record { rising = lt (a .value) (b .value); low = a .value; high = b .value }; made = b .made }
 
--- by each; g s is segment s of the curve of the knots ks
+-- the end rule that is asked for; g s is segment s of the curve of the knots ks
 abbrev pub endRuleOf : EndsBy → Basis → List Float → (ℕ → Float → Float) → EndRule
 endRuleOf Knots b ks g = record { ends = knotEnds b ks; made = [] }
 endRuleOf Curve b ks g = curveRule g (segmentsOf b (length ks))
 
--- how many evaluations that makes
+-- how many evaluations it makes
 abbrev pub own : EndsBy → ℕ
 own Knots = 0
 own Curve = 2

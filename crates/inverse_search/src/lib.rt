@@ -13,7 +13,7 @@ use inverse_methods::Method;
 use inverse_segment::Inverted;
 use spline::Weights;
 
-// The binary digits of k up to the highest one.
+// How many binary digits k has, up to its highest 1.
 pub fn bits(k: usize) -> u32
     ensures { λ r. ⌜ (r ≡ bitsOf k) × (r ≤ 64) ⌝ }
 {
@@ -40,7 +40,7 @@ pub fn weights_at(b: Basis, knots: &[f64], s: usize) -> Weights
     spline::segment::weights(b, &knots[start..])
 }
 
-// A match on the basis, so that each matrix is known where it is used, and no row sum is computed through memory.
+// Tests one segment. A match on the basis, so that each matrix is known where it is used, and no row sum goes through memory.
 fn settle_by(b: Basis, cv: &[f64], y: f64, ends: &mut [f64; 6]) -> bool
     requires { ⌜ 4 ≤ length (now cv) ⌝ }
     ensures { λ r. ⌜ SettledIs (weightsOf (matrixOf b) (now (cv .entry))) y (now (ends .exit)) r ⌝ }

@@ -88,7 +88,8 @@ pub fn weighed(m: Weighing, y: f64, regula: bool, st: State) -> Bracket
     b
 }
 
-// One return for every half, so that the tests stay branches: the division is then made only where it is wanted.
+// Where in the bracket the next place lies, from 0 to 1. All halves go through one return, so that the compiler keeps the tests as branches
+// and divides only where the quotient is wanted.
 pub fn fraction(y: f64, regula: bool, b: Bracket) -> f64
     ensures { λ r. ⌜ r ≡ fraction y regula b ⌝ }
 {

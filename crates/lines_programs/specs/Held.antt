@@ -1,4 +1,4 @@
--- How the code holds a state. Definitions only.
+-- How code holds the state of a program over lines. Definitions only.
 use mathlib.Core.Path.{_≡_}
 use mathlib.Core.List.{List}
 use Prim.Native.Nat.{ℕ, _≤_}
@@ -26,7 +26,7 @@ use Rattle.lines_programs.specs.Programs.{Running, asking, reading, clai
 abbrev pub lastRoom : ℕ
 lastRoom = 180284
 
--- each program has its own of the lent slices: a table of doubles, or two of bits, the old and the new
+-- which of the lent slices a program uses: the table of doubles, or the two tables of bits, the old and the new
 abbrev pub runningOf : Job → List Float → List ℕ → List ℕ → Running
 runningOf (Asking h) table old new = asking (curveOf h table)
 runningOf (Reading h) table old new = reading (sheetOf h table)

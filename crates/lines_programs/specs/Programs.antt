@@ -1,4 +1,4 @@
--- The programs over lines, as one. Definitions only.
+-- The programs over lines as one program, whose state says which of them runs. Definitions only.
 use mathlib.Core.List.{List}
 use Prim.Native.Nat.{ℕ}
 use Rattle.lines_answer.specs.Answer.{Curve}

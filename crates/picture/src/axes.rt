@@ -59,7 +59,7 @@ fn put_depth_label(out: &mut [u8], at: usize, e: Extent, h: u64) -> usize
     at
 }
 
-// From the height h on, a step s apart.
+// The labels of the depths, at most seven: from the height h on, a step s apart.
 pub fn put_depths(out: &mut [u8], at: usize, e: Extent, s: u64, h: u64) -> usize
     requires { ⌜ Open e × (s ≤ highest) × (h ≤ highest + highest) × (at + 896 ≤ length (now out)) ⌝ }
     ensures { λ r. ⌜ Wrote (now (out .entry)) at (depthsText e s h) (now (out .exit)) r × (r ≤ at + 896) ⌝ }
@@ -115,7 +115,7 @@ fn put_time_label(out: &mut [u8], at: usize, span: u32, v: u64) -> usize
     at
 }
 
-// From 0 on, a step s apart.
+// The labels of the times, at most seven: from 0 on, a step s apart.
 pub fn put_times(out: &mut [u8], at: usize, span: u32, s: u64) -> usize
     requires { ⌜ (s ≤ 4294967296) × (at + 896 ≤ length (now out)) ⌝ }
     ensures { λ r. ⌜ Wrote (now (out .entry)) at (timesText span s) (now (out .exit)) r × (r ≤ at + 896) ⌝ }

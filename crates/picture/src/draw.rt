@@ -14,7 +14,7 @@ use picture_scale::Extent;
 use spline::Evaluated;
 use table::Table;
 
-// The curve at 0/p to p/p.
+// The points of the curve, at the parameters 0/p to p/p.
 fn put_points(out: &mut [u8], at: usize, b: Basis, knots: &[f64], e: Extent, p: usize) -> usize
     requires { ⌜ Open e × (p ≤ 2048) × (at + 20490 ≤ length (now out)) ⌝ }
     ensures { λ r. ⌜ Wrote (now (out .entry)) at (pointsText b (now (knots .entry)) e p (p + 1)) (now (out .exit)) r × (r ≤ at + 20490) ⌝ }
@@ -56,7 +56,7 @@ fn put_knots(out: &mut [u8], at: usize, b: Basis, knots: &[f64], e: Extent) -> u
     a
 }
 
-// A table that is not refused.
+// What is drawn of a table that is not refused: the labels of the depths, the knots, the curve and the finds.
 fn put_curve(out: &mut [u8], at: usize, m: EndsBy, b: Basis, knots: &[f64], f: Finds) -> usize
     requires { ⌜ (length (now knots) ≤ 4096) × (at + 75000 ≤ length (now out)) ⌝ }
     ensures { λ r. ⌜ Wrote (now (out .entry)) at (curveText m b (now (knots .entry)) f) (now (out .exit)) r × (r ≤ at + 75000) ⌝ }

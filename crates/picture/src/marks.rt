@@ -23,7 +23,7 @@ fn place_column(x: f64) -> u64
     1000 + table::second::second(8600, x) as u64
 }
 
-// A local place of segment s of k.
+// How far across a local place of segment s of k lies.
 fn local_column(k: usize, s: usize, x: f64) -> u64
     requires { ⌜ k ≤ 4097 ⌝ }
     ensures { λ r. ⌜ r ≡ localColumn k s x ⌝ }

@@ -1,4 +1,4 @@
--- What is known of heights and extents: that nothing overflows. Definitions only.
+-- The bounds of heights and extents, within which no sum of the code overflows. Definitions only.
 use Prim.Native.Nat.{ℕ, _<_, _≤_}
 use Rattle.picture_scale.specs.declared.Extent.{Extent}
 

@@ -26,7 +26,7 @@ ghost use Rattle.picture_scale.specs.Bounds.{lowest, highest, Between, N
 use basis::Basis;
 use spline::Evaluated;
 
-// The least and the greatest height.
+// The least and the greatest height of what is drawn.
 pub struct Extent {
     pub lo: u64,
     pub hi: u64,
@@ -44,14 +44,14 @@ fn greater(a: u64, b: u64) -> u64
     if a < b { b } else { a }
 }
 
-// a - b, or 0.
+// a - b, or 0 where b is the greater.
 fn above(a: u64, b: u64) -> u64
     ensures { λ r. ⌜ r ≡ a - b ⌝ }
 {
     if b < a { a - b } else { 0 }
 }
 
-// A depth in whole thousandths above the lowest.
+// The height of a depth: whole thousandths, counted from 2·10^12 below 0, so that none is negative.
 pub fn height(x: f64) -> u64
     ensures { λ r. ⌜ (r ≡ heightOf x) × Between r ⌝ }
 {
@@ -64,7 +64,7 @@ pub fn height(x: f64) -> u64
     2000000000000000 + u
 }
 
-// The curve at i/p.
+// The height of the curve at the parameter i/p.
 pub fn curve_height(b: Basis, knots: &[f64], p: usize, i: usize) -> u64
     requires { ⌜ (p ≤ 4097) × (i ≤ 4097) ⌝ }
     ensures { λ r. ⌜ (r ≡ curveHeight b (now (knots .entry)) p i) × Between r ⌝ }
@@ -77,7 +77,7 @@ pub fn curve_height(b: Basis, knots: &[f64], p: usize, i: usize) -> u64
     }
 }
 
-// i of m parts of the frame's breadth.
+// How far across i of m parts of the frame's breadth lie.
 pub fn column(i: u64, m: u64) -> u64
     requires { ⌜ i ≤ 1000000000000 ⌝ }
     ensures { λ r. ⌜ (r ≡ columnOf i m) × (r ≤ 9600) ⌝ }
@@ -140,7 +140,7 @@ pub fn is_shown(b: Basis, n: usize, j: usize) -> bool
     }
 }
 
-// Where knot j of n stands.
+// How far across knot j of n stands.
 pub fn knot_column(b: Basis, n: u64, j: u64) -> u64
     requires { ⌜ j ≤ 65535 ⌝ }
     ensures { λ r. ⌜ (r ≡ knotColumn b n j) × (r ≤ 9600) ⌝ }
@@ -165,7 +165,7 @@ fn widen(e: Extent, h: u64) -> Extent
     }
 }
 
-// Of the curve at 0/p to p/p.
+// The extent of the curve at the parameters 0/p to p/p.
 fn curve_extent(b: Basis, knots: &[f64], p: usize) -> Extent
     requires { ⌜ p ≤ 4097 ⌝ }
     ensures { λ r. ⌜ (r ≡ curveExtent b (now (knots .entry)) p p) × Narrow r ⌝ }
@@ -180,7 +180,7 @@ fn curve_extent(b: Basis, knots: &[f64], p: usize) -> Extent
     e
 }
 
-// With knot j of n, if it is shown.
+// The extent e, with knot j of n if it is shown.
 fn with_knot(b: Basis, n: usize, j: usize, x: f64, e: Extent) -> Extent
     requires { ⌜ (j < n) × Narrow e ⌝ }
     ensures { λ r. ⌜ (r ≡ withKnot b n j x e) × Narrow r ⌝ }
@@ -191,7 +191,7 @@ fn with_knot(b: Basis, n: usize, j: usize, x: f64, e: Extent) -> Extent
     e
 }
 
-// And with all knots.
+// The extent of the curve, with all knots that are shown.
 fn knots_extent(b: Basis, knots: &[f64], first: Extent) -> Extent
     requires { ⌜ Narrow first ⌝ }
     ensures { λ r. ⌜ (r ≡ knotsExtent b (now (knots .entry)) first (length (now (knots .entry)))) × Narrow r ⌝ }
@@ -205,7 +205,7 @@ fn knots_extent(b: Basis, knots: &[f64], first: Extent) -> Extent
     e
 }
 
-// Of all that is shown, and a thousandth more on either side.
+// The extent of all that is shown, and a thousandth more on either side.
 pub fn extent_of(b: Basis, knots: &[f64]) -> Extent
     requires { ⌜ length (now knots) ≤ 4096 ⌝ }
     ensures { λ r. ⌜ (r ≡ extentOf b (now (knots .entry))) × Open r ⌝ }

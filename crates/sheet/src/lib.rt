@@ -26,7 +26,7 @@ pub enum Depth {
     Nothing,
 }
 
-// No line yet; a basis and so many depths; or a line at fault.
+// What is held of a sheet: no line yet; a basis and the number of depths so far; or why a line is at fault.
 pub enum Held {
     Unbegun,
     On(Basis, usize),

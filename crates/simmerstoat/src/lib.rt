@@ -196,7 +196,7 @@ pub extern "C" fn simmerstoat_spline_inverse_with(
     )
 }
 
-// One segment's inversion with the defaults: the crate's method among the others, so that the archive has its rounds once.
+// One segment's inversion with the defaults. It goes through the call for any method, so that the archive has the rounds once.
 #[no_mangle]
 pub extern "C" fn simmerstoat_spline_inverse_segment(
     basis: u8,

@@ -1,4 +1,4 @@
-// Inversion with every option, each by its number.
+// What C and Rust call: inversion with every option, the rule of the ends and the method by their numbers.
 ghost use mathlib.Core.Path.{_≡_};
 ghost use Rattle.inverse_segment.specs.Answer.{inverseSegmentBy};
 ghost use Rattle.inverse_methods.specs.Method.{ruleOf};

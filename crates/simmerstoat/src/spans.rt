@@ -1,4 +1,4 @@
-// The calls on a table with a span: its basis by number, and its span in seconds, 0 for none.
+// What C and Rust call: a table with a span, its basis by number and its span in seconds, 0 for none.
 ghost use mathlib.Core.Path.{_≡_};
 ghost use lib.ListN.{length};
 ghost use Rattle.convert.specs.Buffer.{answerOf, bufferOf};

@@ -1,4 +1,4 @@
-// Inversion by the steady method with its defaults: never spent.
+// What C and Rust call: inversion by the steady method with its defaults, which is never spent.
 ghost use mathlib.Core.Path.{_≡_};
 ghost use Rattle.inverse_methods.specs.Method.{steadySegmentOf};
 ghost use Rattle.inverse.specs.Inverse.{steadyOf};

@@ -22,7 +22,7 @@ pub fn curve_verdict(b: Basis, x: f64, knots: &[f64]) -> Verdict
     checks::knots(knots)
 }
 
-// NaN lies outside too.
+// Whether a parameter lies in 0 to 1; NaN does not.
 fn is_inside(x: f64) -> bool
     ensures { λ r. ⌜ r ≡ (le nought x && le x one) ⌝ }
 {

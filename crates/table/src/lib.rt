@@ -26,7 +26,7 @@ use spline::Evaluated;
 
 pub mod second;
 
-// The knots are lent beside it. A span of 0 stands for none.
+// A table without its knots, which are lent beside it. A span of 0 stands for none.
 pub struct Table {
     pub basis: Basis,
     pub span: u32,
@@ -51,7 +51,7 @@ pub enum Handed {
     On(Table, usize),
 }
 
-// 1 to 86,400 seconds.
+// Whether a span is good: 1 to 86,400 seconds.
 pub fn is_span(span: u32) -> bool
     ensures { λ r. ⌜ r ≡ goodSpan span ⌝ }
 {
@@ -67,7 +67,7 @@ pub fn seconds_of(span: u32, parameter: f64) -> Seconds
     Seconds::Nothing
 }
 
-// Why a table without a good span is refused: its length comes first.
+// The refusal of a table without a good span: that of its length, if there is one, comes before 14.
 fn without_span(b: Basis, n: usize) -> Refusal
     ensures { λ r. ⌜ Failed r ≡ first ((BadSpan, true) ∷ curveLength b n) ⌝ }
 {

@@ -148,7 +148,7 @@ pub fn put_hex(out: &mut [u8], at: usize, n: u64, k: usize) -> usize
     put_byte(out, r, glyph(n % 16))
 }
 
-// n in decimals: at most k + 1 of them.
+// n in decimal digits, of which it has at most k + 1.
 pub fn put_decimal(out: &mut [u8], at: usize, n: u32, k: usize) -> usize
     requires { ⌜ (n < 10 ^ (k + 1)) × (at + k < length (now out)) ⌝ }
     ensures { λ r. ⌜ Wrote (now (out .entry)) at (decText k n) (now (out .exit)) r × (r ≤ at + k + 1) ⌝ }

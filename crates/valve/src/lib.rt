@@ -60,7 +60,7 @@ fn weighted_sum(knots: &[i64], step: usize) -> i64
     plus(plus(plus(a, b), c), d)
 }
 
-// Two comparisons: the least i64 has no magnitude.
+// Whether a knot is at most 1,000,000 in magnitude: by two comparisons, since the magnitude of the least i64 is no i64.
 fn is_small(k: i64) -> bool
     ensures { λ r. ⌜ r ≡ small k ⌝ }
 {

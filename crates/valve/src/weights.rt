@@ -1041,7 +1041,7 @@ pub struct Four {
     pub w3: u32,
 }
 
-// All four at once: wherever the table is named it is laid out anew, so it is named once.
+// All four at once: the compiler lays the table out anew on the stack wherever it is named, so it is named once.
 pub fn row(step: usize) -> Four
     requires { ⌜ step ≤ 256 ⌝ }
     ensures { λ r. ⌜ FourOf step (r .w0) (r .w1) (r .w2) (r .w3) ⌝ }
