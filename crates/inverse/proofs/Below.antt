@@ -14,14 +14,15 @@ use Rattle.basis.specs.declared.Basis.{Basis}
 use Rattle.basis.specs.Basis.{stepOf, segmentsOf}
 use Rattle.spline.specs.Segment.{segmentOf}
 use Rattle.checks.specs.Checks.{allInRange}
-use Rattle.inverse_segment.specs.declared.Place.{Place}
-use Rattle.inverse_segment.specs.declared.Inverted.the-variants.{At}
+use Rattle.inverse_segment.specs.declared.Stop.{Stop}
 use Rattle.inverse_segment.specs.Segment.{Outcome, off, placed}
-use Rattle.inverse_segment.specs.Answer.{answered, alone}
 use Rattle.inverse_segment.proofs.Enclosing.{Numbers}
 use Rattle.inverse_methods.specs.declared.Method.{Method}
 use Rattle.inverse_methods.specs.Method.{ruleOf}
 use Rattle.inverse_methods.proofs.Lawful.{lawful-of}
+use Rattle.inverse_search.specs.declared.SearchResult.{SearchResult}
+use Rattle.inverse_search.specs.declared.SearchResult.the-variants.{Entered}
+use Rattle.inverse_search.specs.Shown.{resultOf, FindIs}
 use Rattle.inverse_search.specs.Trial.{trial}
 use Rattle.inverse_search.specs.Search.{find}
 use Rattle.inverse_search.proofs.Found.{Result, missed, got}
@@ -38,17 +39,17 @@ module _ (b : Basis) (y ε : Float) (ks : List Float) (limit k : ℕ) (e : k ≡
   pub k-some : 0 < k
   k-some = rw e (segments-some b (length ks))
 
-  below : (m : ℕ) (N : Type 0) (o : Outcome) (p : Place) → Result (segmentOf b ks) y k (SoundIn (segmentOf b ks) y ε limit) m N o → At p ≡ answered alone o
-      → p .segment < k
-  below m N (off t) p (missed n c) h = never (cc)
-  below m N (placed q) p (got r) h = let s : p .segment ≡ q .segment = cc in subst (λ (i : ℕ). i < k) (sym (s ∙ r .good .1)) (r .below)
+  below : (m : ℕ) (N : Type 0) (o : Outcome) (s : ℕ) (a : Stop) → Result (segmentOf b ks) y k (SoundIn (segmentOf b ks) y ε limit) m N o
+      → Entered s a ≡ resultOf o → s < k
+  below m N (off t) s a (missed n c) h = never (cc)
+  below m N (placed q) s a (got r) h = let z : s ≡ q .segment = cc in subst (λ (i : ℕ). i < k) (sym (z ∙ r .good .1)) (r .below)
 
-  pub found-below : (how : Method) (rising : Bool) (p : Place) → isNan y ≡ false → allInRange ks ≡ true → (n : ℕ)
-      → ((ev : Evaluations) → length ev ≡ n → At p ≡ answered alone (find (trial (ruleOf how) (segmentOf b ks) y ε limit) y rising k ev)) → p .segment < k
-  found-below how rising p n t m h =
+  pub found-below : (how : Method) (rising : Bool) → isNan y ≡ false → allInRange ks ≡ true → (n : ℕ) {r : SearchResult} {s : ℕ} {a : Stop} → r ≡ Entered s a
+      → FindIs how b ks y ε limit rising k n r → s < k
+  found-below how rising n t m {s = s} {a = a} d h =
       let ev : Evaluations = replicate m (0, nought) in
       let g = segmentOf b ks in
       let numbers : (s : ℕ) → s < k → Numbers (segmentOf b ks s) y = λ s l. curve-numbers b y ks long n t s (subst (λ (z : ℕ). s < z) e l) in
-      below _ _ (find (trial (ruleOf how) g y ε limit) y rising k ev) p
+      below _ _ (find (trial (ruleOf how) g y ε limit) y rising k ev) s a
       (find-sound g y ε limit (ruleOf how) (lawful-of how) k k-some (lt-of-le-of-lt k-few (lit< tt)) numbers rising ev)
-      (h ev (length-replicate m (0, nought)))
+      (sym d ∙ h ev (length-replicate m (0, nought)))

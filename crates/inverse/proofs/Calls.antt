@@ -1,18 +1,20 @@
 -- The inversion of a curve, put together from what the code's calls give. Assumes nothing.
-use mathlib.Core.Path.{_≡_, refl, sym, ap, _∙_, subst}
-use mathlib.Core.List.{List, [], _∷_}
+use mathlib.Core.Path.{_≡_, refl, sym, ap, _∙_}
+use mathlib.Core.List.{List}
 use mathlib.Core.Bool.{true, false}
 use Prim.Native.Nat.{ℕ, _-_, _*_}
 use lib.ListN.{length, drop}
 use lib.Ieee.{Float, lt}
-use types.Run.{OneOf, miss}
 use Rattle.error.proofs.First.{never}
 use Rattle.doubles.specs.Numbers.{nought, one}
 use Rattle.inverse_segment.specs.declared.Place.{Place}
 use Rattle.inverse_segment.specs.declared.Inverted.{Inverted}
-use Rattle.inverse_segment.specs.declared.Inverted.the-variants.{At}
+use Rattle.inverse_segment.specs.declared.Inverted.the-variants.{OffCurve, At}
+use Rattle.inverse_segment.specs.declared.Stop.{Stop}
 use Rattle.inverse_segment.specs.Segment.{Outcome, off, placed}
-use Rattle.inverse_segment.specs.Answer.{answered, alone}
+use Rattle.inverse_segment.specs.Answer.{answered}
+use Rattle.inverse_segment.specs.Shown.{stopOf, placeAt}
+use Rattle.inverse_segment.proofs.Stops.{place-at}
 use Rattle.basis.specs.declared.Basis.{Basis}
 use Rattle.basis.specs.Basis.{stepOf, matrixOf, segmentsOf}
 use Rattle.spline.specs.declared.Weights.{Weights}
@@ -21,6 +23,9 @@ use Rattle.inverse_segment.specs.Evaluations.{Evaluations}
 use Rattle.inverse_methods.specs.declared.Method.{Method}
 use Rattle.inverse_segment.specs.Round.{Rule}
 use Rattle.inverse_methods.specs.Method.{ruleOf}
+use Rattle.inverse_search.specs.declared.SearchResult.{SearchResult}
+use Rattle.inverse_search.specs.declared.SearchResult.the-variants.{OffCurve as NotOn, Entered}
+use Rattle.inverse_search.specs.Shown.{resultOf}
 use Rattle.inverse_search.specs.Trial.{trial}
 use Rattle.inverse_search.specs.Search.{find}
 use Rattle.inverse.specs.declared.Ends.{Ends}
@@ -30,28 +35,25 @@ use Rattle.inverse.specs.Shown.{LocatedIs}
 use Rattle.inverse.specs.EndRule.{atLow, atHigh, knotEnds, curveRule, endRuleOf, own}
 use Rattle.inverse.specs.Curve.{parameterOf, ended, located}
 
--- ---- the search's answer, with another parameter
-module _ (P : ℕ → Float → Float) where
-  pub refusal-kept : (o : Outcome) (a : Inverted) (tag : Inverted → ℕ) → ((p : Place) → tag (At p) ≡ 2) → OneOf (0 ∷ (1 ∷ [])) (tag a)
-      → a ≡ answered alone o → a ≡ answered P o
-  refusal-kept (off ev) a tag two h e = e
-  refusal-kept (placed p) a tag two h e = absurd (miss (0 ∷ (1 ∷ [])) 2 tt (subst (OneOf (0 ∷ (1 ∷ []))) (ap tag e ∙ two _) h))
+-- ---- the search's answer, with the parameter
+module _ (P : ℕ → Float → Float) (o : Outcome) {r : SearchResult} where
+  pub off-kept : {m : ℕ} → r ≡ NotOn m → r ≡ resultOf o → OffCurve m ≡ answered P o
+  off-kept {m} d e = go o (sym d ∙ e)
+    where
+      go : (o : Outcome) → NotOn m ≡ resultOf o → OffCurve m ≡ answered P o
+      go (off ev) e = let q : m ≡ length ev = cc in ap OffCurve q
+      go (placed p) e = never (cc)
 
-  pub with-parameter : (o : Outcome) (p : Place) {x : Float} → At p ≡ answered alone o → x ≡ P (p .segment) (p .local)
-      → At (record { parameter = x; ground = p .ground; segment = p .segment; local = p .local; lower = p .lower; upper = p .upper; count = p .count })
-      ≡ answered P o
-  with-parameter (off ev) p e h = never (cc)
-  with-parameter (placed q) p e h =
-      let s : p ≡ record {
-        parameter = q .local;
-        ground = q .ground;
-        segment = q .segment;
-        local = q .local;
-        lower = q .lower;
-        upper = q .upper;
-        count = length (q .made);
-      } = cc in
-      rw (h, s)
+  pub with-parameter : {s : ℕ} {a : Stop} {x : Float} {p : Place} → r ≡ Entered s a → r ≡ resultOf o → x ≡ P s (a .local) → p ≡ placeAt x s a
+      → At p ≡ answered P o
+  with-parameter {s} {a} {x} {p} d e h z = go o (sym d ∙ e)
+    where
+      go : (o : Outcome) → Entered s a ≡ resultOf o → At p ≡ answered P o
+      go (off ev) e = never (cc)
+      go (placed q) e =
+          let n : q .segment ≡ s = cc in
+          let t : a ≡ stopOf q = cc in
+          ap At (z ∙ place-at P q n t h)
 
 -- ---- the end rule's two tests, then the search
 module _ (R : Rule) (e : Ends) (ev : Evaluations) (g : ℕ → Float → Float) (k : ℕ) (y ε : Float) (limit : ℕ) {r : Inverted} where

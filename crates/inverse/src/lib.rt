@@ -16,6 +16,7 @@ ghost use Rattle.inverse.specs.Shown.{EndedIs, SearchedIs, LocatedIs};
 use basis::Basis;
 use error::Verdict;
 use inverse_methods::Method;
+use inverse_search::SearchResult;
 use inverse_segment::Ground;
 use inverse_segment::Inverted;
 use inverse_segment::Place;
@@ -130,20 +131,14 @@ fn searched(
     ensures { λ r. ⌜ SearchedIs how b y (now (knots .entry)) limit precision rising k n r ⌝ }
 {
     let a = inverse_search::find(how, b, knots, y, precision, limit, rising, k, n);
-    let Inverted::At(p) = a else {
-        return a;
-    };
-    let ground = p.ground;
-    let x = parameter(k, p.segment, p.local);
-    Inverted::At(Place {
-        parameter: x,
-        ground: ground,
-        segment: p.segment,
-        local: p.local,
-        lower: p.lower,
-        upper: p.upper,
-        count: p.count,
-    })
+    match a {
+        SearchResult::OffCurve(m) => Inverted::OffCurve(m as usize),
+        SearchResult::Entered(s, e) => Inverted::At(inverse_segment::place_of(
+            parameter(k, s, e.local),
+            s,
+            e,
+        )),
+    }
 }
 
 // The end rule, then the search; n evaluations have been made for the rule.

@@ -15,12 +15,11 @@ use Rattle.inverse_segment.specs.Evaluations.{Evaluations}
 use Rattle.inverse_segment.specs.Round.{toward, midpoint, weighed}
 use Rattle.spline.specs.declared.Weights.{Weights}
 use Rattle.spline.specs.Segment.{hornerOf}
-use Rattle.inverse_segment.specs.declared.Place.{Place}
+use Rattle.inverse_segment.specs.declared.Stop.{Stop}
 use Rattle.inverse_segment.specs.declared.Weighing.{Weighing}
 use Rattle.inverse_segment.specs.declared.Weighing.the-variants.{Value, Distance}
 use Rattle.inverse_segment.specs.Segment.{entered}
-use Rattle.inverse_segment.specs.Answer.{placeOf, alone}
-use Rattle.inverse_segment.specs.Shown.{EnteredIs as ChordIs}
+use Rattle.inverse_segment.specs.Shown.{stopOf, EnteredIs as ChordIs}
 use Rattle.inverse_methods.specs.declared.Method.{Method}
 use Rattle.inverse_methods.specs.declared.Method.the-variants.{AsCrate, Taught, Steady}
 use Rattle.inverse_methods.specs.declared.RoundsBy.{RoundsBy}
@@ -51,25 +50,26 @@ unfolding allowed
 next-width i e = rw (add-one) (ap (λ (z : Float). mul binary64 z half) e)
 
 -- ---- by a method
-module _ (w : Weights) (s : ℕ) (y ε : Float) (limit : ℕ) (v0 v1 : Float) (n : ℕ) (how : Method) {r : Place} where
-  by-rule : (h : Method) → how ≡ h → ((ev : Evaluations) → length ev ≡ n → r ≡ placeOf alone (entered (ruleOf h) (hornerOf w) s y ε limit v0 v1 ev))
-      → EnteredBy how w s y ε limit v0 v1 n r
-  by-rule h e i ev k = i ev k ∙ ap (λ (m : Method). placeOf alone (entered (ruleOf m) (hornerOf w) s y ε limit v0 v1 ev)) (sym e)
+module _ (w : Weights) (y ε : Float) (limit : ℕ) (v0 v1 : Float) (n : ℕ) (how : Method) {r : Stop} where
+  by-rule : (h : Method) → how ≡ h
+      → ((s : ℕ) (ev : Evaluations) → length ev ≡ n → r ≡ stopOf (entered (ruleOf h) (hornerOf w) s y ε limit v0 v1 ev))
+      → EnteredBy how w y ε limit v0 v1 n r
+  by-rule h e i s ev k = i s ev k ∙ ap (λ (m : Method). stopOf (entered (ruleOf m) (hornerOf w) s y ε limit v0 v1 ev)) (sym e)
 
-  pub by-weighing : (m : Weighing) {x : RoundsBy} → x ≡ roundsOf how → x ≡ Weight m → ChordIs m w s y ε limit v0 v1 n r → EnteredBy how w s y ε limit v0 v1 n r
+  pub by-weighing : (m : Weighing) {x : RoundsBy} → x ≡ roundsOf how → x ≡ Weight m → ChordIs m w y ε limit v0 v1 n r → EnteredBy how w y ε limit v0 v1 n r
   by-weighing m p q i = go how refl m (sym p ∙ q) i
     where
-      go : (h : Method) → how ≡ h → (m : Weighing) → roundsOf how ≡ Weight m → ChordIs m w s y ε limit v0 v1 n r → EnteredBy how w s y ε limit v0 v1 n r
+      go : (h : Method) → how ≡ h → (m : Weighing) → roundsOf how ≡ Weight m → ChordIs m w y ε limit v0 v1 n r → EnteredBy how w y ε limit v0 v1 n r
       go AsCrate e Value t i = by-rule AsCrate e i
       go AsCrate e Distance t i = let z : Weight Value ≡ Weight Distance = sym (ap roundsOf e) ∙ t in never (cc)
       go Taught e Value t i = let z : Weight Distance ≡ Weight Value = sym (ap roundsOf e) ∙ t in never (cc)
       go Taught e Distance t i = by-rule Taught e i
       go Steady e m t i = let z : Pace ≡ Weight m = sym (ap roundsOf e) ∙ t in never (cc)
 
-  pub by-pace : {x : RoundsBy} → x ≡ roundsOf how → x ≡ Pace → EnteredIs w s y ε limit v0 v1 n r → EnteredBy how w s y ε limit v0 v1 n r
+  pub by-pace : {x : RoundsBy} → x ≡ roundsOf how → x ≡ Pace → EnteredIs w y ε limit v0 v1 n r → EnteredBy how w y ε limit v0 v1 n r
   by-pace p q i = go how refl (sym p ∙ q)
     where
-      go : (h : Method) → how ≡ h → roundsOf how ≡ Pace → EnteredBy how w s y ε limit v0 v1 n r
+      go : (h : Method) → how ≡ h → roundsOf how ≡ Pace → EnteredBy how w y ε limit v0 v1 n r
       go AsCrate e t = let z : Weight Value ≡ Pace = sym (ap roundsOf e) ∙ t in never (cc)
       go Taught e t = let z : Weight Distance ≡ Pace = sym (ap roundsOf e) ∙ t in never (cc)
       go Steady e t = by-rule Steady e i

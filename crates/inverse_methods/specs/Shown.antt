@@ -9,13 +9,12 @@ use Rattle.spline.specs.Segment.{hornerOf}
 use Rattle.inverse_segment.specs.declared.Bracket.{Bracket}
 use Rattle.inverse_segment.specs.declared.State.{State}
 use Rattle.inverse_segment.specs.declared.Turned.{Turned}
-use Rattle.inverse_segment.specs.declared.Place.{Place}
+use Rattle.inverse_segment.specs.declared.Stop.{Stop}
 use Rattle.inverse_segment.specs.Evaluations.{Evaluations}
 use Rattle.inverse_segment.specs.Round.{on, turn}
 use Rattle.inverse_segment.specs.Rounds.{rounds}
 use Rattle.inverse_segment.specs.Segment.{start, entered}
-use Rattle.inverse_segment.specs.Answer.{placeOf, alone}
-use Rattle.inverse_segment.specs.Shown.{shown}
+use Rattle.inverse_segment.specs.Shown.{shown, stopOf}
 use Rattle.inverse_methods.specs.declared.Chosen.{Chosen}
 use Rattle.inverse_methods.specs.declared.Method.{Method}
 use Rattle.inverse_methods.specs.Steady.{allowed, steady}
@@ -29,14 +28,14 @@ abbrev pub TurnIs : Weights → Float → Float → Bool → Float → State →
 TurnIs w y ε rising width st n r = (limit i : ℕ) → width ≡ allowed i → (s : ℕ) (ev : Evaluations) → length ev ≡ n
     → r ≡ shown (turn steady (hornerOf w) s y ε rising limit i st ev)
 
-abbrev pub RoundsIs : Weights → ℕ → Float → Float → Bool → Bracket → ℕ → ℕ → Place → Type 0
-RoundsIs w s y ε rising b limit n r = (ev : Evaluations) → length ev ≡ n
-    → r ≡ placeOf alone (rounds steady (hornerOf w) s y ε rising limit limit 0 (on (start b) ev))
+abbrev pub RoundsIs : Weights → Float → Float → Bool → Bracket → ℕ → ℕ → Stop → Type 0
+RoundsIs w y ε rising b limit n r = (s : ℕ) (ev : Evaluations) → length ev ≡ n
+    → r ≡ stopOf (rounds steady (hornerOf w) s y ε rising limit limit 0 (on (start b) ev))
 
-abbrev pub EnteredIs : Weights → ℕ → Float → Float → ℕ → Float → Float → ℕ → Place → Type 0
-EnteredIs w s y ε limit v0 v1 n r = (ev : Evaluations) → length ev ≡ n
-    → r ≡ placeOf alone (entered steady (hornerOf w) s y ε limit v0 v1 ev)
+abbrev pub EnteredIs : Weights → Float → Float → ℕ → Float → Float → ℕ → Stop → Type 0
+EnteredIs w y ε limit v0 v1 n r = (s : ℕ) (ev : Evaluations) → length ev ≡ n
+    → r ≡ stopOf (entered steady (hornerOf w) s y ε limit v0 v1 ev)
 
-abbrev pub EnteredBy : Method → Weights → ℕ → Float → Float → ℕ → Float → Float → ℕ → Place → Type 0
-EnteredBy how w s y ε limit v0 v1 n r = (ev : Evaluations) → length ev ≡ n
-    → r ≡ placeOf alone (entered (ruleOf how) (hornerOf w) s y ε limit v0 v1 ev)
+abbrev pub EnteredBy : Method → Weights → Float → Float → ℕ → Float → Float → ℕ → Stop → Type 0
+EnteredBy how w y ε limit v0 v1 n r = (s : ℕ) (ev : Evaluations) → length ev ≡ n
+    → r ≡ stopOf (entered (ruleOf how) (hornerOf w) s y ε limit v0 v1 ev)

@@ -13,8 +13,8 @@ use error::Verdict;
 use inverse_segment::Bracket;
 use inverse_segment::Ground;
 use inverse_segment::Inverted;
-use inverse_segment::Place;
 use inverse_segment::State;
+use inverse_segment::Stop;
 use inverse_segment::Turned;
 use inverse_segment::Weighing;
 use spline::Weights;
@@ -110,16 +110,15 @@ pub fn turn(
 // The steady rounds, from the bracket that is given; n evaluations have been made before them.
 pub fn rounds(
     w: Weights,
-    s: usize,
     y: f64,
     precision: f64,
     rising: bool,
     first: Bracket,
     limit: u16,
     n: u32,
-) -> Place
+) -> Stop
     requires { ⌜ n ≤ 1000000 ⌝ }
-    ensures { λ r. ⌜ RoundsIs w s y precision rising first limit n r ⌝ }
+    ensures { λ r. ⌜ RoundsIs w y precision rising first limit n r ⌝ }
 {
     let most = limit as u32;
     let mut st = State {
@@ -138,15 +137,14 @@ pub fn rounds(
                 count = k;
             }
             Turned::Done(ground, x, b, k) => {
-                return inverse_segment::told_at(s, ground, x, b, k);
+                return inverse_segment::stopped(ground, x, b, k);
             }
         }
         width = width * 0.5;
         i += 1;
     }
     let b = st.bracket;
-    inverse_segment::told_at(
-        s,
+    inverse_segment::stopped(
         Ground::Spent,
         doubles::lerp(b.lower, b.upper, 0.5),
         b,
@@ -154,19 +152,10 @@ pub fn rounds(
     )
 }
 
-// The place in segment s, whose end values v0 and v1 enclose y; n evaluations have been made, those of its ends among them.
-pub fn entered(
-    w: Weights,
-    s: usize,
-    y: f64,
-    precision: f64,
-    limit: u16,
-    v0: f64,
-    v1: f64,
-    n: u32,
-) -> Place
+// A segment whose end values v0 and v1 enclose y is entered; n evaluations have been made, those of its ends among them.
+pub fn entered(w: Weights, y: f64, precision: f64, limit: u16, v0: f64, v1: f64, n: u32) -> Stop
     requires { ⌜ n ≤ 1000000 ⌝ }
-    ensures { λ r. ⌜ EnteredIs w s y precision limit v0 v1 n r ⌝ }
+    ensures { λ r. ⌜ EnteredIs w y precision limit v0 v1 n r ⌝ }
 {
     let whole = Bracket {
         lower: 0.0,
@@ -175,12 +164,12 @@ pub fn entered(
         v1: v1,
     };
     if inverse_segment::is_near(y, v0, precision) {
-        return inverse_segment::told_at(s, Ground::Edge, 0.0, whole, n);
+        return inverse_segment::stopped(Ground::Edge, 0.0, whole, n);
     }
     if inverse_segment::is_near(y, v1, precision) {
-        return inverse_segment::told_at(s, Ground::Edge, 1.0, whole, n);
+        return inverse_segment::stopped(Ground::Edge, 1.0, whole, n);
     }
-    rounds(w, s, y, precision, v0 < v1, whole, limit, n)
+    rounds(w, y, precision, v0 < v1, whole, limit, n)
 }
 
 fn method_rounds(how: Method) -> RoundsBy
@@ -197,22 +186,21 @@ fn method_rounds(how: Method) -> RoundsBy
 pub fn entered_by(
     how: Method,
     w: Weights,
-    s: usize,
     y: f64,
     precision: f64,
     limit: u16,
     v0: f64,
     v1: f64,
     n: u32,
-) -> Place
+) -> Stop
     requires { ⌜ n ≤ 1000000 ⌝ }
-    ensures { λ r. ⌜ EnteredBy how w s y precision limit v0 v1 n r ⌝ }
+    ensures { λ r. ⌜ EnteredBy how w y precision limit v0 v1 n r ⌝ }
 {
     let r = method_rounds(how);
     let RoundsBy::Weight(m) = r else {
-        return entered(w, s, y, precision, limit, v0, v1, n);
+        return entered(w, y, precision, limit, v0, v1, n);
     };
-    inverse_segment::entered(m, w, s, y, precision, limit, v0, v1, n)
+    inverse_segment::entered(m, w, y, precision, limit, v0, v1, n)
 }
 
 // The place of y on the segment whose four knots are cv, by the method that is asked for.
@@ -230,20 +218,11 @@ pub fn spline_inverse_segment_by(
     match v {
         Verdict::Failed(r) => Inverted::Refused(r),
         Verdict::Passed => {
-            let w = spline::segment::weights(b, cv);
             let mut ends = [0.0, 0.0, 0.0, 0.0, 0.0, 0.0];
-            if inverse_segment::settle(w, y, &mut ends) {
-                return Inverted::At(entered_by(
-                    how,
-                    w,
-                    0,
-                    y,
-                    precision,
-                    limit,
-                    ends[4],
-                    ends[5],
-                    2,
-                ));
+            if inverse_segment::probe(b, cv, 0, y, &mut ends) {
+                let w = inverse_segment::kept_sums(&ends);
+                let e = entered_by(how, w, y, precision, limit, ends[4], ends[5], 2);
+                return Inverted::At(inverse_segment::place_of(e.local, 0, e));
             }
             Inverted::OffCurve(2)
         }

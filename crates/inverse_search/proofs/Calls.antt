@@ -1,34 +1,32 @@
 -- The searches, put together from what the code's calls give. Assumes nothing.
-use mathlib.Core.Path.{_≡_, refl, sym, ap, subst, _∙_}
-use mathlib.Core.List.{List, [], _∷_}
+use mathlib.Core.Path.{_≡_, refl, sym, ap, _∙_}
+use mathlib.Core.List.{List}
 use mathlib.Core.Bool.{Bool, true, false, cond}
 use Prim.Native.Nat.{ℕ, zero, suc, _+_, _-_, _*_, _/_, _^_, _<_, _≤_, min}
 use native.Mathlib.Nat.{mul-le-mul-right, suc-mul, two-pow-succ}
 use native.Mathlib.Omega.{arith}
-use lib.ListN.{length, drop, getD}
+use lib.ListN.{length, getD}
 use lib.Ieee.{Float, nan}
 use borrow.Author.Tests.{le-leb, lt-leb, lt-ltb, le-ltb}
 use Rattle.basis.specs.declared.Basis.{Basis}
-use Rattle.basis.specs.Basis.{stepOf, matrixOf}
 use Rattle.doubles.specs.Numbers.{nought, one}
 use Rattle.spline.specs.declared.Weights.{Weights}
-use Rattle.spline.specs.Segment.{weightsOf, hornerOf, segmentOf}
-use Rattle.inverse_segment.specs.declared.Inverted.{Inverted}
-use Rattle.inverse_segment.specs.declared.Inverted.the-variants.{OffCurve, At}
-use Rattle.inverse_segment.specs.declared.Place.{Place}
+use Rattle.spline.specs.Segment.{segmentOf}
+use Rattle.inverse_segment.specs.declared.Stop.{Stop}
 use Rattle.inverse_segment.specs.Evaluations.{Evaluations}
 use Rattle.inverse_segment.specs.Round.{Rule}
 use Rattle.inverse_segment.specs.Segment.{Outcome, off, placed, encloses, entered, enter, orElse}
-use Rattle.inverse_segment.specs.Answer.{placeOf, answered, alone}
 use Rattle.inverse_methods.specs.declared.Method.{Method}
 use Rattle.inverse_methods.specs.Method.{ruleOf}
 use Rattle.inverse_methods.specs.Shown.{EnteredBy}
-use Rattle.inverse_segment.specs.Shown.{SettledIs}
+use Rattle.inverse_segment.specs.Shown.{stopOf, sumsOf, weightsAt, TestedIs}
 use Rattle.inverse_segment.proofs.Ends.{both}
+use Rattle.inverse_segment.proofs.Stops.{entered-segment, stop-kept}
+use Rattle.inverse_search.specs.declared.SearchResult.the-variants.{OffCurve, Entered}
 use Rattle.inverse_search.specs.Bound.{bitsOf}
 use Rattle.inverse_search.specs.Search.{before, Trial, tries, last, halve, find}
 use Rattle.inverse_search.specs.Trial.{trial}
-use Rattle.inverse_search.specs.Shown.{TestedIs, went, Seeks, TriesIs, LastIs, HalveIs, SoughtIs, FindIs}
+use Rattle.inverse_search.specs.Shown.{resultOf, went, Seeks, TriesIs, LastIs, HalveIs, SoughtIs, FindIs}
 use Rattle.inverse_search.proofs.Digits.{bits-enough}
 
 -- ---- where a segment lies
@@ -37,16 +35,6 @@ fits-le t k step n h l = let q : t * step ≤ k * step = mul-le-mul-right step h
 
 pub fits-at : (s k step n : ℕ) → s < k → k * step + 4 ≤ n + step → s * step + 4 ≤ n
 fits-at s k step n h l = let q : suc s * step ≤ k * step = mul-le-mul-right step h in omega (arith, suc-mul s step)
-
--- ---- the ends of a segment, from its row sums
-pub settled-by : (b d : Basis) (m : List (List Float)) (cv : List Float) {w : Weights} {e : List Float} {y : Float} {h : Bool} → b ≡ d → m ≡ matrixOf d
-    → w ≡ weightsOf m cv → SettledIs w y e h → SettledIs (weightsOf (matrixOf b) cv) y e h
-settled-by b d m cv {e = e} {y = y} {h = h} p q r i =
-    subst (λ (w : Weights). SettledIs w y e h) (r ∙ ap (λ (m : List (List Float)). weightsOf m cv) (q ∙ ap matrixOf (sym p))) i
-
-pub settled-at : (b : Basis) (p q : List Float) {e : List Float} {y : Float} {h : Bool} → p ≡ q → SettledIs (weightsOf (matrixOf b) p) y e h
-    → SettledIs (weightsOf (matrixOf b) q) y e h
-settled-at b p q {e} {y} {h} r i = subst (λ (cv : List Float). SettledIs (weightsOf (matrixOf b) cv) y e h) r i
 
 -- ---- what a search comes to
 module _ (g : ℕ → Float → Float) (y : Float) (k s : ℕ) (R : Rule) (ε : Float) (limit : ℕ) (t : Evaluations) where
@@ -257,21 +245,21 @@ module _ (b : Basis) (ks : List Float) (y : Float) where
       many : (F : Trial) (ev : Evaluations) → find F y rising k ev ≡ halve F y rising k (bitsOf k) 0 k ev
       many F ev = simp (lt-leb k 12 h)
 
-  -- ---- and the place in the segment that it comes to
+  -- ---- and where the inversion stopped in the segment that it came to
   module _ (how : Method) (ε : Float) (limit : ℕ) (rising : Bool) (k : ℕ) {count s made : ℕ} {e : List Float}
       (sought : SoughtIs b ks y rising k count s made e) where
-    pub found-in : {p : Place} → s < k
-        → EnteredBy how (record { w0 = getD e 0 nan; w1 = getD e 1 nan; w2 = getD e 2 nan; w3 = getD e 3 nan }) s y ε limit (getD e 4 nan) (getD e 5 nan)
-        made p → FindIs how b ks y ε limit rising k count (At p)
-    found-in {p} h i ev l =
+    pub found-in : {w : Weights} {a : Stop} → s < k → w ≡ sumsOf e → EnteredBy how w y ε limit (getD e 4 nan) (getD e 5 nan) made a
+        → FindIs how b ks y ε limit rising k count (Entered s a)
+    found-in {w} {a} h q i ev l =
         let c = sought .comes-to ev l in
-        ap At (i (c .0) (c .1)
-        ∙ ap (λ (e : List Float). placeOf alone
-        (entered (ruleOf how) (hornerOf (record { w0 = getD e 0 nan; w1 = getD e 1 nan; w2 = getD e 2 nan; w3 = getD e 3 nan })) s y ε limit
-        (getD e 4 nan) (getD e 5 nan) (c .0))) (sought .keeps h))
-        ∙ ap (answered alone) (sym (c .2 (ruleOf how) ε limit ∙ went-in (segmentOf b ks) y k s (ruleOf how) ε limit (c .0) h))
+        let g = segmentOf b ks in
+        let p = entered (ruleOf how) (g s) s y ε limit (g s nought) (g s one) (c .0) in
+        let stop : a ≡ stopOf p =
+        i s (c .0) (c .1) ∙ stop-kept (ruleOf how) s y ε limit (c .0) w (weightsAt b ks s) e q (sought .keeps h) in
+        ap (Entered s) stop ∙ ap (λ (n : ℕ). Entered n (stopOf p)) (sym (entered-segment (ruleOf how) (g s) s y ε limit (g s nought) (g s one) (c .0)))
+        ∙ ap resultOf (sym (c .2 (ruleOf how) ε limit ∙ went-in g y k s (ruleOf how) ε limit (c .0) h))
 
     pub found-none : k ≤ s → FindIs how b ks y ε limit rising k count (OffCurve made)
     found-none h ev l =
         let c = sought .comes-to ev l in
-        ap OffCurve (sym (c .1)) ∙ ap (answered alone) (sym (c .2 (ruleOf how) ε limit ∙ went-none (segmentOf b ks) y k s (ruleOf how) ε limit (c .0) h))
+        ap OffCurve (sym (c .1)) ∙ ap resultOf (sym (c .2 (ruleOf how) ε limit ∙ went-none (segmentOf b ks) y k s (ruleOf how) ε limit (c .0) h))

@@ -2,35 +2,32 @@
 use mathlib.Core.Path.{_≡_}
 use mathlib.Core.List.{List}
 use mathlib.Core.Bool.{Bool, cond}
-use Prim.Native.Nat.{ℕ, _*_, _^_, _<_}
+use Prim.Native.Nat.{ℕ, _^_, _<_}
 use lib.Dec.{ltb}
-use lib.ListN.{length, drop}
+use lib.ListN.{length}
 use lib.Ieee.{Float}
 use Rattle.basis.specs.declared.Basis.{Basis}
-use Rattle.basis.specs.Basis.{stepOf, matrixOf}
 use Rattle.doubles.specs.Numbers.{nought, one}
-use Rattle.spline.specs.declared.Weights.{Weights}
-use Rattle.spline.specs.Segment.{weightsOf, segmentOf}
-use Rattle.inverse_segment.specs.declared.Inverted.{Inverted}
+use Rattle.spline.specs.Segment.{segmentOf}
 use Rattle.inverse_segment.specs.Evaluations.{Evaluations}
 use Rattle.inverse_segment.specs.Round.{Rule}
 use Rattle.inverse_segment.specs.Segment.{Outcome, off, placed, entered}
-use Rattle.inverse_segment.specs.Answer.{answered, alone}
-use Rattle.inverse_segment.specs.Shown.{keptOf, SettledIs}
+use Rattle.inverse_segment.specs.Shown.{stopOf, keptOf, weightsAt}
 use Rattle.inverse_methods.specs.declared.Method.{Method}
 use Rattle.inverse_methods.specs.Method.{ruleOf}
+use Rattle.inverse_search.specs.declared.SearchResult.{SearchResult}
+use Rattle.inverse_search.specs.declared.SearchResult.the-variants.{OffCurve, Entered}
 use Rattle.inverse_search.specs.Search.{Trial, tries, last, halve, find}
 use Rattle.inverse_search.specs.Trial.{trial}
 
+-- an outcome before its parameter is found
+abbrev pub resultOf : Outcome → SearchResult
+resultOf (off ev) = OffCurve (length ev)
+resultOf (placed p) = Entered (p .segment) (stopOf p)
+
 -- r is what the definition gives, whatever the n evaluations before it were
-abbrev pub Is : (Evaluations → Outcome) → ℕ → Inverted → Type 0
-Is o n r = (ev : Evaluations) → length ev ≡ n → r ≡ answered alone (o ev)
-
-abbrev pub weightsAt : Basis → List Float → ℕ → Weights
-weightsAt b ks s = weightsOf (matrixOf b) (drop (s * stepOf b) ks)
-
-abbrev pub TestedIs : Basis → List Float → ℕ → Float → List Float → Bool → Type 0
-TestedIs b ks s = SettledIs (weightsAt b ks s)
+abbrev pub Is : (Evaluations → Outcome) → ℕ → SearchResult → Type 0
+Is o n r = (ev : Evaluations) → length ev ≡ n → r ≡ resultOf (o ev)
 
 -- segment s of k is entered after both its ends were evaluated; where s is k, none is
 abbrev pub went : (ℕ → Float → Float) → Float → ℕ → ℕ → Rule → Float → ℕ → Evaluations → Outcome
@@ -59,5 +56,5 @@ module _ (b : Basis) (ks : List Float) (y : Float) where
   SoughtIs rising k = Seeks (λ E. find E y rising k) k
 
 module _ (how : Method) (b : Basis) (ks : List Float) (y ε : Float) (limit : ℕ) where
-  abbrev pub FindIs : Bool → ℕ → ℕ → Inverted → Type 0
+  abbrev pub FindIs : Bool → ℕ → ℕ → SearchResult → Type 0
   FindIs rising k = Is (find (trial (ruleOf how) (segmentOf b ks) y ε limit) y rising k)

@@ -4,14 +4,19 @@ ghost use Prim.Native.Nat.{_+_, _-_, _*_, _≤_, _<_};
 ghost use lib.ListN.{length, drop};
 ghost use Rattle.basis.specs.Basis.{stepOf, matrixOf};
 ghost use Rattle.spline.specs.Segment.{weightsOf};
-ghost use Rattle.inverse_segment.specs.Shown.{SettledIs};
 ghost use Rattle.inverse_search.specs.Bound.{bitsOf, boundOf};
 ghost use Rattle.inverse_search.specs.Search.{before};
-ghost use Rattle.inverse_search.specs.Shown.{TestedIs, TriesIs, LastIs, HalveIs, SoughtIs, FindIs};
+ghost use Rattle.inverse_search.specs.Shown.{TriesIs, LastIs, HalveIs, SoughtIs, FindIs};
 use basis::Basis;
 use inverse_methods::Method;
-use inverse_segment::Inverted;
+use inverse_segment::Stop;
 use spline::Weights;
+
+// What a search comes to: none of the segments after so many evaluations, or the segment that was entered and where it stopped there.
+pub enum SearchResult {
+    OffCurve(u32),
+    Entered(usize, Stop),
+}
 
 // How many binary digits k has, up to its highest 1.
 pub fn bits(k: usize) -> u32
@@ -40,54 +45,6 @@ pub fn weights_at(b: Basis, knots: &[f64], s: usize) -> Weights
     spline::segment::weights(b, &knots[start..])
 }
 
-// Tests one segment. A match on the basis, so that each matrix is known where it is used, and no row sum goes through memory.
-fn settle_by(b: Basis, cv: &[f64], y: f64, ends: &mut [f64; 6]) -> bool
-    requires { ⌜ 4 ≤ length (now cv) ⌝ }
-    ensures { λ r. ⌜ SettledIs (weightsOf (matrixOf b) (now (cv .entry))) y (now (ends .exit)) r ⌝ }
-{
-    match b {
-        Basis::Bspline => inverse_segment::settle(
-            spline::segment::sums(basis::basis_macros::bspline(), cv),
-            y,
-            ends,
-        ),
-        Basis::Bezier => inverse_segment::settle(
-            spline::segment::sums(basis::basis_macros::bezier(), cv),
-            y,
-            ends,
-        ),
-        Basis::CatmullRom => inverse_segment::settle(
-            spline::segment::sums(basis::basis_macros::catmull_rom(), cv),
-            y,
-            ends,
-        ),
-        Basis::Hermite => inverse_segment::settle(
-            spline::segment::sums(basis::basis_macros::hermite(), cv),
-            y,
-            ends,
-        ),
-        Basis::Linear => inverse_segment::settle(
-            spline::segment::sums(basis::basis_macros::linear(), cv),
-            y,
-            ends,
-        ),
-        Basis::Power => inverse_segment::settle(
-            spline::segment::sums(basis::basis_macros::power(), cv),
-            y,
-            ends,
-        ),
-    }
-}
-
-// Whether the end values of segment s enclose the target; its row sums and end values are left in `ends`.
-pub fn probe(b: Basis, knots: &[f64], s: usize, y: f64, ends: &mut [f64; 6]) -> bool
-    requires { ⌜ (s * stepOf b + 4 ≤ length (now knots)) × (length (now knots) ≤ 4096) ⌝ }
-    ensures { λ r. ⌜ TestedIs b (now (knots .entry)) s y (now (ends .exit)) r ⌝ }
-{
-    let start = s * basis::step(b);
-    settle_by(b, &knots[start..], y, ends)
-}
-
 // The segments from `first` up to below `end`, in order: the first whose ends enclose the target; k, where none has such ends.
 pub fn tries(
     b: Basis,
@@ -106,7 +63,7 @@ pub fn tries(
 {
     let mut s = first;
     while s < end {
-        let holds = probe(b, knots, s, y, &mut *ends);
+        let holds = inverse_segment::probe(b, knots, s, y, &mut *ends);
         *made = *made + 2;
         if holds {
             return s;
@@ -172,7 +129,7 @@ pub fn halve(
     }
     let half = (wide - 1) / 2;
     let mid = left + half;
-    let holds = probe(b, *knots, mid, y, &mut *ends);
+    let holds = inverse_segment::probe(b, *knots, mid, y, &mut *ends);
     *made = *made + 2;
     if holds {
         return mid;
@@ -206,7 +163,7 @@ fn sought(
     halve(b, &lent, y, rising, k, 0, k, made, ends)
 }
 
-// The search, and the place in the segment that it comes to; `count` evaluations have been made before.
+// The search, and where the inversion stopped in the segment that it came to; `count` evaluations have been made before.
 pub fn find(
     how: Method,
     b: Basis,
@@ -217,7 +174,7 @@ pub fn find(
     rising: bool,
     k: usize,
     count: u32,
-) -> Inverted
+) -> SearchResult
     requires { ⌜ (k * stepOf b + 4 ≤ length (now knots) + stepOf b) × (length (now knots) ≤ 4096) × (0 < k) × (k ≤ 4096)
         × (count ≤ 1000) ⌝ }
     ensures { λ r. ⌜ FindIs how b (now (knots .entry)) y precision limit rising k count r ⌝ }
@@ -226,23 +183,9 @@ pub fn find(
     let mut ends = [0.0, 0.0, 0.0, 0.0, 0.0, 0.0];
     let s = sought(b, knots, y, rising, k, &mut made, &mut ends);
     if s < k {
-        let w = Weights {
-            w0: ends[0],
-            w1: ends[1],
-            w2: ends[2],
-            w3: ends[3],
-        };
-        return Inverted::At(inverse_methods::entered_by(
-            how,
-            w,
-            s,
-            y,
-            precision,
-            limit,
-            ends[4],
-            ends[5],
-            made,
-        ));
+        let w = inverse_segment::kept_sums(&ends);
+        let e = inverse_methods::entered_by(how, w, y, precision, limit, ends[4], ends[5], made);
+        return SearchResult::Entered(s, e);
     }
-    Inverted::OffCurve(made as usize)
+    SearchResult::OffCurve(made)
 }

@@ -1,12 +1,14 @@
 -- The two evaluations of a segment's ends, and what is kept of them. Assumes nothing.
-use mathlib.Core.Path.{_≡_, ap, _∙_}
+use mathlib.Core.Path.{_≡_, sym, ap, subst, _∙_}
 use mathlib.Core.Bool.{Bool}
-use mathlib.Core.List.{[], _∷_}
+use mathlib.Core.List.{List, [], _∷_}
 use Prim.Native.Nat.{ℕ}
 use lib.Ieee.{Float}
+use Rattle.basis.specs.declared.Basis.{Basis}
+use Rattle.basis.specs.Basis.{matrixOf}
 use Rattle.doubles.specs.Numbers.{nought, one}
 use Rattle.spline.specs.declared.Weights.{Weights}
-use Rattle.spline.specs.Segment.{hornerOf}
+use Rattle.spline.specs.Segment.{weightsOf, hornerOf}
 use Rattle.inverse_segment.specs.Evaluations.{Evaluations}
 use Rattle.inverse_segment.specs.Segment.{encloses}
 use Rattle.inverse_segment.specs.Shown.{SettledIs}
@@ -23,3 +25,14 @@ settled {y} w {v0} {v1} e0 e1 eh =
           ∙ ap (λ (v : Float). w .w0 ∷ w .w1 ∷ w .w2 ∷ w .w3 ∷ hornerOf w nought ∷ v ∷ []) e1;
       holds-is = eh ∙ ap (λ (v : Float). encloses v v1 y) e0 ∙ ap (λ (v : Float). encloses (hornerOf w nought) v y) e1;
     }
+
+-- by the matrix of the basis
+pub settled-by : (b d : Basis) (m : List (List Float)) (cv : List Float) {w : Weights} {e : List Float} {y : Float} {h : Bool} → b ≡ d → m ≡ matrixOf d
+    → w ≡ weightsOf m cv → SettledIs w y e h → SettledIs (weightsOf (matrixOf b) cv) y e h
+settled-by b d m cv {e = e} {y = y} {h = h} p q r i =
+    subst (λ (w : Weights). SettledIs w y e h) (r ∙ ap (λ (m : List (List Float)). weightsOf m cv) (q ∙ ap matrixOf (sym p))) i
+
+-- over the same knots
+pub settled-at : (b : Basis) (p q : List Float) {e : List Float} {y : Float} {h : Bool} → p ≡ q → SettledIs (weightsOf (matrixOf b) p) y e h
+    → SettledIs (weightsOf (matrixOf b) q) y e h
+settled-at b p q {e} {y} {h} r i = subst (λ (cv : List Float). SettledIs (weightsOf (matrixOf b) cv) y e h) r i

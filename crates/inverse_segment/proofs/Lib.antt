@@ -1,5 +1,6 @@
 pub mod Ends
 pub mod Turns
+pub mod Stops
 pub mod Weighting
 pub mod Rules
 pub mod Enclosing

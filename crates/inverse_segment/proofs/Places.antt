@@ -19,6 +19,7 @@ use Rattle.inverse_segment.specs.Round.{Rule, Turn, found, on, turn}
 use Rattle.inverse_segment.specs.Rounds.{Placed, rounds}
 use Rattle.inverse_segment.specs.Segment.{encloses, near, opening, start, entered, Entry, outside, inside, enter}
 use Rattle.inverse_segment.proofs.Ends.{both}
+use Rattle.inverse_segment.proofs.Stops.{rounds-segment}
 use Rattle.inverse_segment.proofs.Rules.{Lawful}
 use Rattle.inverse_segment.proofs.Enclosing.{Numbers, Bracketed, Sound, Fine, midpoint-inside, turn-fine}
 
@@ -42,14 +43,6 @@ module _ (R : Rule) (lawful : Lawful R) (f : Float → Float) (s : ℕ) (y ε : 
   rounds-sound (suc n) i (on st ev) e h =
       rounds-sound n (suc i) (turn R f s y ε rising limit i st ev) (omega arith)
       (turn-fine R lawful f s y ε rising limit numbers base i st ev (omega arith) (h .0) (h .1))
-
-module _ (R : Rule) (f : Float → Float) (s : ℕ) (y ε : Float) (rising : Bool) (limit : ℕ) where
-  segment-of : (n i : ℕ) (t : Turn) → rounds R f s y ε rising limit n i t .segment ≡ s
-  unfolding rounds
-  segment-of zero i (found g x b ev) = refl
-  segment-of zero i (on st ev) = refl
-  segment-of (suc n) i (found g x b ev) = refl
-  segment-of (suc n) i (on st ev) = segment-of n (suc i) (turn R f s y ε rising limit i st ev)
 
 -- ---- the ends
 split-encloses : (p : Bool) (a b c d : Bool) → T (cond p (a && b) (c && d)) → T (cond p a d) × T (cond p b c)
@@ -106,7 +99,7 @@ module _ (R : Rule) (lawful : Lawful R) (f : Float → Float) (s : ℕ) (y ε : 
       (λ far. branch P (near y (f one) ε) (λ k. (record { bracketed = w; inside = one-inside; says = inr (refl, far, k); count = omega arith }, refl))
       (λ _. (
         rounds-sound R lawful f s y ε rising limit numbers (length ev + 2) limit 0 t (omega arith) (w, omega arith),
-        segment-of R f s y ε rising limit limit 0 t,
+        rounds-segment R f s y ε rising limit limit 0 t,
       )))
 
   pub enter-tells : Tells f s y ε limit ev (enter R f s y ε limit ev)

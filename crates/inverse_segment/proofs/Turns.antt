@@ -17,13 +17,12 @@ use Rattle.inverse_segment.specs.declared.Bracket.{Bracket}
 use Rattle.inverse_segment.specs.declared.State.{State}
 use Rattle.inverse_segment.specs.declared.Turned.{Turned}
 use Rattle.inverse_segment.specs.declared.Turned.the-variants.{Done, Next}
-use Rattle.inverse_segment.specs.declared.Place.{Place}
+use Rattle.inverse_segment.specs.declared.Stop.{Stop}
 use Rattle.inverse_segment.specs.Evaluations.{Evaluations}
 use Rattle.inverse_segment.specs.Round.{Weighting, Rule, chord, midpoint, narrow, falsi, weighed, fraction, moved, Turn, found, on, settled, probed, turn}
 use Rattle.inverse_segment.specs.Rounds.{Placed, rounds}
 use Rattle.inverse_segment.specs.Segment.{near, opening, start, entered}
-use Rattle.inverse_segment.specs.Answer.{placeOf, alone}
-use Rattle.inverse_segment.specs.Shown.{shown, toldAt}
+use Rattle.inverse_segment.specs.Shown.{shown, stopAt, stopOf}
 
 -- ---- a round
 module _ (y ε : Float) (rising : Bool) (b : Bracket) (st : State) (x v : Float) (ev : Evaluations) where
@@ -72,77 +71,77 @@ pub regula-is : (limit i : ℕ) (st : State) {regula : Bool} {early : ℕ} → r
 regula-is limit i st e d = e ∙ ap (λ (z : ℕ). ltb i z && ltb (st .repeats) 3) d
 
 -- ---- the rounds
--- what the code tells of them
-abbrev pub Told : Rule → (Float → Float) → ℕ → Float → Float → Bool → ℕ → ℕ → ℕ → Turn → Place
-Told R f s y ε rising limit n i t = placeOf alone (rounds R f s y ε rising limit n i t)
+-- where they stop, as the code has it
+abbrev pub stopAfter : Rule → (Float → Float) → ℕ → Float → Float → Bool → ℕ → ℕ → ℕ → Turn → Stop
+stopAfter R f s y ε rising limit n i t = stopOf (rounds R f s y ε rising limit n i t)
 
--- i rounds have led from the state `first`, after n evaluations, to the state st, after m
-abbrev pub Led : Rule → (Float → Float) → ℕ → Float → Float → Bool → ℕ → State → ℕ → ℕ → State → ℕ → Type 0
-Led R f s y ε rising limit first n i st m =
-    (ev : Evaluations) → length ev ≡ n
-    → (t : Evaluations) × (length t ≡ m) × (Told R f s y ε rising limit limit 0 (on first ev) ≡ Told R f s y ε rising limit (limit - i) i (on st t))
+-- i rounds have led from the state `first`, after n evaluations, to the state st, after m, whatever the segment's number is
+abbrev pub Led : Rule → (Float → Float) → Float → Float → Bool → ℕ → State → ℕ → ℕ → State → ℕ → Type 0
+Led R f y ε rising limit first n i st m =
+    (s : ℕ) (ev : Evaluations) → length ev ≡ n
+    → (t : Evaluations) × (length t ≡ m) × (stopAfter R f s y ε rising limit limit 0 (on first ev) ≡ stopAfter R f s y ε rising limit (limit - i) i (on st t))
 
 next-of : (t : Turn) (st : State) (k : ℕ) → Next st k ≡ shown t → (ev : Evaluations) × (t ≡ on st ev) × (length ev ≡ k)
 next-of (found g x b ev) st k e = never (cc)
 next-of (on st' ev) st k e = let p : st ≡ st' = cc in let q : length ev ≡ k = cc in (ev, (ap (λ (z : State). on z ev) (sym p)), q)
 
-module _ (R : Rule) (f : Float → Float) (s : ℕ) (y ε : Float) (rising : Bool) (limit : ℕ) where
-  stop-of : (n i : ℕ) (t : Turn) {g : Ground} {x : Float} {b : Bracket} {k : ℕ} → Done g x b k ≡ shown t → toldAt s g x b k ≡ Told R f s y ε rising limit n i t
+module _ (R : Rule) (f : Float → Float) (y ε : Float) (rising : Bool) (limit : ℕ) where
+  stop-of : (s n i : ℕ) (t : Turn) {g : Ground} {x : Float} {b : Bracket} {k : ℕ} → Done g x b k ≡ shown t → stopAt g x b k ≡ stopAfter R f s y ε rising limit n i t
   unfolding rounds
-  stop-of zero i (found g' x' b' ev) {g} {x} {b} {k} e = let p : g ≡ g' = cc in let q : x ≡ x' = cc in let r : b ≡ b' = cc in let w : k ≡ length ev = cc
+  stop-of s zero i (found g' x' b' ev) {g} {x} {b} {k} e = let p : g ≡ g' = cc in let q : x ≡ x' = cc in let r : b ≡ b' = cc in let w : k ≡ length ev = cc
       in rw (p, q, r, w)
-  stop-of (suc n) i (found g' x' b' ev) {g} {x} {b} {k} e = let p : g ≡ g' = cc in let q : x ≡ x' = cc in let r : b ≡ b' = cc in let w : k ≡ length ev = cc
+  stop-of s (suc n) i (found g' x' b' ev) {g} {x} {b} {k} e = let p : g ≡ g' = cc in let q : x ≡ x' = cc in let r : b ≡ b' = cc in let w : k ≡ length ev = cc
       in rw (p, q, r, w)
-  stop-of zero i (on st ev) e = never (cc)
-  stop-of (suc n) i (on st ev) e = never (cc)
+  stop-of s zero i (on st ev) e = never (cc)
+  stop-of s (suc n) i (on st ev) e = never (cc)
 
-  open-round : (n i : ℕ) (st : State) (ev : Evaluations)
-      → Told R f s y ε rising limit (suc n) i (on st ev) ≡ Told R f s y ε rising limit n (suc i) (turn R f s y ε rising limit i st ev)
+  open-round : (s n i : ℕ) (st : State) (ev : Evaluations)
+      → stopAfter R f s y ε rising limit (suc n) i (on st ev) ≡ stopAfter R f s y ε rising limit n (suc i) (turn R f s y ε rising limit i st ev)
   unfolding rounds
-  open-round n i st ev = refl
+  open-round s n i st ev = refl
 
-  one-more : (n i : ℕ) (st : State) (ev : Evaluations) → i < limit → n ≡ limit - (i + 1)
-      → Told R f s y ε rising limit (limit - i) i (on st ev) ≡ Told R f s y ε rising limit n (i + 1) (turn R f s y ε rising limit i st ev)
-  one-more n i st ev h e = let q : limit - i ≡ suc n = omega arith in rw (q, add-one) (open-round n i st ev)
+  one-more : (s n i : ℕ) (st : State) (ev : Evaluations) → i < limit → n ≡ limit - (i + 1)
+      → stopAfter R f s y ε rising limit (limit - i) i (on st ev) ≡ stopAfter R f s y ε rising limit n (i + 1) (turn R f s y ε rising limit i st ev)
+  one-more s n i st ev h e = let q : limit - i ≡ suc n = omega arith in rw (q, add-one) (open-round s n i st ev)
 
   module _ (first : State) (n : ℕ) where
-    pub led-start : Led R f s y ε rising limit first n 0 first n
-    led-start ev k = let q : limit ≡ limit - 0 = omega arith in (ev, k, ap (λ (z : ℕ). Told R f s y ε rising limit z 0 (on first ev)) q)
+    pub led-start : Led R f y ε rising limit first n 0 first n
+    led-start s ev k = let q : limit ≡ limit - 0 = omega arith in (ev, k, ap (λ (z : ℕ). stopAfter R f s y ε rising limit z 0 (on first ev)) q)
 
-    pub led-spent : (i m : ℕ) (st : State) {x : Float} → limit ≤ i → x ≡ midpoint (st .bracket) → Led R f s y ε rising limit first n i st m
-        → (ev : Evaluations) → length ev ≡ n → toldAt s Spent x (st .bracket) m ≡ Told R f s y ε rising limit limit 0 (on first ev)
+    pub led-spent : (i m : ℕ) (st : State) {x : Float} → limit ≤ i → x ≡ midpoint (st .bracket) → Led R f y ε rising limit first n i st m
+        → (s : ℕ) (ev : Evaluations) → length ev ≡ n → stopAt Spent x (st .bracket) m ≡ stopAfter R f s y ε rising limit limit 0 (on first ev)
     unfolding rounds
-    led-spent i m st h e l ev k = let r = l ev k in let q : limit - i ≡ 0 = omega arith in rw (r .2, q, e, ← (r .1))
+    led-spent i m st h e l s ev k = let r = l s ev k in let q : limit - i ≡ 0 = omega arith in rw (r .2, q, e, ← (r .1))
 
     -- the round i
-    module _ (i m : ℕ) (st : State) {res : Turned} (h : i < limit) (l : Led R f s y ε rising limit first n i st m)
+    module _ (i m : ℕ) (st : State) {res : Turned} (h : i < limit) (l : Led R f y ε rising limit first n i st m)
         (e : (s : ℕ) (ev : Evaluations) → length ev ≡ m → res ≡ shown (turn R f s y ε rising limit i st ev)) where
-      pub led-on : {st' : State} {m' : ℕ} → res ≡ Next st' m' → Led R f s y ε rising limit first n (i + 1) st' m'
-      led-on {st'} {m'} d ev k =
-          let r = l ev k in
+      pub led-on : {st' : State} {m' : ℕ} → res ≡ Next st' m' → Led R f y ε rising limit first n (i + 1) st' m'
+      led-on {st'} {m'} d s ev k =
+          let r = l s ev k in
           let t = turn R f s y ε rising limit i st (r .0) in
           let q = next-of t st' m' (sym d ∙ e s (r .0) (r .1)) in
-          (q .0, q .2, r .2 ∙ one-more (limit - (i + 1)) i st (r .0) h refl ∙ ap (λ (z : Turn). Told R f s y ε rising limit (limit - (i + 1)) (i + 1) z) (q .1))
+          (q .0, q .2, r .2 ∙ one-more s (limit - (i + 1)) i st (r .0) h refl ∙ ap (λ (z : Turn). stopAfter R f s y ε rising limit (limit - (i + 1)) (i + 1) z) (q .1))
 
       pub led-done : {g : Ground} {x : Float} {b : Bracket} {m' : ℕ} → res ≡ Done g x b m'
-          → (ev : Evaluations) → length ev ≡ n → toldAt s g x b m' ≡ Told R f s y ε rising limit limit 0 (on first ev)
-      led-done d ev k =
-          let r = l ev k in
+          → (s : ℕ) (ev : Evaluations) → length ev ≡ n → stopAt g x b m' ≡ stopAfter R f s y ε rising limit limit 0 (on first ev)
+      led-done d s ev k =
+          let r = l s ev k in
           let t = turn R f s y ε rising limit i st (r .0) in
-          rw (r .2, one-more (limit - (i + 1)) i st (r .0) h refl) (stop-of (limit - (i + 1)) (i + 1) t (sym d ∙ e s (r .0) (r .1)))
+          rw (r .2, one-more s (limit - (i + 1)) i st (r .0) h refl) (stop-of s (limit - (i + 1)) (i + 1) t (sym d ∙ e s (r .0) (r .1)))
 
 -- ---- the segment
 module _ (R : Rule) (f : Float → Float) (s : ℕ) (y ε : Float) (limit n : ℕ) (v0 v1 : Float) (ev : Evaluations) (k : length ev ≡ n) where
-  pub left-edge : true ≡ near y v0 ε → toldAt s Edge nought (opening v0 v1) n ≡ placeOf alone (entered R f s y ε limit v0 v1 ev)
+  pub left-edge : true ≡ near y v0 ε → stopAt Edge nought (opening v0 v1) n ≡ stopOf (entered R f s y ε limit v0 v1 ev)
   unfolding entered
   left-edge p = simp (← p, k)
 
   module _ (p : false ≡ near y v0 ε) where
-    pub right-edge : true ≡ near y v1 ε → toldAt s Edge one (opening v0 v1) n ≡ placeOf alone (entered R f s y ε limit v0 v1 ev)
+    pub right-edge : true ≡ near y v1 ε → stopAt Edge one (opening v0 v1) n ≡ stopOf (entered R f s y ε limit v0 v1 ev)
     unfolding entered
     right-edge q = simp (← p, ← q, k)
 
-    pub by-rounds : (r : Place) → false ≡ near y v1 ε → r ≡ placeOf alone (rounds R f s y ε (lt v0 v1) limit limit 0 (on (start (opening v0 v1)) ev))
-        → r ≡ placeOf alone (entered R f s y ε limit v0 v1 ev)
+    pub by-rounds : (r : Stop) → false ≡ near y v1 ε → r ≡ stopOf (rounds R f s y ε (lt v0 v1) limit limit 0 (on (start (opening v0 v1)) ev))
+        → r ≡ stopOf (entered R f s y ε limit v0 v1 ev)
     unfolding entered
     by-rounds r q u = simp (← p, ← q) u

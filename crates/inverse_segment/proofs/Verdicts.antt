@@ -2,11 +2,10 @@
 use mathlib.Core.Path.{_≡_, refl, sym, ap, _∙_, subst}
 use mathlib.Core.Bool.{Bool, true, false}
 use mathlib.Core.List.{List, [], _∷_}
-use Prim.Native.Nat.{ℕ, _≤_}
-use native.Mathlib.Nat.{zero-mul}
+use Prim.Native.Nat.{ℕ, _+_, _*_, _≤_}
 use native.Mathlib.Omega.{arith}
 use borrow.Author.Tests.{ltb-false, eqb-false, not-false}
-use lib.ListN.{length, drop, getD}
+use lib.ListN.{length, getD}
 use lib.Ieee.{Float, nan, isNan}
 use Rattle.error.specs.declared.Refusal.{Refusal}
 use Rattle.error.specs.declared.Verdict.{Verdict}
@@ -14,20 +13,22 @@ use Rattle.error.specs.declared.Verdict.the-variants.{Passed, Failed}
 use Rattle.error.specs.Refusals.{Uses, first}
 use Rattle.error.proofs.First.{stops-in, goes-past, stops, goes-on, clear}
 use Rattle.basis.specs.declared.Basis.{Basis}
-use Rattle.basis.specs.Basis.{stepOf, matrixOf}
+use Rattle.basis.specs.Basis.{stepOf}
 use Rattle.doubles.specs.Numbers.{nought, one}
 use Rattle.spline.specs.declared.Weights.{Weights}
-use Rattle.spline.specs.Segment.{weightsOf, hornerOf}
+use Rattle.spline.specs.Segment.{hornerOf, segmentOf}
 use Rattle.checks.specs.Checks.{segmentLength, allInRange, badKnot, precise, asked}
 use Rattle.checks.proofs.Verdicts.{askedRows, lastRows}
 use Rattle.inverse_segment.specs.declared.Inverted.{Inverted}
 use Rattle.inverse_segment.specs.declared.Inverted.the-variants.{Refused, OffCurve as OffSegment, At}
 use Rattle.inverse_segment.specs.Evaluations.{Evaluations}
 use Rattle.inverse_segment.specs.declared.Place.{Place}
+use Rattle.inverse_segment.specs.declared.Stop.{Stop}
 use Rattle.inverse_segment.specs.Round.{Rule}
 use Rattle.inverse_segment.specs.Segment.{Outcome, off, placed, encloses, entered, enter, outcomeOf}
-use Rattle.inverse_segment.specs.Shown.{keptOf, SettledIs}
+use Rattle.inverse_segment.specs.Shown.{stopOf, placeAt, sumsOf, weightsAt, TestedIs}
 use Rattle.inverse_segment.proofs.Ends.{both}
+use Rattle.inverse_segment.proofs.Stops.{entered-segment, place-at, stop-kept}
 use Rattle.inverse_segment.specs.Answer.{placeOf, answered, alone, inverted, inverseSegmentUses, inverseSegmentBy}
 
 -- ---- the call's rows, in the order of its tests
@@ -84,36 +85,37 @@ refused-by (Failed q) a r p e = let s : q ≡ r = cc in ap Failed s
 
 -- ---- what the call answers, by the rule R
 module _ (R : Rule) (b : Basis) (y : Float) (cv : List Float) (limit : ℕ) (ε : Float) {v : Verdict} (e : v ≡ first (inverseSegmentUses y cv limit ε)) where
-  pub four-for : v ≡ Passed → 4 ≤ length cv
-  four-for p = omega (arith, passes y cv limit ε (sym e ∙ p) .four)
+  pub fits-for : v ≡ Passed → (0 * stepOf b + 4 ≤ length cv) × (length cv ≤ 4096)
+  fits-for p = let q = passes y cv limit ε (sym e ∙ p) .four in (omega (arith, q), omega (arith, q))
 
   pub refused-is : {r : Refusal} → v ≡ Failed r → Refused r ≡ inverseSegmentBy R b y cv limit ε
   unfolding inverseSegmentBy
   refused-is d = rw (← e, d)
 
-  -- its trial, over the row sums
-  told : v ≡ Passed → (w : Weights) → w ≡ weightsOf (matrixOf b) cv
-      → answered alone (outcomeOf (enter R (hornerOf w) 0 y ε limit [])) ≡ inverseSegmentBy R b y cv limit ε
+  -- its trial
+  told : v ≡ Passed → answered alone (outcomeOf (enter R (segmentOf b cv 0) 0 y ε limit [])) ≡ inverseSegmentBy R b y cv limit ε
   unfolding inverseSegmentBy
-  told d w e-w =
-      let told : Weights → Inverted = λ z. answered alone (outcomeOf (enter R (hornerOf z) 0 y ε limit [])) in
-      rw (← e, d) (ap told e-w ∙ sym (ap (λ (n : ℕ). told (weightsOf (matrixOf b) (drop n cv))) (zero-mul (stepOf b))))
+  told d = rw (← e, d)
 
   -- by whether its two ends, which are kept, enclose the target
-  module _ (d : v ≡ Passed) (w : Weights) (e-w : w ≡ weightsOf (matrixOf b) cv) {k : List Float} {h : Bool} (s : SettledIs w y k h) where
-    pub place-is : {p : Place} → h ≡ true
-        → ((ev : Evaluations) → length ev ≡ 2 → p ≡ placeOf alone (entered R (hornerOf w) 0 y ε limit (getD k 4 nan) (getD k 5 nan) ev))
-        → At p ≡ inverseSegmentBy R b y cv limit ε
+  module _ (d : v ≡ Passed) {k : List Float} {h : Bool} (t : TestedIs b cv 0 y k h) where
+    abbrev f : Float → Float
+    f = segmentOf b cv 0
+
+    pub place-is : {w : Weights} {a : Stop} {p : Place} → h ≡ true → w ≡ sumsOf k
+        → ((s : ℕ) (ev : Evaluations) → length ev ≡ 2 → a ≡ stopOf (entered R (hornerOf w) s y ε limit (getD k 4 nan) (getD k 5 nan) ev))
+        → p ≡ placeAt (a .local) 0 a → At p ≡ inverseSegmentBy R b y cv limit ε
     unfolding enter
-    place-is {p} i u =
-        let held : encloses (hornerOf w nought) (hornerOf w one) y ≡ true = sym (s .holds-is) ∙ i in
-        let at : List Float → Inverted = λ z. At (placeOf alone (entered R (hornerOf w) 0 y ε limit (getD z 4 nan) (getD z 5 nan) (both 0 []))) in
-        let tried : at (keptOf w) ≡ answered alone (outcomeOf (enter R (hornerOf w) 0 y ε limit [])) = simp held in
-        ap At (u (both 0 []) refl) ∙ ap at (s .kept-is) ∙ tried ∙ told d w e-w
+    place-is {w} {a} i q u z =
+        let held : encloses (f nought) (f one) y ≡ true = sym (t .holds-is) ∙ i in
+        let o = entered R f 0 y ε limit (f nought) (f one) (both 0 []) in
+        let stop : a ≡ stopOf o = u 0 (both 0 []) refl ∙ stop-kept R 0 y ε limit (both 0 []) w (weightsAt b cv 0) k q (t .kept-is) in
+        let tried : At (placeOf alone o) ≡ answered alone (outcomeOf (enter R f 0 y ε limit [])) = simp held in
+        ap At (z ∙ place-at alone o (entered-segment R f 0 y ε limit (f nought) (f one) (both 0 [])) stop refl) ∙ tried ∙ told d
 
     pub off-is : h ≡ false → OffSegment 2 ≡ inverseSegmentBy R b y cv limit ε
     unfolding enter
     off-is i =
-        let held : encloses (hornerOf w nought) (hornerOf w one) y ≡ false = sym (s .holds-is) ∙ i in
-        let tried : OffSegment 2 ≡ answered alone (outcomeOf (enter R (hornerOf w) 0 y ε limit [])) = simp held in
-        tried ∙ told d w e-w
+        let held : encloses (f nought) (f one) y ≡ false = sym (t .holds-is) ∙ i in
+        let tried : OffSegment 2 ≡ answered alone (outcomeOf (enter R f 0 y ε limit [])) = simp held in
+        tried ∙ told d

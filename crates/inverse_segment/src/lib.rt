@@ -1,8 +1,12 @@
 // What an inversion of one segment is made of: its two ends, and the rounds as the crate makes them. Rust: `invert` of src/lib.rs.
 ghost use mathlib.Core.Path.{_≡_};
-ghost use Prim.Native.Nat.{_≤_, _<_, _+_};
+ghost use Prim.Native.Nat.{_≤_, _<_, _+_, _*_};
+ghost use lib.ListN.{length};
+ghost use Rattle.basis.specs.Basis.{stepOf, matrixOf};
+ghost use Rattle.spline.specs.Segment.{weightsOf};
 ghost use Rattle.inverse_segment.specs.Segment.{encloses, near};
-ghost use Rattle.inverse_segment.specs.Shown.{toldAt, SettledIs, RoundsIs, EnteredIs};
+ghost use Rattle.inverse_segment.specs.Shown.{stopAt, placeAt, sumsOf, SettledIs, TestedIs, RoundsIs, EnteredIs};
+use basis::Basis;
 use error::Refusal;
 use spline::Weights;
 
@@ -47,7 +51,16 @@ pub enum Turned {
     Next(State, u32),
 }
 
-// Where the target was found, why the inversion stopped there, the bracket after its last move, and the evaluations counted.
+// Where an inversion stopped in the segment that it entered, and why, the bracket after its last move, and the evaluations counted.
+pub struct Stop {
+    pub ground: Ground,
+    pub local: f64,
+    pub lower: f64,
+    pub upper: f64,
+    pub count: u32,
+}
+
+// Where the target was found: the stop, with the segment's number and the parameter.
 pub struct Place {
     pub parameter: f64,
     pub ground: Ground,
@@ -65,14 +78,11 @@ pub enum Inverted {
     At(Place),
 }
 
-// A place in segment s. Its parameter is the local place, as for one segment alone; of a curve, the caller puts its own there.
-pub fn told_at(s: usize, ground: Ground, x: f64, b: Bracket, n: u32) -> Place
-    ensures { λ r. ⌜ r ≡ toldAt s ground x b n ⌝ }
+pub fn stopped(ground: Ground, x: f64, b: Bracket, n: u32) -> Stop
+    ensures { λ r. ⌜ r ≡ stopAt ground x b n ⌝ }
 {
-    Place {
-        parameter: x,
+    Stop {
         ground: ground,
-        segment: s,
         local: x,
         lower: b.lower,
         upper: b.upper,
@@ -80,20 +90,35 @@ pub fn told_at(s: usize, ground: Ground, x: f64, b: Bracket, n: u32) -> Place
     }
 }
 
+// The parameter is the caller's to find: on a curve it goes by all the segments, on one segment it is the local place.
+pub fn place_of(parameter: f64, s: usize, e: Stop) -> Place
+    ensures { λ r. ⌜ r ≡ placeAt parameter s e ⌝ }
+{
+    let ground = e.ground;
+    Place {
+        parameter: parameter,
+        ground: ground,
+        segment: s,
+        local: e.local,
+        lower: e.lower,
+        upper: e.upper,
+        count: e.count,
+    }
+}
+
 // The rounds by either weighting, from the bracket that is given; n evaluations have been made before them.
 fn rounds(
     m: Weighing,
     w: Weights,
-    s: usize,
     y: f64,
     precision: f64,
     rising: bool,
     first: Bracket,
     limit: u16,
     n: u32,
-) -> Place
+) -> Stop
     requires { ⌜ n ≤ 1000000 ⌝ }
-    ensures { λ r. ⌜ RoundsIs m w s y precision rising first limit n r ⌝ }
+    ensures { λ r. ⌜ RoundsIs m w y precision rising first limit n r ⌝ }
 {
     let most = limit as u32;
     let early = 3 * most / 4;
@@ -113,14 +138,13 @@ fn rounds(
                 count = k;
             }
             Turned::Done(ground, x, b, k) => {
-                return told_at(s, ground, x, b, k);
+                return stopped(ground, x, b, k);
             }
         }
         i += 1;
     }
     let b = st.bracket;
-    told_at(
-        s,
+    stopped(
         Ground::Spent,
         doubles::lerp(b.lower, b.upper, 0.5),
         b,
@@ -139,7 +163,7 @@ pub fn encloses(v0: f64, v1: f64, y: f64) -> bool
 }
 
 // Both ends of the segment with these row sums are evaluated, once, and kept behind them: do they enclose y?
-pub fn settle(w: Weights, y: f64, ends: &mut [f64; 6]) -> bool
+fn settle(w: Weights, y: f64, ends: &mut [f64; 6]) -> bool
     ensures { λ r. ⌜ SettledIs w y (now (ends .exit)) r ⌝ }
 {
     let v0 = spline::segment::horner(w, 0.0);
@@ -148,26 +172,85 @@ pub fn settle(w: Weights, y: f64, ends: &mut [f64; 6]) -> bool
     encloses(v0, v1, y)
 }
 
+// A match on the basis, so that each matrix is known where it is used, and no row sum is computed through memory.
+fn settle_by(b: Basis, cv: &[f64], y: f64, ends: &mut [f64; 6]) -> bool
+    requires { ⌜ 4 ≤ length (now cv) ⌝ }
+    ensures { λ r. ⌜ SettledIs (weightsOf (matrixOf b) (now (cv .entry))) y (now (ends .exit)) r ⌝ }
+{
+    match b {
+        Basis::Bspline => settle(
+            spline::segment::sums(basis::basis_macros::bspline(), cv),
+            y,
+            ends,
+        ),
+        Basis::Bezier => settle(
+            spline::segment::sums(basis::basis_macros::bezier(), cv),
+            y,
+            ends,
+        ),
+        Basis::CatmullRom => settle(
+            spline::segment::sums(basis::basis_macros::catmull_rom(), cv),
+            y,
+            ends,
+        ),
+        Basis::Hermite => settle(
+            spline::segment::sums(basis::basis_macros::hermite(), cv),
+            y,
+            ends,
+        ),
+        Basis::Linear => settle(
+            spline::segment::sums(basis::basis_macros::linear(), cv),
+            y,
+            ends,
+        ),
+        Basis::Power => settle(
+            spline::segment::sums(basis::basis_macros::power(), cv),
+            y,
+            ends,
+        ),
+    }
+}
+
+// Segment s is tried: both its ends are evaluated, and kept behind its row sums.
+pub fn probe(b: Basis, knots: &[f64], s: usize, y: f64, ends: &mut [f64; 6]) -> bool
+    requires { ⌜ (s * stepOf b + 4 ≤ length (now knots)) × (length (now knots) ≤ 4096) ⌝ }
+    ensures { λ r. ⌜ TestedIs b (now (knots .entry)) s y (now (ends .exit)) r ⌝ }
+{
+    let start = s * basis::step(b);
+    settle_by(b, &knots[start..], y, ends)
+}
+
+// The row sums, read back from what is kept of a segment.
+pub fn kept_sums(ends: &[f64; 6]) -> Weights
+    ensures { λ r. ⌜ r ≡ sumsOf (now (ends .entry)) ⌝ }
+{
+    Weights {
+        w0: ends[0],
+        w1: ends[1],
+        w2: ends[2],
+        w3: ends[3],
+    }
+}
+
 pub fn is_near(y: f64, v: f64, precision: f64) -> bool
     ensures { λ r. ⌜ r ≡ near y v precision ⌝ }
 {
     doubles::magnitude(y - v) < 2.0 * precision
 }
 
-// The place in segment s, whose end values v0 and v1 enclose y; n evaluations have been made, those of its ends among them.
+// A segment whose end values v0 and v1 enclose y is entered; n evaluations have been made, those of its ends among them.
 pub fn entered(
     m: Weighing,
     w: Weights,
-    s: usize,
     y: f64,
     precision: f64,
     limit: u16,
     v0: f64,
     v1: f64,
     n: u32,
-) -> Place
+) -> Stop
     requires { ⌜ n ≤ 1000000 ⌝ }
-    ensures { λ r. ⌜ EnteredIs m w s y precision limit v0 v1 n r ⌝ }
+    ensures { λ r. ⌜ EnteredIs m w y precision limit v0 v1 n r ⌝ }
 {
     let whole = Bracket {
         lower: 0.0,
@@ -176,10 +259,10 @@ pub fn entered(
         v1: v1,
     };
     if is_near(y, v0, precision) {
-        return told_at(s, Ground::Edge, 0.0, whole, n);
+        return stopped(Ground::Edge, 0.0, whole, n);
     }
     if is_near(y, v1, precision) {
-        return told_at(s, Ground::Edge, 1.0, whole, n);
+        return stopped(Ground::Edge, 1.0, whole, n);
     }
-    rounds(m, w, s, y, precision, v0 < v1, whole, limit, n)
+    rounds(m, w, y, precision, v0 < v1, whole, limit, n)
 }

@@ -19,7 +19,7 @@ entered-requires c κs = search needs
 returns : tie.Need-returns
 returns c =
     let a = c .before .before .before .before .args in
-    by-pace (a .w) (a .s) (a .y) (a .precision) (a .limit) (a .v0) (a .v1) (a .n) (a .how) (c .before .before .before .method-rounds .ensures)
+    by-pace (a .w) (a .y) (a .precision) (a .limit) (a .v0) (a .v1) (a .n) (a .how) (c .before .before .before .method-rounds .ensures)
     (c .before .enum-told .given .1) (c .entered .ensures)
 
 entered-requires-2 : tie.Need-entered-requires-2
@@ -28,7 +28,7 @@ entered-requires-2 c κs = search needs
 returns-2 : tie.Need-returns-2
 returns-2 c =
     let a = c .before .before .before .before .before .args in
-    by-weighing (a .w) (a .s) (a .y) (a .precision) (a .limit) (a .v0) (a .v1) (a .n) (a .how) _ (c .before .before .before .before .method-rounds .ensures)
+    by-weighing (a .w) (a .y) (a .precision) (a .limit) (a .v0) (a .v1) (a .n) (a .how) _ (c .before .before .before .before .method-rounds .ensures)
     (c .before .before .r .given .1) (c .entered2 .ensures)
 
 pub entered-by-spec : {M : Type 1} → statement M

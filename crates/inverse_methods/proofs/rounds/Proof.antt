@@ -14,12 +14,12 @@ use Rattle.inverse_methods.proofs.rounds.Statement.{statement}
 use Rattle.inverse_methods.proofs.rounds.Tie as tie
 
 abbrev Inv-loop : tie.InvT-loop
-Inv-loop w s y precision rising limit n most st₀ width₀ i₀ count₀ st width i count =
+Inv-loop w y precision rising limit n most st₀ width₀ i₀ count₀ st width i count =
     (most ≡ limit) × (i ≤ limit) × (st .repeats ≤ i) × (count ≤ n + i) × (width ≡ allowed i)
-    × Led steady (hornerOf w) s y precision rising limit st₀ n i st count
+    × Led steady (hornerOf w) y precision rising limit st₀ n i st count
 
 abbrev μ-loop : tie.MeasureT-loop
-μ-loop w s y precision rising limit n most st₀ width₀ i₀ count₀ st width i count = limit - i
+μ-loop w y precision rising limit n most st₀ width₀ i₀ count₀ st width i count = limit - i
 
 loop-holds : tie.Need-loop-holds Inv-loop μ-loop
 unfolding ofBits
@@ -29,7 +29,7 @@ loop-holds c = (
   omega arith,
   omega arith,
   first-width,
-  led-start steady (hornerOf (c .args .w)) (c .args .s) (c .args .y) (c .args .precision) (c .args .rising) (c .args .limit) (start (c .args .first))
+  led-start steady (hornerOf (c .args .w)) (c .args .y) (c .args .precision) (c .args .rising) (c .args .limit) (start (c .args .first))
       (c .args .n),
 )
 
@@ -42,14 +42,13 @@ enum-known-t c = search needs
 enum-known-t-2 : tie.Need-enum-known-t-2 Inv-loop μ-loop
 enum-known-t-2 c = search needs
 
-told-at-requires : tie.Need-told-at-requires Inv-loop μ-loop
-told-at-requires c κs = search needs
+stopped-requires : tie.Need-stopped-requires Inv-loop μ-loop
+stopped-requires c κs = search needs
 
 returns : tie.Need-returns Inv-loop μ-loop
 returns c =
-    λ ev k. c .told-at .ensures
-    ∙ led-done steady (hornerOf (c .before .before .before .before .before .before .before .args .w))
-    (c .before .before .before .before .before .before .before .args .s) (c .before .before .before .before .before .before .before .args .y)
+    λ s ev k. c .stopped .ensures
+    ∙ led-done steady (hornerOf (c .before .before .before .before .before .before .before .args .w)) (c .before .before .before .before .before .before .before .args .y)
     (c .before .before .before .before .before .before .before .args .precision)
     (c .before .before .before .before .before .before .before .args .rising)
     (c .before .before .before .before .before .before .before .args .limit)
@@ -63,7 +62,7 @@ returns c =
     (c .before .before .before .before .before .before .before .args .limit)
     (c .before .before .before .before .before .before .loop .i)
     (c .before .before .before .before .before .before .loop .inv .4))
-    (c .before .before .t2 .given .1) ev k
+    (c .before .before .t2 .given .1) s ev k
 
 add-i : tie.Need-add-i Inv-loop μ-loop
 add-i c = omega arith
@@ -83,8 +82,7 @@ loop-again c =
       omega (arith, rw (c .before .t .given .1) at g),
       omega (arith, rw (c .before .t .given .1) at h),
       next-width (c .before .before .before .before .before .loop .i) (c .before .before .before .before .before .loop .inv .4),
-      led-on steady (hornerOf (c .before .before .before .before .before .before .args .w))
-          (c .before .before .before .before .before .before .args .s) (c .before .before .before .before .before .before .args .y)
+      led-on steady (hornerOf (c .before .before .before .before .before .before .args .w)) (c .before .before .before .before .before .before .args .y)
           (c .before .before .before .before .before .before .args .precision) (c .before .before .before .before .before .before .args .rising)
           (c .before .before .before .before .before .before .args .limit)
           (start (c .before .before .before .before .before .before .args .first))
@@ -99,20 +97,20 @@ loop-again c =
 lerp-requires : tie.Need-lerp-requires Inv-loop μ-loop
 lerp-requires c κs = search needs
 
-told-at-requires-2 : tie.Need-told-at-requires-2 Inv-loop μ-loop
-told-at-requires-2 c κs = search needs
+stopped-requires-2 : tie.Need-stopped-requires-2 Inv-loop μ-loop
+stopped-requires-2 c κs = search needs
 
 returns-2 : tie.Need-returns-2 Inv-loop μ-loop
 unfolding ofBits
 returns-2 c =
-    λ ev k. c .told-at2 .ensures
-    ∙ led-spent steady (hornerOf (c .before .before .before .before .before .args .w)) (c .before .before .before .before .before .args .s)
+    λ s ev k. c .stopped2 .ensures
+    ∙ led-spent steady (hornerOf (c .before .before .before .before .before .args .w))
     (c .before .before .before .before .before .args .y) (c .before .before .before .before .before .args .precision)
     (c .before .before .before .before .before .args .rising) (c .before .before .before .before .before .args .limit)
     (start (c .before .before .before .before .before .args .first)) (c .before .before .before .before .before .args .n)
     (c .before .before .before .before .loop .i) (c .before .before .before .before .loop .count)
     (c .before .before .before .before .loop .st) (omega arith) (c .before .lerp .ensures)
-    (c .before .before .before .before .loop .inv .5) ev k
+    (c .before .before .before .before .loop .inv .5) s ev k
 
 pub rounds-spec : {M : Type 1} → statement M
 rounds-spec =
@@ -124,11 +122,11 @@ rounds-spec =
     turn-requires
     enum-known-t
     enum-known-t-2
-    told-at-requires
+    stopped-requires
     returns
     add-i
     loop-less
     loop-again
     lerp-requires
-    told-at-requires-2
+    stopped-requires-2
     returns-2)

@@ -1,8 +1,8 @@
 -- A case for each basis: its matrix is the definition's, and the rest is the callee's contract.
-use Rattle.inverse_search.proofs.Calls.{settled-by}
+use Rattle.inverse_segment.proofs.Ends.{settled-by}
 use borrow.Author.Needs.{needs}
-use Rattle.inverse_search.proofs.settle_by.Statement.{statement}
-use Rattle.inverse_search.proofs.settle_by.Tie as tie
+use Rattle.inverse_segment.proofs.settle_by.Statement.{statement}
+use Rattle.inverse_segment.proofs.settle_by.Tie as tie
 
 returns : tie.Need-returns
 returns c =

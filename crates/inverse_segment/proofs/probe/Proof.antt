@@ -3,10 +3,10 @@ use mathlib.Core.Path.{ap, _∙_}
 use Prim.Native.Nat.{ℕ, _*_}
 use lib.ListN.{drop}
 use Rattle.spline.proofs.Parts.{rest}
-use Rattle.inverse_search.proofs.Calls.{settled-at}
+use Rattle.inverse_segment.proofs.Ends.{settled-at}
 use borrow.Author.Needs.{needs}
-use Rattle.inverse_search.proofs.probe.Statement.{statement}
-use Rattle.inverse_search.proofs.probe.Tie as tie
+use Rattle.inverse_segment.proofs.probe.Statement.{statement}
+use Rattle.inverse_segment.proofs.probe.Tie as tie
 
 step-requires : tie.Need-step-requires
 step-requires c κs = search needs
