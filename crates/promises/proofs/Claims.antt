@@ -44,10 +44,10 @@ use Rattle.lines_answer.specs.Answer.{on}
 use Rattle.lines_machine.specs.Program.{Line}
 use Rattle.claims.specs.declared.Said.the-variants.{Claim}
 use Rattle.claims.specs.Claims.{says, claimText, checkText, tellsOf, claimsProgram}
-use Rattle.simmerstoat.specs.declared.Chosen.{Chosen}
-use Rattle.simmerstoat.specs.declared.Chosen.the-variants.{Known, Unknown}
-use Rattle.simmerstoat.specs.Replies.{chosenOf, noBasis, chosen}
-use Rattle.simmerstoat.specs.Claims.{claimedReply, holdsLeft}
+use Rattle.exports_reply.specs.declared.Chosen.{Chosen}
+use Rattle.exports_reply.specs.declared.Chosen.the-variants.{Known, Unknown}
+use Rattle.exports_reply.specs.Replies.{chosenOf, noBasis, chosen}
+use Rattle.exports_value.specs.Claims.{claimedReply, holdsLeft}
 use Rattle.simmerstoat.proofs.claims.simmerstoat_check_claim.Reads as c_check_claim
 use Rattle.promises.specs.Calls.{AsksNothing, Keeps, OneReply, Exactly}
 use Rattle.promises.proofs.Orders.{Ordered}

@@ -15,9 +15,9 @@ use Rattle.inverse_segment.specs.Answer.{inverseSegmentOf, defaultLimit, defaul
 use Rattle.inverse.specs.Inverse.{inverseOf}
 use Rattle.convert.specs.Conversion.{Conversion, gives, refuses, convertedOf, convertedSegmentOf}
 use Rattle.convert.specs.Buffer.{answerOf, bufferOf}
-use Rattle.simmerstoat.specs.declared.Chosen.{Chosen}
-use Rattle.simmerstoat.specs.declared.Chosen.the-variants.{Known, Unknown}
-use Rattle.simmerstoat.specs.Replies.{chosenOf, noBasis, chosen, evaluatedReply, valueLeft, invertedReply, placeLeft, wholeLeft, convertedReply, lengthLeft}
+use Rattle.exports_reply.specs.declared.Chosen.{Chosen}
+use Rattle.exports_reply.specs.declared.Chosen.the-variants.{Known, Unknown}
+use Rattle.exports_reply.specs.Replies.{chosenOf, noBasis, chosen, evaluatedReply, valueLeft, invertedReply, placeLeft, wholeLeft, convertedReply, lengthLeft}
 use Rattle.simmerstoat.proofs.simmerstoat_is_len_ok.Reads as is_len_ok
 use Rattle.simmerstoat.proofs.simmerstoat_spline.Reads as spline
 use Rattle.simmerstoat.proofs.simmerstoat_spline_segment.Reads as spline_segment

@@ -13,12 +13,12 @@ use Rattle.inverse_methods.specs.declared.Method.{Method}
 use Rattle.inverse_methods.specs.Method.{ruleOf}
 use Rattle.inverse.specs.declared.EndsBy.{EndsBy}
 use Rattle.inverse.specs.Inverse.{inverseBy}
-use Rattle.simmerstoat.specs.declared.Chosen.{Chosen}
-use Rattle.simmerstoat.specs.declared.Chosen.the-variants.{Known, Unknown}
-use Rattle.simmerstoat.specs.declared.options.Way.{Way}
-use Rattle.simmerstoat.specs.declared.options.Way.the-variants as W
-use Rattle.simmerstoat.specs.Replies.{chosenOf, noBasis, chosen, invertedReply, placeLeft, wholeLeft}
-use Rattle.simmerstoat.specs.Options.{wayOf, way}
+use Rattle.exports_reply.specs.declared.Chosen.{Chosen}
+use Rattle.exports_reply.specs.declared.Chosen.the-variants.{Known, Unknown}
+use Rattle.exports_reply.specs.declared.options.Way.{Way}
+use Rattle.exports_reply.specs.declared.options.Way.the-variants as W
+use Rattle.exports_reply.specs.Replies.{chosenOf, noBasis, chosen, invertedReply, placeLeft, wholeLeft}
+use Rattle.exports_reply.specs.Options.{wayOf, way}
 use Rattle.simmerstoat.proofs.options.simmerstoat_spline_inverse_by.Reads as spline_inverse_by
 use Rattle.simmerstoat.proofs.options.simmerstoat_spline_inverse_segment_by.Reads as spline_inverse_segment_by
 use Rattle.promises.specs.Calls.{AsksNothing, Keeps, OneReply}

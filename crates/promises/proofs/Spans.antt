@@ -21,13 +21,13 @@ use Rattle.table.specs.declared.Timed.the-variants as T
 use Rattle.table.specs.declared.Handed.{Handed}
 use Rattle.table.specs.declared.Handed.the-variants as H
 use Rattle.table.specs.Calls.{tableSplineOf, tableInverseBy, tableConvertedOf, tableStrictOf, handedOf}
-use Rattle.simmerstoat.specs.declared.Chosen.{Chosen}
-use Rattle.simmerstoat.specs.declared.Chosen.the-variants.{Known, Unknown}
-use Rattle.simmerstoat.specs.declared.options.Way.{Way}
-use Rattle.simmerstoat.specs.declared.options.Way.the-variants as W
-use Rattle.simmerstoat.specs.Replies.{chosenOf, noBasis, chosen, evaluatedReply, valueLeft}
-use Rattle.simmerstoat.specs.Options.{wayOf, way}
-use Rattle.simmerstoat.specs.Tables.{tableOf, timedReply, timedPlace, timedWhole, handedReply, handedSpan, handedLength}
+use Rattle.exports_reply.specs.declared.Chosen.{Chosen}
+use Rattle.exports_reply.specs.declared.Chosen.the-variants.{Known, Unknown}
+use Rattle.exports_reply.specs.declared.options.Way.{Way}
+use Rattle.exports_reply.specs.declared.options.Way.the-variants as W
+use Rattle.exports_reply.specs.Replies.{chosenOf, noBasis, chosen, evaluatedReply, valueLeft}
+use Rattle.exports_reply.specs.Options.{wayOf, way}
+use Rattle.exports_table.specs.Tables.{tableOf, timedReply, timedPlace, timedWhole, handedReply, handedSpan, handedLength}
 use Rattle.simmerstoat.proofs.spans.simmerstoat_table_spline.Reads as table_spline
 use Rattle.simmerstoat.proofs.spans.simmerstoat_table_spline_inverse.Reads as table_spline_inverse
 use Rattle.simmerstoat.proofs.spans.simmerstoat_table_spline_inverse_by.Reads as table_spline_inverse_by

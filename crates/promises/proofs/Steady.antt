@@ -47,9 +47,9 @@ use Rattle.table.specs.Calls.{verdictOf, timedOf, tableInverseBy, tableSteadyOf
 use Rattle.table.proofs.Spans.{inverse-base}
 use Rattle.table.proofs.Largest.{Largest}
 use Rattle.table.proofs.table_spline_inverse_steady.Reads as table_spline_inverse_steady
-use Rattle.simmerstoat.specs.declared.options.Way.the-variants as W
-use Rattle.simmerstoat.specs.Replies.{chosenOf}
-use Rattle.simmerstoat.specs.Tables.{tableOf}
+use Rattle.exports_reply.specs.declared.options.Way.the-variants as W
+use Rattle.exports_reply.specs.Replies.{chosenOf}
+use Rattle.exports_table.specs.Tables.{tableOf}
 use Rattle.simmerstoat.proofs.steady.simmerstoat_spline_inverse_steady.Reads as c_spline_inverse_steady
 use Rattle.simmerstoat.proofs.steady.simmerstoat_spline_inverse_segment_steady.Reads as c_spline_inverse_segment_steady
 use Rattle.simmerstoat.proofs.steady.simmerstoat_table_spline_inverse_steady.Reads as c_table_spline_inverse_steady

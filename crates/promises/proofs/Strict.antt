@@ -26,7 +26,7 @@ use Rattle.convert_strict.specs.Seams.{isApart}
 use Rattle.convert_strict.specs.Strict.{strictUses, strictOf}
 use Rattle.convert_strict.proofs.Call.{SeamLost, strict-refuses, refused-by, strict-is-plain, lost-only, lost-where, power-keeps, kept-within}
 use Rattle.convert_strict.proofs.convert_spline_strict.Reads as convert_spline_strict
-use Rattle.simmerstoat.specs.Replies.{chosenOf}
+use Rattle.exports_reply.specs.Replies.{chosenOf}
 use Rattle.simmerstoat.proofs.seams.simmerstoat_convert_spline_strict.Reads as c_convert_spline_strict
 use Rattle.promises.proofs.Orders.{Ordered}
 use Rattle.promises.proofs.Exports.{NotZero, out-kept, length-kept}

@@ -40,10 +40,10 @@ use Rattle.uneven.proofs.Call.{
   found-count,
 }
 use Rattle.uneven.proofs.depth_at.Reads as depth_at
-use Rattle.simmerstoat.specs.declared.Chosen.{Chosen}
-use Rattle.simmerstoat.specs.declared.Chosen.the-variants.{Known, Unknown}
-use Rattle.simmerstoat.specs.Replies.{chosenOf, noBasis, chosen}
-use Rattle.simmerstoat.specs.Uneven.{soundedReply, depthLeft, depthPlaceLeft, depthWholeLeft}
+use Rattle.exports_reply.specs.declared.Chosen.{Chosen}
+use Rattle.exports_reply.specs.declared.Chosen.the-variants.{Known, Unknown}
+use Rattle.exports_reply.specs.Replies.{chosenOf, noBasis, chosen}
+use Rattle.exports_value.specs.Uneven.{soundedReply, depthLeft, depthPlaceLeft, depthWholeLeft}
 use Rattle.simmerstoat.proofs.hours.simmerstoat_depth_at.Reads as c_depth_at
 use Rattle.promises.specs.Calls.{AsksNothing, Keeps, OneReply, Exactly}
 use Rattle.promises.proofs.Orders.{Ordered}

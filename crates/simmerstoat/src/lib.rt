@@ -9,26 +9,18 @@ ghost use Rattle.inverse_segment.specs.Answer.{inverseSegmentOf, defaultLimit, 
 ghost use Rattle.inverse.specs.Inverse.{inverseOf};
 ghost use Rattle.convert.specs.Conversion.{convertedOf, convertedSegmentOf};
 ghost use Rattle.convert.specs.Buffer.{answerOf, bufferOf};
-ghost use Rattle.simmerstoat.specs.Replies.{
+ghost use Rattle.exports_reply.specs.Replies.{
   chosenOf,
   noBasis,
   chosen,
   evaluatedReply,
   valueLeft,
-  groundNumber,
   invertedReply,
   placeLeft,
   wholeLeft,
   convertedReply,
   lengthLeft,
 };
-use basis::Basis;
-use convert::Converted;
-use error::Refusal;
-use inverse_methods::Method;
-use inverse_segment::Ground;
-use inverse_segment::Inverted;
-use spline::Evaluated;
 
 pub mod claims;
 pub mod hours;
@@ -37,61 +29,12 @@ pub mod seams;
 pub mod spans;
 pub mod steady;
 
-pub enum Chosen {
-    Known(Basis),
-    Unknown,
-}
-
-// The basis of a number; the order is that of `bases` in specs/Replies.antt.
-pub fn basis_of(n: u8) -> Chosen
-    ensures { λ r. ⌜ r ≡ chosenOf n ⌝ }
-{
-    match n {
-        0 => Chosen::Known(Basis::Bspline),
-        1 => Chosen::Known(Basis::Bezier),
-        2 => Chosen::Known(Basis::CatmullRom),
-        3 => Chosen::Known(Basis::Hermite),
-        4 => Chosen::Known(Basis::Linear),
-        5 => Chosen::Known(Basis::Power),
-        _ => Chosen::Unknown,
-    }
-}
-
-pub fn ground_number(g: Ground) -> usize
-    ensures { λ r. ⌜ r ≡ groundNumber g ⌝ }
-{
-    match g {
-        Ground::End => 0,
-        Ground::Edge => 1,
-        Ground::Value => 2,
-        Ground::Width => 3,
-        Ground::Spent => 4,
-    }
-}
-
 // 1 or 0; 255 for a number that is no basis, here and in every other call.
 #[no_mangle]
 pub extern "C" fn simmerstoat_is_len_ok(basis: u8, n: usize) -> u8
     ensures { λ r. ⌜ r ≡ chosen (chosenOf basis) noBasis (λ b. cond (lengthOk b n) 1 0) ⌝ }
 {
-    let c = basis_of(basis);
-    let Chosen::Known(b) = c else {
-        return 255;
-    };
-    if basis::is_len_ok(b, n) { 1 } else { 0 }
-}
-
-// A value is written and answered by 0; a refusal writes nothing.
-pub fn value_told(e: Evaluated, value: &mut f64) -> u32
-    ensures { λ r. ⌜ (r ≡ evaluatedReply e) × (now (value .exit) ≡ valueLeft e (now (value .entry))) ⌝ }
-{
-    match e {
-        Evaluated::Value(v) => {
-            *value = v;
-            0
-        }
-        Evaluated::Refused(r) => error::reply(r),
-    }
+    exports_value::is_len_ok(basis, n)
 }
 
 // A curve's value.
@@ -101,11 +44,7 @@ pub extern "C" fn simmerstoat_spline(basis: u8, x: f64, knots: &[f64], value: &m
     ensures value { λ _. ⌜ now (value .exit) ≡ chosen (chosenOf basis) (now (value .entry))
         (λ b. valueLeft (splineOf b x (now (knots .entry))) (now (value .entry))) ⌝ }
 {
-    let c = basis_of(basis);
-    let Chosen::Known(b) = c else {
-        return 255;
-    };
-    value_told(spline::spline(b, x, knots), value)
+    exports_value::spline(basis, x, knots, value)
 }
 
 // One segment's value.
@@ -115,31 +54,7 @@ pub extern "C" fn simmerstoat_spline_segment(basis: u8, x: f64, cv: &[f64], valu
     ensures value { λ _. ⌜ now (value .exit) ≡ chosen (chosenOf basis) (now (value .entry))
         (λ b. valueLeft (splineSegmentOf b x (now (cv .entry))) (now (value .entry))) ⌝ }
 {
-    let c = basis_of(basis);
-    let Chosen::Known(b) = c else {
-        return 255;
-    };
-    value_told(spline::spline_segment(b, x, cv), value)
-}
-
-// A place leaves parameter, local place, lower and upper end, and ground, segment and count; refusal 11 its count.
-pub fn place_told(a: Inverted, place: &mut [f64; 4], whole: &mut [usize; 3]) -> u32
-    ensures { λ r. ⌜ (r ≡ invertedReply a) × (now (place .exit) ≡ placeLeft a (now (place .entry)))
-        × (now (whole .exit) ≡ wholeLeft a (now (whole .entry))) ⌝ }
-{
-    match a {
-        Inverted::At(p) => {
-            *place = [p.parameter, p.local, p.lower, p.upper];
-            let g = p.ground;
-            *whole = [ground_number(g), p.segment, p.count as usize];
-            0
-        }
-        Inverted::OffCurve(n) => {
-            whole[2] = n;
-            error::reply(Refusal::OffCurve)
-        }
-        Inverted::Refused(r) => error::reply(r),
-    }
+    exports_value::spline_segment(basis, x, cv, value)
 }
 
 // A curve's inversion with the defaults.
@@ -159,11 +74,7 @@ pub extern "C" fn simmerstoat_spline_inverse(
     ensures whole { λ _. ⌜ now (whole .exit) ≡ chosen (chosenOf basis) (now (whole .entry))
         (λ b. wholeLeft (inverseOf b y (now (knots .entry)) check defaultLimit defaultPrecision) (now (whole .entry))) ⌝ }
 {
-    let c = basis_of(basis);
-    let Chosen::Known(b) = c else {
-        return 255;
-    };
-    place_told(inverse::spline_inverse(b, y, knots, check), place, whole)
+    exports_inverse::spline_inverse(basis, y, knots, check, place, whole)
 }
 
 // A curve's inversion with a limit and a precision.
@@ -185,15 +96,7 @@ pub extern "C" fn simmerstoat_spline_inverse_with(
     ensures whole { λ _. ⌜ now (whole .exit) ≡ chosen (chosenOf basis) (now (whole .entry))
         (λ b. wholeLeft (inverseOf b y (now (knots .entry)) check limit precision) (now (whole .entry))) ⌝ }
 {
-    let c = basis_of(basis);
-    let Chosen::Known(b) = c else {
-        return 255;
-    };
-    place_told(
-        inverse::spline_inverse_with(b, y, knots, check, limit, precision),
-        place,
-        whole,
-    )
+    exports_inverse::spline_inverse_with(basis, y, knots, check, limit, precision, place, whole)
 }
 
 // One segment's inversion with the defaults. It goes through the call for any method, so that the archive has the rounds once.
@@ -212,15 +115,7 @@ pub extern "C" fn simmerstoat_spline_inverse_segment(
     ensures whole { λ _. ⌜ now (whole .exit) ≡ chosen (chosenOf basis) (now (whole .entry))
         (λ b. wholeLeft (inverseSegmentOf b y (now (cv .entry)) defaultLimit defaultPrecision) (now (whole .entry))) ⌝ }
 {
-    let c = basis_of(basis);
-    let Chosen::Known(b) = c else {
-        return 255;
-    };
-    place_told(
-        inverse_methods::spline_inverse_segment(b, y, cv),
-        place,
-        whole,
-    )
+    exports_inverse_segment::spline_inverse_segment(basis, y, cv, place, whole)
 }
 
 // One segment's inversion with a limit and a precision.
@@ -241,37 +136,15 @@ pub extern "C" fn simmerstoat_spline_inverse_segment_with(
     ensures whole { λ _. ⌜ now (whole .exit) ≡ chosen (chosenOf basis) (now (whole .entry))
         (λ b. wholeLeft (inverseSegmentOf b y (now (cv .entry)) limit precision) (now (whole .entry))) ⌝ }
 {
-    let c = basis_of(basis);
-    let Chosen::Known(b) = c else {
-        return 255;
-    };
-    place_told(
-        inverse_methods::spline_inverse_segment_with(b, y, cv, limit, precision),
+    exports_inverse_segment::spline_inverse_segment_with(
+        basis,
+        y,
+        cv,
+        limit,
+        precision,
         place,
         whole,
     )
-}
-
-// The length is written and answered by 0; a refusal writes nothing.
-pub fn length_told(a: Converted, written: &mut usize) -> u32
-    ensures { λ r. ⌜ (r ≡ convertedReply a) × (now (written .exit) ≡ lengthLeft a (now (written .entry))) ⌝ }
-{
-    match a {
-        Converted::Written(n) => {
-            *written = n;
-            0
-        }
-        Converted::Refused(r) => error::reply(r),
-    }
-}
-
-pub fn conversion_reply(a: Converted) -> u32
-    ensures { λ r. ⌜ r ≡ convertedReply a ⌝ }
-{
-    match a {
-        Converted::Written(_) => 0,
-        Converted::Refused(r) => error::reply(r),
-    }
 }
 
 // One segment's conversion, into the first four places of out.
@@ -284,15 +157,7 @@ pub extern "C" fn simmerstoat_convert_segment(from: u8, to: u8, cv: &[f64], out:
         (λ f. chosen (chosenOf to) (now (out .entry))
         (λ t. bufferOf (convertedSegmentOf f t (now (cv .entry)) (length (now (out .entry)))) (now (out .entry)))) ⌝ }
 {
-    let c = basis_of(from);
-    let Chosen::Known(f) = c else {
-        return 255;
-    };
-    let d = basis_of(to);
-    let Chosen::Known(t) = d else {
-        return 255;
-    };
-    conversion_reply(convert::convert_segment(f, t, cv, out))
+    exports_convert::convert_segment(from, to, cv, out)
 }
 
 // A curve's conversion, into the first places of out.
@@ -314,13 +179,5 @@ pub extern "C" fn simmerstoat_convert_spline(
         (λ f. chosen (chosenOf to) (now (out .entry))
         (λ t. bufferOf (convertedOf f t (now (knots .entry)) (length (now (out .entry)))) (now (out .entry)))) ⌝ }
 {
-    let c = basis_of(from);
-    let Chosen::Known(f) = c else {
-        return 255;
-    };
-    let d = basis_of(to);
-    let Chosen::Known(t) = d else {
-        return 255;
-    };
-    length_told(convert::convert_spline(f, t, knots, out), written)
+    exports_convert::convert_spline(from, to, knots, out, written)
 }

@@ -3,8 +3,7 @@ ghost use mathlib.Core.Path.{_≡_};
 ghost use lib.ListN.{length};
 ghost use Rattle.convert.specs.Buffer.{answerOf, bufferOf};
 ghost use Rattle.convert_strict.specs.Strict.{strictOf};
-ghost use Rattle.simmerstoat.specs.Replies.{chosenOf, noBasis, chosen, convertedReply, lengthLeft};
-use crate::Chosen;
+ghost use Rattle.exports_reply.specs.Replies.{chosenOf, noBasis, chosen, convertedReply, lengthLeft};
 
 // A curve's conversion, into the first places of out, unless a seam loses more than the allowance.
 #[no_mangle]
@@ -27,16 +26,5 @@ pub extern "C" fn simmerstoat_convert_spline_strict(
         (λ f. chosen (chosenOf to) (now (out .entry))
         (λ t. bufferOf (strictOf f t (now (knots .entry)) allowance (length (now (out .entry)))) (now (out .entry)))) ⌝ }
 {
-    let c = crate::basis_of(from);
-    let Chosen::Known(f) = c else {
-        return 255;
-    };
-    let d = crate::basis_of(to);
-    let Chosen::Known(t) = d else {
-        return 255;
-    };
-    crate::length_told(
-        convert_strict::convert_spline_strict(f, t, knots, allowance, out),
-        written,
-    )
+    exports_convert::convert_spline_strict(from, to, knots, allowance, out, written)
 }

@@ -6,9 +6,9 @@ ghost use Rattle.inverse.specs.declared.EndsBy.the-variants.{Knots};
 ghost use Rattle.inverse_segment.specs.Answer.{defaultLimit, defaultPrecision};
 ghost use Rattle.inverse_methods.specs.declared.Method.the-variants.{AsCrate};
 ghost use Rattle.table.specs.Calls.{tableSplineOf, tableInverseBy, tableConvertedOf, tableStrictOf, handedOf};
-ghost use Rattle.simmerstoat.specs.Replies.{chosenOf, noBasis, chosen, evaluatedReply, valueLeft};
-ghost use Rattle.simmerstoat.specs.Options.{chosenBy};
-ghost use Rattle.simmerstoat.specs.Tables.{
+ghost use Rattle.exports_reply.specs.Replies.{chosenOf, noBasis, chosen, evaluatedReply, valueLeft};
+ghost use Rattle.exports_reply.specs.Options.{chosenBy};
+ghost use Rattle.exports_table.specs.Tables.{
   tableOf,
   timedReply,
   timedPlace,
@@ -17,15 +17,9 @@ ghost use Rattle.simmerstoat.specs.Tables.{
   handedSpan,
   handedLength,
 };
-use crate::Chosen;
-use crate::options::Way;
-use error::Refusal;
-use inverse::Options;
-use table::Handed;
-use table::Table;
-use table::Timed;
+use exports_reply::Chosen;
 
-// A curve's value.
+// A curve's value; with a good span it is the curve's own export that tells it.
 #[no_mangle]
 pub extern "C" fn simmerstoat_table_spline(
     basis: u8,
@@ -39,40 +33,14 @@ pub extern "C" fn simmerstoat_table_spline(
     ensures value { λ _. ⌜ now (value .exit) ≡ chosen (chosenOf basis) (now (value .entry))
         (λ b. valueLeft (tableSplineOf (tableOf span b) x (now (knots .entry))) (now (value .entry))) ⌝ }
 {
-    let c = crate::basis_of(basis);
+    if table::is_span(span) {
+        return crate::simmerstoat_spline(basis, x, knots, value);
+    }
+    let c = exports_reply::basis_of(basis);
     let Chosen::Known(b) = c else {
         return 255;
     };
-    let t = Table {
-        basis: b,
-        span: span,
-    };
-    crate::value_told(table::table_spline(t, x, knots), value)
-}
-
-// A place leaves what it leaves without a span, and its second; refusal 11 its count.
-pub fn timed_told(a: Timed, place: &mut [f64; 4], whole: &mut [usize; 4]) -> u32
-    ensures { λ r. ⌜ (r ≡ timedReply a) × (now (place .exit) ≡ timedPlace a (now (place .entry)))
-        × (now (whole .exit) ≡ timedWhole a (now (whole .entry))) ⌝ }
-{
-    match a {
-        Timed::At(p, s) => {
-            *place = [p.parameter, p.local, p.lower, p.upper];
-            let g = p.ground;
-            *whole = [
-                crate::ground_number(g),
-                p.segment,
-                p.count as usize,
-                s as usize,
-            ];
-            0
-        }
-        Timed::OffCurve(n) => {
-            whole[2] = n;
-            error::reply(Refusal::OffCurve)
-        }
-        Timed::Refused(r) => error::reply(r),
-    }
+    error::reply(table::without_span(b, knots.len()))
 }
 
 // A curve's inversion with the defaults.
@@ -95,19 +63,7 @@ pub extern "C" fn simmerstoat_table_spline_inverse(
         (λ b. timedWhole (tableInverseBy Knots AsCrate (tableOf span b) y (now (knots .entry)) check defaultLimit defaultPrecision)
         (now (whole .entry))) ⌝ }
 {
-    let c = crate::basis_of(basis);
-    let Chosen::Known(b) = c else {
-        return 255;
-    };
-    let t = Table {
-        basis: b,
-        span: span,
-    };
-    timed_told(
-        table::table_spline_inverse(t, y, knots, check),
-        place,
-        whole,
-    )
+    exports_table::table_spline_inverse(basis, span, y, knots, check, place, whole)
 }
 
 // A curve's inversion by the caller's options.
@@ -132,40 +88,19 @@ pub extern "C" fn simmerstoat_table_spline_inverse_by(
     ensures whole { λ _. ⌜ now (whole .exit) ≡ chosenBy basis ends method (now (whole .entry))
         (λ b e m. timedWhole (tableInverseBy e m (tableOf span b) y (now (knots .entry)) check limit precision) (now (whole .entry))) ⌝ }
 {
-    let c = crate::basis_of(basis);
-    let Chosen::Known(b) = c else {
-        return 255;
-    };
-    let w = crate::options::way_of(ends, method);
-    let Way::Known(e, m) = w else {
-        return 255;
-    };
-    let o = Options {
-        check: check,
-        limit: limit,
-        precision: precision,
-        ends: e,
-        method: m,
-    };
-    let t = Table {
-        basis: b,
-        span: span,
-    };
-    timed_told(table::table_spline_inverse_by(o, t, y, knots), place, whole)
-}
-
-fn handed_told(a: Handed, handed: &mut u32, written: &mut usize) -> u32
-    ensures { λ r. ⌜ (r ≡ handedReply a) × (now (handed .exit) ≡ handedSpan a (now (handed .entry)))
-        × (now (written .exit) ≡ handedLength a (now (written .entry))) ⌝ }
-{
-    match a {
-        Handed::On(t, n) => {
-            *handed = t.span;
-            *written = n;
-            0
-        }
-        Handed::Refused(r) => error::reply(r),
-    }
+    exports_table::table_spline_inverse_by(
+        basis,
+        span,
+        y,
+        knots,
+        check,
+        limit,
+        precision,
+        ends,
+        method,
+        place,
+        whole,
+    )
 }
 
 // A curve's conversion, into the first places of out; the new table is over `to` and has the span that is handed on.
@@ -197,23 +132,7 @@ pub extern "C" fn simmerstoat_table_convert_spline(
         (λ f. chosen (chosenOf to) (now (out .entry))
         (λ t. bufferOf (tableConvertedOf (tableOf span f) t (now (knots .entry)) (length (now (out .entry)))) (now (out .entry)))) ⌝ }
 {
-    let c = crate::basis_of(from);
-    let Chosen::Known(f) = c else {
-        return 255;
-    };
-    let d = crate::basis_of(to);
-    let Chosen::Known(t) = d else {
-        return 255;
-    };
-    let old = Table {
-        basis: f,
-        span: span,
-    };
-    handed_told(
-        table::table_convert_spline(old, t, knots, out),
-        handed,
-        written,
-    )
+    exports_table::table_convert_spline(from, span, to, knots, out, handed, written)
 }
 
 // The same, unless a seam loses more than the allowance.
@@ -247,20 +166,13 @@ pub extern "C" fn simmerstoat_table_convert_spline_strict(
         (λ t. bufferOf (tableStrictOf (tableOf span f) t (now (knots .entry)) allowance (length (now (out .entry))))
         (now (out .entry)))) ⌝ }
 {
-    let c = crate::basis_of(from);
-    let Chosen::Known(f) = c else {
-        return 255;
-    };
-    let d = crate::basis_of(to);
-    let Chosen::Known(t) = d else {
-        return 255;
-    };
-    let old = Table {
-        basis: f,
-        span: span,
-    };
-    handed_told(
-        table::table_convert_spline_strict(old, t, knots, allowance, out),
+    exports_table::table_convert_spline_strict(
+        from,
+        span,
+        to,
+        knots,
+        allowance,
+        out,
         handed,
         written,
     )

@@ -3,10 +3,8 @@ ghost use mathlib.Core.Path.{_≡_};
 ghost use Rattle.inverse_methods.specs.Method.{steadySegmentOf};
 ghost use Rattle.inverse.specs.Inverse.{steadyOf};
 ghost use Rattle.table.specs.Calls.{tableSteadyOf};
-ghost use Rattle.simmerstoat.specs.Replies.{chosenOf, noBasis, chosen, invertedReply, placeLeft, wholeLeft};
-ghost use Rattle.simmerstoat.specs.Tables.{tableOf, timedReply, timedPlace, timedWhole};
-use crate::Chosen;
-use table::Table;
+ghost use Rattle.exports_reply.specs.Replies.{chosenOf, noBasis, chosen, invertedReply, placeLeft, wholeLeft};
+ghost use Rattle.exports_table.specs.Tables.{tableOf, timedReply, timedPlace, timedWhole};
 
 // A curve's inversion.
 #[no_mangle]
@@ -24,15 +22,7 @@ pub extern "C" fn simmerstoat_spline_inverse_steady(
     ensures whole { λ _. ⌜ now (whole .exit) ≡ chosen (chosenOf basis) (now (whole .entry))
         (λ b. wholeLeft (steadyOf b y (now (knots .entry)) check) (now (whole .entry))) ⌝ }
 {
-    let c = crate::basis_of(basis);
-    let Chosen::Known(b) = c else {
-        return 255;
-    };
-    crate::place_told(
-        inverse::spline_inverse_steady(b, y, knots, check),
-        place,
-        whole,
-    )
+    exports_inverse::spline_inverse_steady(basis, y, knots, check, place, whole)
 }
 
 // One segment's inversion.
@@ -50,15 +40,7 @@ pub extern "C" fn simmerstoat_spline_inverse_segment_steady(
     ensures whole { λ _. ⌜ now (whole .exit) ≡ chosen (chosenOf basis) (now (whole .entry))
         (λ b. wholeLeft (steadySegmentOf b y (now (cv .entry))) (now (whole .entry))) ⌝ }
 {
-    let c = crate::basis_of(basis);
-    let Chosen::Known(b) = c else {
-        return 255;
-    };
-    crate::place_told(
-        inverse_methods::spline_inverse_segment_steady(b, y, cv),
-        place,
-        whole,
-    )
+    exports_inverse_segment::spline_inverse_segment_steady(basis, y, cv, place, whole)
 }
 
 // A curve's inversion, of a table with a span.
@@ -79,17 +61,5 @@ pub extern "C" fn simmerstoat_table_spline_inverse_steady(
     ensures whole { λ _. ⌜ now (whole .exit) ≡ chosen (chosenOf basis) (now (whole .entry))
         (λ b. timedWhole (tableSteadyOf (tableOf span b) y (now (knots .entry)) check) (now (whole .entry))) ⌝ }
 {
-    let c = crate::basis_of(basis);
-    let Chosen::Known(b) = c else {
-        return 255;
-    };
-    let t = Table {
-        basis: b,
-        span: span,
-    };
-    crate::spans::timed_told(
-        table::table_spline_inverse_steady(t, y, knots, check),
-        place,
-        whole,
-    )
+    exports_table::table_spline_inverse_steady(basis, span, y, knots, check, place, whole)
 }

@@ -68,7 +68,7 @@ pub fn seconds_of(span: u32, parameter: f64) -> Seconds
 }
 
 // The refusal of a table without a good span: that of its length, if there is one, comes before 14.
-fn without_span(b: Basis, n: usize) -> Refusal
+pub fn without_span(b: Basis, n: usize) -> Refusal
     ensures { λ r. ⌜ Failed r ≡ first ((BadSpan, true) ∷ curveLength b n) ⌝ }
 {
     let l = checks::curve_length(b, n);

@@ -1,12 +1,40 @@
--- A number that is no basis writes nothing (`unfound`); for any other the call's contract is carried over to what C sees (`found`).
-use mathlib.Core.Path.{ap, _∙_}
+-- With a good span the table's value is the curve's for each basis (`spline-base`), so it is for a basis by its number; without one the
+-- first row that applies is told, and nothing is written. Assumes nothing.
+use mathlib.Core.Path.{_≡_, refl, sym, ap, _∙_}
+use Rattle.basis.specs.declared.Basis.{Basis}
 use Rattle.table.specs.Calls.{tableSplineOf}
-use Rattle.simmerstoat.specs.Tables.{tableOf}
-use Rattle.simmerstoat.specs.Replies.{noBasis, valueLeft, evaluatedReply}
-use Rattle.simmerstoat.proofs.Found.{found}
+use Rattle.table.proofs.Spans.{spline-base, spline-spanless}
+use Rattle.exports_table.specs.Tables.{tableOf}
+use Rattle.exports_reply.specs.declared.Chosen.{Chosen}
+use Rattle.exports_reply.specs.declared.Chosen.the-variants.{Known, Unknown}
+use Rattle.exports_reply.specs.Replies.{chosenOf, chosen, noBasis, valueLeft, evaluatedReply}
+use Rattle.exports_reply.proofs.Found.{found}
 use borrow.Author.Needs.{needs}
 use Rattle.simmerstoat.proofs.spans.simmerstoat_table_spline.Statement.{statement}
 use Rattle.simmerstoat.proofs.spans.simmerstoat_table_spline.Tie as tie
+
+same-for-each : {A : Type 0} (k : Chosen) (d : A) (f g : Basis → A) → ((b : Basis) → f b ≡ g b) → chosen k d f ≡ chosen k d g
+same-for-each (Known b) d f g same = same b
+same-for-each Unknown d f g same = refl
+
+is-span-requires : tie.Need-is-span-requires
+is-span-requires c κs = search needs
+
+simmerstoat-spline-requires : tie.Need-simmerstoat-spline-requires
+simmerstoat-spline-requires c κs = search needs
+
+returns : tie.Need-returns
+returns c =
+    let args = c .before .before .before .before .before .args in
+    let good = sym (c .before .before .before .is-span .ensures) ∙ c .before .before .if1 .taken in
+    let k = chosenOf (args .basis) in
+    let old = args .value .now in
+    let call = c .simmerstoat-spline .ensures in (
+      call .0 ∙ same-for-each k noBasis _ (λ b. evaluatedReply (tableSplineOf (tableOf (args .span) b) (args .x) (args .knots .now)))
+          (λ b. ap evaluatedReply (sym (spline-base (tableOf (args .span) b) (args .x) (args .knots .now) good))),
+      call .1 ∙ same-for-each k old _ (λ b. valueLeft (tableSplineOf (tableOf (args .span) b) (args .x) (args .knots .now)) old)
+          (λ b. ap (λ e. valueLeft e old) (sym (spline-base (tableOf (args .span) b) (args .x) (args .knots .now) good))),
+    )
 
 basis-of-requires : tie.Need-basis-of-requires
 basis-of-requires c κs = search needs
@@ -17,36 +45,41 @@ enum-known-c c = search needs
 enum-told : tie.Need-enum-told
 enum-told c = search needs
 
-returns : tie.Need-returns
-returns c = search needs
-
-table-spline-requires : tie.Need-table-spline-requires
-table-spline-requires c κs = search needs
-
-value-told-requires : tie.Need-value-told-requires
-value-told-requires c κs = search needs
-
 returns-2 : tie.Need-returns-2
-returns-2 c =
-    let args = c .before .before .before .before .before .before .before .before .args in
-    let asked = c .before .before .before .before .before .before .basis-of .ensures in
-    let known = c .before .before .before .before .c .given .1 in
+returns-2 c = search needs
+
+without-span-requires : tie.Need-without-span-requires
+without-span-requires c κs = search needs
+
+reply-requires : tie.Need-reply-requires
+reply-requires c κs = search needs
+
+returns-3 : tie.Need-returns-3
+returns-3 c =
+    let args = c .before .before .before .before .before .before .before .before .before .args in
+    let bad = sym (c .before .before .before .before .before .before .before .is-span .ensures) ∙ c .before .before .before .before .before .before .if1 .left in
+    let asked = c .before .before .before .before .before .basis-of .ensures in
+    let known = c .before .before .before .c .given .1 in
+    let basis = c .before .before .before .c .given .0 .0 in
     let old = args .value .now in
-    let call = c .before .before .table-spline .ensures in (
+    let refused = spline-spanless (tableOf (args .span) basis) (args .x) (args .knots .now) _ bad (c .before .without-span .ensures) in (
       found noBasis (λ b. evaluatedReply (tableSplineOf (tableOf (args .span) b) (args .x) (args .knots .now))) asked known
-          (c .value-told .ensures .0 ∙ ap evaluatedReply call),
+          (c .reply .ensures ∙ ap evaluatedReply refused),
       found old (λ b. valueLeft (tableSplineOf (tableOf (args .span) b) (args .x) (args .knots .now)) old) asked known
-          (c .value-told .ensures .1 ∙ ap (λ e. valueLeft e old) call),
+          (ap (λ e. valueLeft e old) refused),
     )
 
 pub simmerstoat-table-spline-spec : {M : Type 1} → statement M
 simmerstoat-table-spline-spec =
     tie.close
     (tie.spec
+    is-span-requires
+    simmerstoat-spline-requires
+    returns
     basis-of-requires
     enum-known-c
     enum-told
-    returns
-    table-spline-requires
-    value-told-requires
-    returns-2)
+    returns-2
+    without-span-requires
+    reply-requires
+    returns-3)

@@ -1,0 +1,27 @@
+-- `exports_table::handed_told` meets its contract: in each arm the answer is that arm's. Assumes nothing.
+use mathlib.Core.Path.{sym, ap, _∙_}
+use Rattle.exports_table.specs.Tables.{handedReply, handedSpan, handedLength}
+use borrow.Author.Needs.{needs}
+use Rattle.exports_table.proofs.handed_told.Statement.{statement}
+use Rattle.exports_table.proofs.handed_told.Tie as tie
+
+enum-known-a : tie.Need-enum-known-a
+enum-known-a c = search needs
+
+enum-known-a-2 : tie.Need-enum-known-a-2
+enum-known-a-2 c = search needs
+
+reply-requires : tie.Need-reply-requires
+reply-requires c κs = search needs
+
+returns : tie.Need-returns
+returns c = search needs
+
+returns-2 : tie.Need-returns-2
+returns-2 c = let args = c .before .before .before .before .args in
+    let is = c .before .before .a2 .given .1 in
+    (c .reply .ensures ∙ sym (ap handedReply is), sym (ap (λ a. handedSpan a (args .handed .now)) is), sym (ap (λ a. handedLength a (args .written .now)) is))
+
+pub handed-told-spec : {M : Type 1} → statement M
+handed-told-spec =
+    tie.close (tie.spec enum-known-a enum-known-a-2 reply-requires returns returns-2)

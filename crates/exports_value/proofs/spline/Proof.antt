@@ -1,0 +1,49 @@
+-- A number that is no basis writes nothing (`unfound`); for any other the call's contract is carried over to what C sees (`found`).
+use mathlib.Core.Path.{ap, _∙_}
+use Rattle.spline.specs.Evaluation.{splineOf}
+use Rattle.exports_reply.specs.Replies.{noBasis, valueLeft, evaluatedReply}
+use Rattle.exports_reply.proofs.Found.{found}
+use borrow.Author.Needs.{needs}
+use Rattle.exports_value.proofs.spline.Statement.{statement}
+use Rattle.exports_value.proofs.spline.Tie as tie
+
+basis-of-requires : tie.Need-basis-of-requires
+basis-of-requires c κs = search needs
+
+enum-known-c : tie.Need-enum-known-c
+enum-known-c c = search needs
+
+enum-told : tie.Need-enum-told
+enum-told c = search needs
+
+returns : tie.Need-returns
+returns c = search needs
+
+spline-requires : tie.Need-spline-requires
+spline-requires c κs = search needs
+
+value-told-requires : tie.Need-value-told-requires
+value-told-requires c κs = search needs
+
+returns-2 : tie.Need-returns-2
+returns-2 c =
+    let args = c .before .before .before .before .before .before .before .before .args in
+    let asked = c .before .before .before .before .before .before .basis-of .ensures in
+    let known = c .before .before .before .before .c .given .1 in
+    let old = args .value .now in
+    let call = c .before .before .spline .ensures in (
+      found noBasis (λ b. evaluatedReply (splineOf b (args .x) (args .knots .now))) asked known (c .value-told .ensures .0 ∙ ap evaluatedReply call),
+      found old (λ b. valueLeft (splineOf b (args .x) (args .knots .now)) old) asked known (c .value-told .ensures .1 ∙ ap (λ e. valueLeft e old) call),
+    )
+
+pub spline-spec : {M : Type 1} → statement M
+spline-spec =
+    tie.close
+    (tie.spec
+    basis-of-requires
+    enum-known-c
+    enum-told
+    returns
+    spline-requires
+    value-told-requires
+    returns-2)

@@ -1,5 +1,0 @@
-pub mod Replies
-pub mod Options
-pub mod Uneven
-pub mod Tables
-pub mod Claims
