@@ -6,11 +6,11 @@ use native.Mathlib.Nat.{le-trans, le-of-eq, zero-mul, suc-mul, mul-le-mul, mul-l
 use native.Mathlib.Numerals.{add-one}
 use native.Mathlib.Omega.{arith}
 use lib.Dec.{lit≤}
-use lib.ListN.{length, take, drop, set, length-append, length-drop}
+use lib.ListN.{length, getD, take, drop, set, length-append, length-drop}
 use lib.Seq.{sets-eq, take-at, drop-append-add, drop-drop}
 use lib.Ieee.{Float}
 use Rattle.spline.specs.declared.Weights.{Weights}
-use Rattle.spline.specs.Segment.{weightsOf}
+use Rattle.spline.specs.Segment.{rowSum, weightsOf}
 use Rattle.spline.proofs.Parts.{rest, inside, few}
 use Rattle.convert_matrix.specs.Matrix.{Matrix, applied}
 use Rattle.convert.specs.Output.{windowOf, windows}
@@ -37,6 +37,16 @@ module _ (o : List Float) (at : ℕ) (w : Weights) (gap : ℕ) where
       let q : at + 2 ≡ suc (suc at) = omega arith in
       let r : at + 3 ≡ suc (suc (suc at)) = omega arith in
       rw (e, p, q, r) (sets-eq (listOf w) o at (rw e at h))
+
+-- ---- a window's last doubles, from its four row sums or, where one is written, from the fourth alone
+module _ (m : Matrix) (cv o : List Float) (at gap : ℕ) where
+  pub put-fourth : {x : Float} → x ≡ rowSum cv (getD m 3 []) → gap ≡ 1 → at + gap ≤ length o
+      → set o at x ≡ placed at (drop (4 - gap) (listOf (weightsOf m cv))) o
+  put-fourth p e h = ap (set o at) p ∙ put-1 o at (weightsOf m cv) gap e h
+
+  pub put-sums : {w : Weights} {out : List Float} → w ≡ weightsOf m cv → out ≡ placed at (drop (4 - gap) (listOf w)) o
+      → out ≡ placed at (drop (4 - gap) (listOf (weightsOf m cv))) o
+  put-sums p q = q ∙ ap (λ (x : Weights). placed at (drop (4 - gap) (listOf x)) o) p
 
 -- ---- one window after the other
 -- l is put behind p, which stands at the front
@@ -82,22 +92,20 @@ module _ (m : Matrix) (step gap : ℕ) (ks : List Float) where
       (sym (ap (λ (k : ℕ). drop (4 + k) out) (zero-mul gap) ∙ ap (drop 4) q ∙ past (windows m step gap ks 0) o 4 4 refl (lit≤ tt)))
 
   -- one window more
-  pub next-window : (s : ℕ) (w : Weights) (o out out′ : List Float) → gap ≤ 4
-      → w ≡ weightsOf m (take (length ks - (s + 1) * step) (drop ((s + 1) * step) ks))
+  pub next-window : (s : ℕ) (o out out′ : List Float) → gap ≤ 4
       → out ≡ windows m step gap ks s ++ drop (4 + s * gap) o
-      → out′ ≡ placed (4 + s * gap) (drop (4 - gap) (listOf w)) out
+      → out′ ≡ placed (4 + s * gap) (drop (4 - gap) (applied m (take (length ks - (s + 1) * step) (drop ((s + 1) * step) ks)))) out
       → out′ ≡ windows m step gap ks (s + 1) ++ drop (4 + (s + 1) * gap) o
   unfolding windows
-  next-window s w o out out′ g p q r =
+  next-window s o out out′ g q r =
       let at = 4 + s * gap in
       let k = (s + 1) * step in
       let l = drop (4 - gap) (windowOf m step ks (s + 1)) in
-      let e : drop (4 - gap) (listOf w) ≡ l = ap (λ (x : Weights). drop (4 - gap) (listOf x)) (p ∙ ap (weightsOf m) (rest k ks)) in
       let n : length l ≡ 4 - (4 - gap) = length-drop (4 - gap) (windowOf m step ks (s + 1)) in
       let f : at + length l ≡ 4 + (s + 1) * gap = omega (arith, n, suc-mul s gap, ap (λ (x : ℕ). x * gap) (add-one s)) in
       let one : windows m step gap ks (suc s) ≡ windows m step gap ks (s + 1) = ap (windows m step gap ks) (sym (add-one s)) in
       r
-      ∙ ap (λ (x : List Float). placed at x out) e
+      ∙ ap (λ (x : List Float). placed at (drop (4 - gap) (applied m x)) out) (rest k ks)
       ∙ ap (placed at l) q
       ∙ behind (windows m step gap ks s) l o at (windows-length s g)
       ∙ ap (λ (x : ℕ). windows m step gap ks s ++ l ++ drop x o) f

@@ -60,39 +60,35 @@ add-s c = let t = turned c in omega arith
 mul-start : tie.Need-mul-start Inv-loop μ-loop
 mul-start c = let t = turned c in omega arith
 
-mul-sums : tie.Need-mul-sums Inv-loop μ-loop
-mul-sums c = let t = turned (c .before .before) in omega arith
+mul-put-window : tie.Need-mul-put-window Inv-loop μ-loop
+mul-put-window c = let t = turned (c .before) in omega arith
 
-sub-sums : tie.Need-sub-sums Inv-loop μ-loop
-sub-sums c = let t = turned (c .before .before) in omega arith
+sub-put-window : tie.Need-sub-put-window Inv-loop μ-loop
+sub-put-window c = let t = turned (c .before) in omega arith
 
-part-sums-start : tie.Need-part-sums-start Inv-loop μ-loop
-part-sums-start c = let t = turned (c .before .before) in omega arith
+part-put-window-start : tie.Need-part-put-window-start Inv-loop μ-loop
+part-put-window-start c = let t = turned (c .before) in omega arith
 
-part-sums-end : tie.Need-part-sums-end Inv-loop μ-loop
-part-sums-end c = let t = turned (c .before .before) in omega arith
+part-put-window-end : tie.Need-part-put-window-end Inv-loop μ-loop
+part-put-window-end c = let t = turned (c .before) in omega arith
 
-sums-requires-2 : tie.Need-sums-requires-2 Inv-loop μ-loop
-sums-requires-2 c κs = let t = turned (c .before .before .before) in simp (length-take, length-drop) (omega arith)
-
-put-last-requires-2 : tie.Need-put-last-requires-2 Inv-loop μ-loop
-put-last-requires-2 c κs =
-    let t = turned (c .before .before .before .before) in
-    let p = c .before .before .before .before .before .before .before .before .before .before .before .before .before .before .pre in
-    (p .1, p .2, omega arith)
+put-window-requires : tie.Need-put-window-requires Inv-loop μ-loop
+put-window-requires c κs =
+    let t = turned (c .before .before) in
+    let p = c .before .before .before .before .before .before .before .before .before .before .before .before .pre in
+    (p .1, p .2, simp (length-take, length-drop) (omega arith), omega arith)
 
 loop-less : tie.Need-loop-less Inv-loop μ-loop
 loop-less c = omega arith
 
 loop-again : tie.Need-loop-again Inv-loop μ-loop
 loop-again c =
-    let a = c .before .before .before .before .before .before .before .before .before .before .before .before .before .before .before .before .before .args in
-    let l = c .before .before .before .before .before .before .before .before .loop in (
+    let o = c .before .before .before .before .before .before .before .before .before .before .before .before .before .before .before in
+    let l = c .before .before .before .before .before .before .loop in (
       omega arith,
-      c .before .before .put-last2 .kept .0 ∙ l .inv .1,
-      next-window (a .m .now) (a .step) (a .gap) (a .knots .now) (l .s) _ _ _ _
-          (c .before .before .before .before .before .before .before .before .before .before .before .before .before .before .before .before .before .pre
-          .2) (c .before .before .before .sums2 .ensures) (l .inv .2) (c .before .before .put-last2 .ensures),
+      c .before .before .put-window .kept .0 ∙ l .inv .1,
+      next-window (o .args .m .now) (o .args .step) (o .args .gap) (o .args .knots .now) (l .s) _ _ _ (o .pre .2) (l .inv .2)
+          (c .before .before .put-window .ensures),
     )
 
 few-turns : (c : tie.After-loop Inv-loop μ-loop)
@@ -138,12 +134,11 @@ put-windows-spec =
     add-at
     add-s
     mul-start
-    mul-sums
-    sub-sums
-    part-sums-start
-    part-sums-end
-    sums-requires-2
-    put-last-requires-2
+    mul-put-window
+    sub-put-window
+    part-put-window-start
+    part-put-window-end
+    put-window-requires
     loop-less
     loop-again
     mul-result
