@@ -25,7 +25,7 @@ use Rattle.inverse_segment.specs.Round.{Rule}
 use Rattle.inverse_methods.specs.Method.{ruleOf}
 use Rattle.inverse_search.specs.declared.SearchResult.{SearchResult}
 use Rattle.inverse_search.specs.declared.SearchResult.the-variants.{OffCurve as NotOn, Entered}
-use Rattle.inverse_search.specs.Shown.{resultOf}
+use Rattle.inverse_search.specs.Shown.{resultOf, countIn}
 use Rattle.inverse_search.specs.Trial.{trial}
 use Rattle.inverse_search.specs.Search.{find}
 use Rattle.inverse.specs.declared.Ends.{Ends}
@@ -37,11 +37,11 @@ use Rattle.inverse.specs.Curve.{parameterOf, ended, located}
 
 -- ---- the search's answer, with the parameter
 module _ (P : ℕ → Float → Float) (o : Outcome) {r : SearchResult} where
-  pub off-kept : {m : ℕ} → r ≡ NotOn m → r ≡ resultOf o → OffCurve m ≡ answered P o
-  off-kept {m} d e = go o (sym d ∙ e)
+  pub off-kept : {m n : ℕ} → r ≡ NotOn m → r ≡ resultOf o → n ≡ countIn r → OffCurve n ≡ answered P o
+  off-kept {m} {n} d e i = go o e
     where
-      go : (o : Outcome) → NotOn m ≡ resultOf o → OffCurve m ≡ answered P o
-      go (off ev) e = let q : m ≡ length ev = cc in ap OffCurve q
+      go : (o : Outcome) → r ≡ resultOf o → OffCurve n ≡ answered P o
+      go (off ev) e = ap OffCurve (i ∙ ap countIn e)
       go (placed p) e = never (cc)
 
   pub with-parameter : {s : ℕ} {a : Stop} {x : Float} {p : Place} → r ≡ Entered s a → r ≡ resultOf o → x ≡ P s (a .local) → p ≡ placeAt x s a

@@ -131,14 +131,10 @@ fn searched(
     ensures { λ r. ⌜ SearchedIs how b y (now (knots .entry)) limit precision rising k n r ⌝ }
 {
     let a = inverse_search::find(how, b, knots, y, precision, limit, rising, k, n);
-    match a {
-        SearchResult::OffCurve(m) => Inverted::OffCurve(m as usize),
-        SearchResult::Entered(s, e) => Inverted::At(inverse_segment::place_of(
-            parameter(k, s, e.local),
-            s,
-            e,
-        )),
-    }
+    let SearchResult::Entered(s, e) = a else {
+        return Inverted::OffCurve(inverse_search::count_of(a) as usize);
+    };
+    Inverted::At(inverse_segment::place_of(parameter(k, s, e.local), s, e))
 }
 
 // The end rule, then the search; n evaluations have been made for the rule.

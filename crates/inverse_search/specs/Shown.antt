@@ -25,6 +25,10 @@ abbrev pub resultOf : Outcome → SearchResult
 resultOf (off ev) = OffCurve (length ev)
 resultOf (placed p) = Entered (p .segment) (stopOf p)
 
+abbrev pub countIn : SearchResult → ℕ
+countIn (OffCurve n) = n
+countIn (Entered s e) = e .count
+
 -- r is what the definition gives, whatever the n evaluations before it were
 abbrev pub Is : (Evaluations → Outcome) → ℕ → SearchResult → Type 0
 Is o n r = (ev : Evaluations) → length ev ≡ n → r ≡ resultOf (o ev)

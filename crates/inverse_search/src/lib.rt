@@ -6,7 +6,7 @@ ghost use Rattle.basis.specs.Basis.{stepOf, matrixOf};
 ghost use Rattle.spline.specs.Segment.{weightsOf};
 ghost use Rattle.inverse_search.specs.Bound.{bitsOf, boundOf};
 ghost use Rattle.inverse_search.specs.Search.{before};
-ghost use Rattle.inverse_search.specs.Shown.{TriesIs, LastIs, HalveIs, SoughtIs, FindIs};
+ghost use Rattle.inverse_search.specs.Shown.{countIn, TriesIs, LastIs, HalveIs, SoughtIs, FindIs};
 use basis::Basis;
 use inverse_methods::Method;
 use inverse_segment::Stop;
@@ -16,6 +16,16 @@ use spline::Weights;
 pub enum SearchResult {
     OffCurve(u32),
     Entered(usize, Stop),
+}
+
+// The evaluations counted, wherever the search came to.
+pub fn count_of(a: SearchResult) -> u32
+    ensures { λ r. ⌜ r ≡ countIn a ⌝ }
+{
+    match a {
+        SearchResult::OffCurve(m) => m,
+        SearchResult::Entered(s, e) => e.count,
+    }
 }
 
 // How many binary digits k has, up to its highest 1.

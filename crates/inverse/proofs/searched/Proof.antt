@@ -27,11 +27,21 @@ find-requires c κs =
 enum-known-a : tie.Need-enum-known-a
 enum-known-a c = search needs
 
-cast : tie.Need-cast-t15
+enum-told : tie.Need-enum-told
+enum-told c = search needs
+
+count-of-requires : tie.Need-count-of-requires
+count-of-requires c κs = search needs
+
+cast : tie.Need-cast-t14
 cast c = search needs
 
-enum-known-a-2 : tie.Need-enum-known-a-2
-enum-known-a-2 c = search needs
+returns : tie.Need-returns
+returns c =
+    λ ev l.
+    let a = c .before .before .before .before .before .args in
+    off-kept (parameterOf (a .k)) (find (trial (ruleOf (a .how)) (segmentOf (a .b) (a .knots .now)) (a .y) (a .precision) (a .limit)) (a .y) (a .rising) (a .k) ev)
+    (c .before .enum-told .given .1) (c .before .before .before .find .ensures ev l) (c .count-of .ensures)
 
 parameter-requires : tie.Need-parameter-requires
 parameter-requires c κs =
@@ -40,18 +50,11 @@ parameter-requires c κs =
     let few = k-few (a .b) (a .y) (a .precision) (a .knots .now) (a .limit) (a .k) (p .0) (p .1) (p .2) in
     let below =
     found-below (a .b) (a .y) (a .precision) (a .knots .now) (a .limit) (a .k) (p .0) (p .1) (p .2) (a .how) (a .rising) (p .3) (p .4) (a .n)
-    (c .before .a2 .given .1) (c .before .before .before .find .ensures) in
+    (c .before .a .given .1) (c .before .before .before .find .ensures) in
     (le-trans few (lit≤ tt), omega (arith, below, few))
 
 place-of-requires : tie.Need-place-of-requires
 place-of-requires c κs = search needs
-
-returns : tie.Need-returns
-returns c =
-    λ ev l.
-    let a = c .before .before .before .before .before .args in
-    off-kept (parameterOf (a .k)) (find (trial (ruleOf (a .how)) (segmentOf (a .b) (a .knots .now)) (a .y) (a .precision) (a .limit)) (a .y) (a .rising) (a .k) ev)
-    (c .before .a .given .1) (c .before .before .before .find .ensures ev l)
 
 returns-2 : tie.Need-returns-2
 returns-2 c =
@@ -59,7 +62,7 @@ returns-2 c =
     let a = c .before .before .before .before .before .before .before .args in
     with-parameter (parameterOf (a .k))
     (find (trial (ruleOf (a .how)) (segmentOf (a .b) (a .knots .now)) (a .y) (a .precision) (a .limit)) (a .y) (a .rising) (a .k) ev)
-    (c .before .before .before .a2 .given .1) (c .before .before .before .before .before .find .ensures ev l) (c .before .parameter .ensures)
+    (c .before .before .before .a .given .1) (c .before .before .before .before .before .find .ensures ev l) (c .before .parameter .ensures)
     (c .place-of .ensures)
 
 pub searched-spec : {M : Type 1} → statement M
@@ -68,9 +71,10 @@ searched-spec =
     (tie.spec
     find-requires
     enum-known-a
+    enum-told
+    count-of-requires
     cast
-    enum-known-a-2
+    returns
     parameter-requires
     place-of-requires
-    returns
     returns-2)
