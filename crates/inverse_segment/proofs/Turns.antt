@@ -1,7 +1,7 @@
 -- A round, the rounds and the segment, by what the code's calls give. Assumes nothing.
 use mathlib.Core.Path.{_≡_, refl, sym, ap, _∙_}
 use mathlib.Core.List.{_∷_}
-use mathlib.Core.Bool.{Bool, true, false, cond, _&&_, Bool·beq}
+use mathlib.Core.Bool.{Bool, true, false, _&&_, Bool·beq}
 use Prim.Native.Nat.{ℕ, zero, suc, _+_, _-_, _*_, _/_, _<_, _≤_}
 use native.Mathlib.Numerals.{add-one}
 use native.Mathlib.Omega.{arith}
@@ -20,7 +20,7 @@ use Rattle.inverse_segment.specs.declared.Turned.the-variants.{Done, Nex
 use Rattle.inverse_segment.specs.declared.Stop.{Stop}
 use Rattle.inverse_segment.specs.Evaluations.{Evaluations}
 use Rattle.inverse_segment.specs.Round.{Weighting, Rule, chord, midpoint, narrow, falsi, weighed, fraction, moved, Turn, found, on, settled, probed, turn}
-use Rattle.inverse_segment.specs.Rounds.{Placed, rounds}
+use Rattle.inverse_segment.specs.Rounds.{rounds}
 use Rattle.inverse_segment.specs.Segment.{near, opening, start, entered}
 use Rattle.inverse_segment.specs.Shown.{shown, stopAt, stopOf}
 
@@ -86,7 +86,8 @@ next-of (found g x b ev) st k e = never (cc)
 next-of (on st' ev) st k e = let p : st ≡ st' = cc in let q : length ev ≡ k = cc in (ev, (ap (λ (z : State). on z ev) (sym p)), q)
 
 module _ (R : Rule) (f : Float → Float) (y ε : Float) (rising : Bool) (limit : ℕ) where
-  stop-of : (s n i : ℕ) (t : Turn) {g : Ground} {x : Float} {b : Bracket} {k : ℕ} → Done g x b k ≡ shown t → stopAt g x b k ≡ stopAfter R f s y ε rising limit n i t
+  stop-of : (s n i : ℕ) (t : Turn) {g : Ground} {x : Float} {b : Bracket} {k : ℕ} → Done g x b k ≡ shown t
+      → stopAt g x b k ≡ stopAfter R f s y ε rising limit n i t
   unfolding rounds
   stop-of s zero i (found g' x' b' ev) {g} {x} {b} {k} e = let p : g ≡ g' = cc in let q : x ≡ x' = cc in let r : b ≡ b' = cc in let w : k ≡ length ev = cc
       in rw (p, q, r, w)
@@ -121,7 +122,8 @@ module _ (R : Rule) (f : Float → Float) (y ε : Float) (rising : Bool) (limit 
           let r = l s ev k in
           let t = turn R f s y ε rising limit i st (r .0) in
           let q = next-of t st' m' (sym d ∙ e s (r .0) (r .1)) in
-          (q .0, q .2, r .2 ∙ one-more s (limit - (i + 1)) i st (r .0) h refl ∙ ap (λ (z : Turn). stopAfter R f s y ε rising limit (limit - (i + 1)) (i + 1) z) (q .1))
+          let again = ap (λ (z : Turn). stopAfter R f s y ε rising limit (limit - (i + 1)) (i + 1) z) (q .1) in
+          (q .0, q .2, r .2 ∙ one-more s (limit - (i + 1)) i st (r .0) h refl ∙ again)
 
       pub led-done : {g : Ground} {x : Float} {b : Bracket} {m' : ℕ} → res ≡ Done g x b m'
           → (s : ℕ) (ev : Evaluations) → length ev ≡ n → stopAt g x b m' ≡ stopAfter R f s y ε rising limit limit 0 (on first ev)

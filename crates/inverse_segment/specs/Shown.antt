@@ -45,7 +45,16 @@ stopOf p = record { ground = p .ground; local = p .local; lower = p .lower; uppe
 
 -- the place that a stop in segment s is, with its parameter
 abbrev pub placeAt : Float → ℕ → Stop → Place
-placeAt x s e = record { parameter = x; ground = e .ground; segment = s; local = e .local; lower = e .lower; upper = e .upper; count = e .count }
+placeAt x s e =
+    record {
+      parameter = x;
+      ground = e .ground;
+      segment = s;
+      local = e .local;
+      lower = e .lower;
+      upper = e .upper;
+      count = e .count;
+    }
 
 -- what is kept of a segment: its row sums, and the values of both its ends
 abbrev pub keptOf : Weights → List Float

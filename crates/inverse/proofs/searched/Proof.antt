@@ -40,7 +40,8 @@ returns : tie.Need-returns
 returns c =
     λ ev l.
     let a = c .before .before .before .before .before .args in
-    off-kept (parameterOf (a .k)) (find (trial (ruleOf (a .how)) (segmentOf (a .b) (a .knots .now)) (a .y) (a .precision) (a .limit)) (a .y) (a .rising) (a .k) ev)
+    off-kept (parameterOf (a .k))
+    (find (trial (ruleOf (a .how)) (segmentOf (a .b) (a .knots .now)) (a .y) (a .precision) (a .limit)) (a .y) (a .rising) (a .k) ev)
     (c .before .enum-told .given .1) (c .before .before .before .find .ensures ev l) (c .count-of .ensures)
 
 parameter-requires : tie.Need-parameter-requires

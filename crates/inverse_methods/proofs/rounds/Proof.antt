@@ -48,7 +48,8 @@ stopped-requires c κs = search needs
 returns : tie.Need-returns Inv-loop μ-loop
 returns c =
     λ s ev k. c .stopped .ensures
-    ∙ led-done steady (hornerOf (c .before .before .before .before .before .before .before .args .w)) (c .before .before .before .before .before .before .before .args .y)
+    ∙ led-done steady (hornerOf (c .before .before .before .before .before .before .before .args .w))
+    (c .before .before .before .before .before .before .before .args .y)
     (c .before .before .before .before .before .before .before .args .precision)
     (c .before .before .before .before .before .before .before .args .rising)
     (c .before .before .before .before .before .before .before .args .limit)

@@ -126,7 +126,8 @@ returns-2 : tie.Need-returns-2 Inv-loop μ-loop
 unfolding ofBits
 returns-2 c =
     λ s ev k. c .stopped2 .ensures
-    ∙ led-spent (chordOf (c .before .before .before .before .before .args .m)) (hornerOf (c .before .before .before .before .before .args .w)) (c .before .before .before .before .before .args .y)
+    ∙ led-spent (chordOf (c .before .before .before .before .before .args .m)) (hornerOf (c .before .before .before .before .before .args .w))
+    (c .before .before .before .before .before .args .y)
     (c .before .before .before .before .before .args .precision) (c .before .before .before .before .before .args .rising)
     (c .before .before .before .before .before .args .limit) (start (c .before .before .before .before .before .args .first))
     (c .before .before .before .before .before .args .n) (c .before .before .before .before .loop .i)
