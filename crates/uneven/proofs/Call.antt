@@ -138,6 +138,12 @@ module _ (tb : Basis) (ts : List Float) (db : Basis) (ds : List Float) (y : Floa
       let proper : Proper p = subst (AtPlace Proper) f (inverse-proper Knots AsCrate tb y ts true limit ε) in
       ap (λ (v : Verdict). evaluated v (curveValue db (p .parameter) ds)) (passes e (p .parameter) (number-of (p .parameter) (proper .parameter)))
 
+  -- so the depths need no second test: their value stands for the evaluation's answer
+  pub untested : verdict ≡ Passed → (a : Inverted) → a ≡ place → suited a (λ x. Value (curveValue db x ds)) ≡ suited a (λ x. splineOf db x ds)
+  untested e (NotInverted r) f = refl
+  untested e (Off n) f = refl
+  untested e (Found p) f = ap (depthAt p) (sym (depth-told e p (sym f)))
+
   -- ---- a table that refuses
   no-row : timesPass → (q : Refusal) → place ≡ NotInverted q → ⊥
   no-row e q f = let g = first-complete rows (inverseUses tb y ts true limit ε) q (inverse-refused-only Knots AsCrate tb y ts true limit ε q f) in

@@ -4,7 +4,7 @@ use mathlib.Core.Bool.{Bool, true, false, cond}
 use mathlib.Core.List.{List, [], _∷_}
 use Prim.Native.Nat.{ℕ, _+_, _-_, _*_, _/_, _≤_, _<_}
 use native.Mathlib.Omega.{arith}
-use borrow.Author.Tests.{eq-eqb, ne-eqb}
+use borrow.Author.Tests.{eq-eqb, ne-eqb, ltb-false}
 use lib.Dec.{eqb, leb}
 use lib.ListN.{length}
 use lib.Ieee.{Float}
@@ -13,12 +13,15 @@ use Rattle.error.specs.declared.Refusal.the-variants.{UnequalSegments}
 use Rattle.error.specs.declared.Verdict.{Verdict}
 use Rattle.error.specs.declared.Verdict.the-variants.{Passed, Failed}
 use Rattle.error.specs.Refusals.{firstOf, first}
-use Rattle.error.proofs.First.{through, after, otherRows, stops-in, goes-past, stops, goes-on}
+use Rattle.error.proofs.First.{through, after, otherRows, stops-in, goes-past, stops, goes-on, clear}
 use Rattle.basis.specs.declared.Basis.{Basis}
 use Rattle.basis.specs.Basis.{stepOf, segmentsOf}
 use Rattle.checks.specs.Checks.{curveLength, badKnot}
+use Rattle.spline.specs.declared.Evaluated.the-variants.{Value}
 use Rattle.spline.specs.Evaluation.{splineOf}
+use Rattle.inverse_segment.specs.declared.Place.{Place}
 use Rattle.inverse_segment.specs.declared.Inverted.{Inverted}
+use Rattle.inverse_segment.specs.declared.Inverted.the-variants.{At as Found}
 use Rattle.inverse_segment.specs.Answer.{countTold}
 use Rattle.inverse_methods.specs.declared.Method.the-variants.{AsCrate}
 use Rattle.inverse_search.specs.Bound.{bitsOf, boundOf}
@@ -26,7 +29,7 @@ use Rattle.inverse.specs.declared.EndsBy.the-variants.{Knots}
 use Rattle.inverse.specs.Inverse.{inverseOf}
 use Rattle.inverse.proofs.Promises.{inverse-bounded}
 use Rattle.uneven.specs.declared.Sounded.{Sounded}
-use Rattle.uneven.specs.Uneven.{depthUses, sounded, depthOf}
+use Rattle.uneven.specs.Uneven.{depthUses, depthAt, suited, sounded, depthOf}
 
 -- ---- the depths' rows
 -- those past the lengths: up to that of the knots, and behind it
@@ -58,6 +61,10 @@ module _ (tb : Basis) (n : ℕ) (db : Basis) (ds : List Float) {l : Verdict} (e 
           let t : eqb (segmentsOf tb n) (segmentsOf db (length ds)) ≡ false = ne-eqb _ _ (λ h. s (p ∙ h ∙ sym q)) in
           behind (simp t)
 
+-- where none applies, the depths are as many as a curve may have
+pub long-enough : (tb : Basis) (n : ℕ) (db : Basis) (ds : List Float) → first (depthUses tb n db ds) ≡ Passed → (4 ≤ length ds) × (length ds ≤ 4096)
+long-enough tb n db ds e = let c = clear (depthUses tb n db ds) e in (ltb-false (length ds) 4 (c 1), ltb-false 4096 (length ds) (c 3))
+
 -- ---- the counts
 pub short-count : (b : Basis) (n : ℕ) → n < 4 → segmentsOf b 4 ≡ segmentsOf b n
 short-count b n h = let q : 0 ≡ n - 4 = omega arith in ap (λ (m : ℕ). m / stepOf b + 1) q
@@ -79,6 +86,11 @@ room b y ks limit ε {a} l e =
     omega (arith, ap countTold e, inverse-bounded Knots AsCrate b y ks true limit ε, bound-small (segmentsOf b (length ks)) limit)
 
 -- ---- the answer
+-- at a place, from the value there
+pub value-told : {a : Inverted} {p : Place} {d : Float} (f : Float → Float) → a ≡ Found p → d ≡ f (p .parameter)
+    → depthAt p (Value d) ≡ suited a (λ x. Value (f x))
+value-told {p = p} f e h = ap (λ (v : Float). depthAt p (Value v)) h ∙ sym (ap (λ (i : Inverted). suited i (λ x. Value (f x))) e)
+
 pub answered : (tb db : Basis) (ts ds : List Float) (y : Float) (limit : ℕ) (ε : Float) {a : Inverted} {v w : Verdict} {r : Sounded} → a ≡ inverseOf
     tb y ts true limit ε → v ≡ first (depthUses tb (length ts) db ds) → v ≡ w
     → r ≡ sounded w a (λ x. splineOf db x ds) → r ≡ depthOf tb ts db ds y limit ε

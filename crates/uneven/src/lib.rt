@@ -1,16 +1,16 @@
 // A curve over uneven times: a table of times is inverted, and a table of depths evaluated there. Rust: the example of src/lib.rs.
 ghost use mathlib.Core.Path.{_≡_};
-ghost use Prim.Native.Nat.{_<_};
+ghost use Prim.Native.Nat.{_≤_, _<_};
 ghost use lib.ListN.{length};
-ghost use Rattle.spline.specs.Evaluation.{splineOf};
+ghost use Rattle.spline.specs.declared.Evaluated.the-variants.{Value};
+ghost use Rattle.spline.specs.Curve.{curveValue};
 ghost use Rattle.inverse_segment.specs.Answer.{countTold};
-ghost use Rattle.uneven.specs.Uneven.{depthAt, suited, unsuited, depthOf};
+ghost use Rattle.uneven.specs.Uneven.{suited, unsuited, depthOf};
 use basis::Basis;
 use error::Refusal;
 use error::Verdict;
 use inverse_segment::Inverted;
 use inverse_segment::Place;
-use spline::Evaluated;
 
 pub mod refusals;
 
@@ -34,29 +34,19 @@ pub enum Sounded {
     At(Depth),
 }
 
-fn depth_told(p: Place, e: Evaluated) -> Sounded
-    requires { ⌜ p .count < 4294967295 ⌝ }
-    ensures { λ r. ⌜ r ≡ depthAt p e ⌝ }
-{
-    match e {
-        Evaluated::Value(d) => Sounded::At(Depth {
-            depth: d,
-            place: p,
-            count: p.count + 1,
-        }),
-        Evaluated::Refused(r) => Sounded::Refused(Named::Depths, r),
-    }
-}
-
-// The reply where nothing is refused of the depths.
+// Where no row of the depths applies: so they are not tested a second time.
 fn suited(a: Inverted, db: Basis, depths: &[f64]) -> Sounded
-    requires { ⌜ countTold a < 4294967295 ⌝ }
-    ensures { λ r. ⌜ r ≡ suited a (λ x. splineOf db x (now (depths .entry))) ⌝ }
+    requires { ⌜ (countTold a < 4294967295) × (4 ≤ length (now depths)) × (length (now depths) ≤ 4096) ⌝ }
+    ensures { λ r. ⌜ r ≡ suited a (λ x. Value (curveValue db x (now (depths .entry)))) ⌝ }
 {
     match a {
         Inverted::Refused(r) => Sounded::Refused(Named::Times, r),
         Inverted::OffCurve(n) => Sounded::OffCurve(n),
-        Inverted::At(p) => depth_told(p, spline::spline(db, p.parameter, depths)),
+        Inverted::At(p) => Sounded::At(Depth {
+            depth: spline::curve::value_at(db, p.parameter, depths),
+            place: p,
+            count: p.count + 1,
+        }),
     }
 }
 

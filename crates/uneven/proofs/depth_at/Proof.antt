@@ -1,5 +1,8 @@
--- By the depths' verdict. Assumes nothing.
-use Rattle.uneven.proofs.Cases.{room, answered}
+-- By the depths' verdict; where it passed, their value is what their evaluation answers (`untested`). Assumes nothing.
+use mathlib.Core.Path.{sym, _∙_}
+use lib.ListN.{length}
+use Rattle.uneven.proofs.Cases.{long-enough, room, answered}
+use Rattle.uneven.proofs.Call.{untested}
 use borrow.Author.Needs.{needs}
 use Rattle.uneven.proofs.depth_at.Statement.{statement}
 use Rattle.uneven.proofs.depth_at.Tie as tie
@@ -21,9 +24,15 @@ enum-told c = search needs
 
 suited-requires : tie.Need-suited-requires
 suited-requires c κs =
-    let a = c .before .before .before .before .before .before .args in
-    room (a .tb) (a .y) (a .times .now) (a .limit) (a .precision) (c .before .before .before .before .before .before .fits .limit .fits)
-    (c .before .before .before .spline-inverse-with .ensures)
+    let o = c .before .before .before .before .before .before in
+    let a = o .args in
+    let h =
+    long-enough (a .tb) (length (a .times .now)) (a .db) (a .depths .now)
+    (sym (c .before .before .depths-verdict .ensures) ∙ c .enum-told .given .1) in (
+      room (a .tb) (a .y) (a .times .now) (a .limit) (a .precision) (o .fits .limit .fits) (c .before .before .before .spline-inverse-with .ensures),
+      h .0,
+      h .1,
+    )
 
 returns : tie.Need-returns
 returns c =
@@ -35,9 +44,11 @@ returns c =
 returns-2 : tie.Need-returns-2
 returns-2 c =
     let a = c .before .before .before .before .before .before .before .args in
-    answered (a .tb) (a .db) (a .times .now) (a .depths .now) (a .y) (a .limit) (a .precision)
-    (c .before .before .before .before .spline-inverse-with .ensures) (c .before .before .before .depths-verdict .ensures)
-    (c .before .enum-told .given .1) (c .suited .ensures)
+    let i = c .before .before .before .before .spline-inverse-with .ensures in
+    let v = c .before .before .before .depths-verdict .ensures in
+    let t = c .before .enum-told .given .1 in
+    answered (a .tb) (a .db) (a .times .now) (a .depths .now) (a .y) (a .limit) (a .precision) i v t
+    (c .suited .ensures ∙ untested (a .tb) (a .times .now) (a .db) (a .depths .now) (a .y) (a .limit) (a .precision) (sym v ∙ t) _ i)
 
 pub depth-at-spec : {M : Type 1} → statement M
 depth-at-spec =
