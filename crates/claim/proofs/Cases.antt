@@ -22,8 +22,8 @@ use Rattle.checks.specs.Checks.{curveLength, precise, badKnot}
 use Rattle.spline.specs.Segment.{segmentValue, segmentOf}
 use Rattle.spline.proofs.Parts.{rest, inside}
 use Rattle.inverse_segment.specs.Segment.{near}
-use Rattle.claim.specs.declared.Claimed.{Claimed}
-use Rattle.claim.specs.declared.Claimed.the-variants.{Refused, Holds, Differs}
+use Rattle.claim.specs.declared.ClaimAnswer.{ClaimAnswer}
+use Rattle.claim.specs.declared.ClaimAnswer.the-variants.{Refused, Holds, Differs}
 use Rattle.claim.specs.Claim.{claimUses, accepts, claimOf}
 
 -- ---- the rows

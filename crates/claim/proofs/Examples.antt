@@ -12,8 +12,8 @@ use Rattle.doubles.specs.Numbers.{nought, half, magnitudeOf}
 use Rattle.doubles.specs.Lerp.{lerpOf}
 use Rattle.checks.specs.Checks.{inRange, allInRange, precise}
 use Rattle.inverse_segment.specs.declared.Ground.the-variants.{End, Width}
-use Rattle.inverse_segment.specs.declared.Inverted.the-variants.{At}
-use Rattle.inverse_segment.specs.Round.{narrow, halving, weighed, chord, kept, fraction, moved, settled, probed, turn}
+use Rattle.inverse_segment.specs.declared.Inversion.the-variants.{At}
+use Rattle.inverse_segment.specs.Round.{narrow, halving, weighed, chord, kept, fraction, moved, settled, probed, roundOf}
 use Rattle.inverse_segment.specs.Rounds.{rounds}
 use Rattle.inverse_segment.specs.Segment.{entered, enter}
 use Rattle.inverse_segment.specs.Answer.{defaultLimit, defaultPrecision}
@@ -21,7 +21,7 @@ use Rattle.inverse_search.specs.Search.{tries, last, halve, find}
 use Rattle.inverse.specs.Order.{ordered}
 use Rattle.inverse.specs.Curve.{parameterOf, located}
 use Rattle.inverse.specs.Inverse.{inverseBy, inverseOf}
-use Rattle.claim.specs.declared.Claimed.the-variants.{Differs}
+use Rattle.claim.specs.declared.ClaimAnswer.the-variants.{Differs}
 use Rattle.claim.specs.Claim.{claimOf}
 
 abbrev eighth : Float
@@ -42,7 +42,7 @@ pub width-fails : (inverseOf Bezier four steep true defaultLimit half ≡ At
     (record { parameter = eighth; ground = Width; segment = 0; local = eighth; lower = nought; upper = quarter; count = 3 }))
     × (claimOf Bezier four 0 eighth half steep ≡ Differs)
 unfolding steep matrixOf row frac round ofInt ofBits add sub mul div lt le eq ne neg isNan inRange allInRange precise ordered magnitudeOf lerpOf narrow
-    halving weighed chord kept fraction moved settled probed turn rounds entered enter tries last halve find parameterOf located inverseBy claimOf
+    halving weighed chord kept fraction moved settled probed roundOf rounds entered enter tries last halve find parameterOf located inverseBy claimOf
 width-fails = (refl, refl)
 
 -- 0, 0, 6, 12

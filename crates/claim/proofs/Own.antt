@@ -29,8 +29,8 @@ use Rattle.checks.specs.Checks.{allInRange, precise}
 use Rattle.inverse_segment.specs.declared.Ground.{Ground}
 use Rattle.inverse_segment.specs.declared.Ground.the-variants.{End, Edge, Value, Width, Spent}
 use Rattle.inverse_segment.specs.declared.Place.{Place}
-use Rattle.inverse_segment.specs.declared.Inverted.{Inverted}
-use Rattle.inverse_segment.specs.declared.Inverted.the-variants as I
+use Rattle.inverse_segment.specs.declared.Inversion.{Inversion}
+use Rattle.inverse_segment.specs.declared.Inversion.the-variants as I
 use Rattle.inverse_segment.specs.Segment.{near}
 use Rattle.inverse_segment.specs.Answer.{inverted, answered, alone, inverseSegmentUses, inverseSegmentBy}
 use Rattle.inverse_segment.proofs.Enclosing.{Says, Sound}
@@ -43,10 +43,10 @@ use Rattle.inverse.specs.declared.EndsBy.{EndsBy}
 use Rattle.inverse.specs.Inverse.{inverseUses, inverseBy}
 use Rattle.inverse.proofs.Facts.{AtPlace, Proper, Enclosing, Enclosed, GroundSays}
 use Rattle.inverse.proofs.Promises.{inverse-proper, inverse-enclosed, inverse-ground, here, rule, k}
-use Rattle.claim.specs.declared.Claimed.{Claimed}
-use Rattle.claim.specs.declared.Claimed.the-variants.{Refused, Holds, Differs}
+use Rattle.claim.specs.declared.ClaimAnswer.{ClaimAnswer}
+use Rattle.claim.specs.declared.ClaimAnswer.the-variants.{Refused, Holds, Differs}
 use Rattle.claim.specs.Claim.{claimUses, accepts, claimed, claimOf}
-use Rattle.claim.proofs.Swap.{difference-turned}
+use Rattle.claim.proofs.Swap.{difference-swapped}
 use Rattle.claim.proofs.Twice.{twice-le, lt-le-trans}
 
 -- ---- when a claim is accepted
@@ -79,7 +79,7 @@ module _ (b : Basis) (y : Float) (s : ℕ) (x ε : Float) (ks : List Float) wher
           record {
             passed = e;
             place = record { low = and-l (le nought x) (le x one) i; high = and-r (le nought x) (le x one) i };
-            close = subst T (difference-turned y v (mul binary64 two ε)) (and-r (le nought x && le x one) (near y v ε) a);
+            close = subst T (difference-swapped y v (mul binary64 two ε)) (and-r (le nought x && le x one) (near y v ε) a);
           }
       go Passed e false f h = never (cc)
       go (Failed r) e t f h = never (cc)
@@ -88,7 +88,7 @@ module _ (b : Basis) (y : Float) (s : ℕ) (x ε : Float) (ks : List Float) wher
   pub holds-where : Accepted b y s x ε ks → claimOf b y s x ε ks ≡ Holds
   unfolding claimOf
   holds-where a =
-      let c : T (near y v ε) = subst T (difference-turned v y (mul binary64 two ε)) (a .close) in
+      let c : T (near y v ε) = subst T (difference-swapped v y (mul binary64 two ε)) (a .close) in
       let t : accepts y x v ε ≡ true =
       true-of (accepts y x v ε) (and-i (le nought x && le x one) (near y v ε) (and-i (le nought x) (le x one) (a .place .low) (a .place .high)) c) in
       rw (a .passed, t)
@@ -123,7 +123,7 @@ module _ (f : Float → Float) (y ε x : Float) where
   Close = T (lt (magnitudeOf (sub binary64 (f x) y)) (mul binary64 two ε))
 
   close-of : T (near y (f x) ε) → Close
-  close-of h = subst T (difference-turned y (f x) (mul binary64 two ε)) h
+  close-of h = subst T (difference-swapped y (f x) (mul binary64 two ε)) h
 
   edge-close : ((x ≡ nought) × T (near y (f nought) ε)) ⊎ ((x ≡ one) × T (not (near y (f nought) ε)) × T (near y (f one) ε)) → Close
   edge-close h =
@@ -152,7 +152,7 @@ module _ (b : Basis) (y : Float) (s : ℕ) (x ε : Float) (ks : List Float) wher
       simp (few, pattern, many, number, local, sure, segment, tame)
 
 -- where a place is told, no row applied
-place-passes : (v : Verdict) (a : Inverted) (p : Place) → inverted v a ≡ I.At p → v ≡ Passed
+place-passes : (v : Verdict) (a : Inversion) (p : Place) → inverted v a ≡ I.At p → v ≡ Passed
 place-passes Passed a p h = refl
 place-passes (Failed r) a p h = never (cc)
 

@@ -16,8 +16,8 @@ use Rattle.doubles.specs.Numbers.{nought, one}
 use Rattle.checks.specs.Checks.{curveLength, precise, badKnot}
 use Rattle.spline.specs.Segment.{segmentOf}
 use Rattle.inverse_segment.specs.Segment.{near}
-use Rattle.claim.specs.declared.Claimed.{Claimed}
-use Rattle.claim.specs.declared.Claimed.the-variants.{Refused, Holds, Differs}
+use Rattle.claim.specs.declared.ClaimAnswer.{ClaimAnswer}
+use Rattle.claim.specs.declared.ClaimAnswer.the-variants.{Refused, Holds, Differs}
 
 -- the table's length; target or local place no number; the precision; the segment not below the number of segments; the knots
 abbrev pub claimUses : Basis → Float → ℕ → Float → Float → List Float → Uses
@@ -30,9 +30,9 @@ claimUses b y s x ε ks =
 abbrev pub accepts : Float → Float → Float → Float → Bool
 accepts y x v ε = le nought x && le x one && near y v ε
 
-abbrev pub claimed : Verdict → Bool → Claimed
+abbrev pub claimed : Verdict → Bool → ClaimAnswer
 claimed Passed t = cond t Holds Differs
 claimed (Failed r) t = Refused r
 
-unfoldable pub claimOf : Basis → Float → ℕ → Float → Float → List Float → Claimed
+unfoldable pub claimOf : Basis → Float → ℕ → Float → Float → List Float → ClaimAnswer
 claimOf b y s x ε ks = claimed (first (claimUses b y s x ε ks)) (accepts y x (segmentOf b ks s x) ε)

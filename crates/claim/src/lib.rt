@@ -12,7 +12,7 @@ use error::Verdict;
 pub mod refusals;
 
 // What checking a claim comes to: refused by a row of the table, or it holds, or the value differs from the target.
-pub enum Claimed {
+pub enum ClaimAnswer {
     Refused(Refusal),
     Holds,
     Differs,
@@ -35,17 +35,17 @@ fn is_accepted(b: Basis, y: f64, s: usize, x: f64, precision: f64, knots: &[f64]
 }
 
 // Whether segment s of the curve, at the local place x, is within twice the precision of y.
-pub fn check_claim(b: Basis, y: f64, s: usize, x: f64, precision: f64, knots: &[f64]) -> Claimed
+pub fn check_claim(b: Basis, y: f64, s: usize, x: f64, precision: f64, knots: &[f64]) -> ClaimAnswer
     ensures { λ r. ⌜ r ≡ claimOf b y s x precision (now (knots .entry)) ⌝ }
 {
     let v = refusals::verdict(b, y, s, x, precision, knots);
     match v {
-        Verdict::Failed(r) => Claimed::Refused(r),
+        Verdict::Failed(r) => ClaimAnswer::Refused(r),
         Verdict::Passed => {
             if is_accepted(b, y, s, x, precision, knots) {
-                Claimed::Holds
+                ClaimAnswer::Holds
             } else {
-                Claimed::Differs
+                ClaimAnswer::Differs
             }
         }
     }

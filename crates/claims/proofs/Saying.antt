@@ -10,7 +10,7 @@ use lib.Dec.{ltb}
 use lib.ListN.{length, take, drop, length-drop}
 use lib.Seq.{take-all}
 use lib.Ieee.{Float}
-use Rattle.claim.specs.declared.Claimed.{Claimed}
+use Rattle.claim.specs.declared.ClaimAnswer.{ClaimAnswer}
 use Rattle.claim.specs.Claim.{claimOf}
 use Rattle.text.specs.Text.{bytes, same, fieldsOf, tabOf, hexOf}
 use Rattle.text.specs.Wrote.{Wrote}
@@ -24,9 +24,9 @@ use Rattle.lines_answer.specs.Answer.{Curve, on, replyTo, afterOf}
 use Rattle.table.specs.declared.Table.{Table}
 use Rattle.inverse.specs.declared.EndsBy.{EndsBy}
 use Rattle.lines_machine.specs.Program.{widest, Line}
-use Rattle.lines_machine.specs.Held.{openOf}
-use Rattle.claims.specs.declared.Said.{Said}
-use Rattle.claims.specs.declared.Said.the-variants.{Listed, Claim}
+use Rattle.lines_machine.specs.Contract.{openOf}
+use Rattle.claims.specs.declared.ClaimRecord.{ClaimRecord}
+use Rattle.claims.specs.declared.ClaimRecord.the-variants.{Listed, Claim}
 use Rattle.claims.specs.Claims.{ofTable, claimWith, claimIn, saidIn, says, claimText, checkText, tellsOf, leavesOf, claimsProgram}
 
 -- the field before the first tab, at t, and those after it
@@ -66,7 +66,7 @@ five-fields y s x l h = rw (fields-more l h) (fifth y s x (take (tabOf l) l) _)
 
 -- ---- a line: the word `claim` before its first tab, another, or no tab
 module _ (t : ℕ) (l : List ℕ) (e : t ≡ tabOf l) (h : t < length l) where
-  pub with-word : same (take (t - 0) l) (bytes "claim") ≡ true → {r : Said} → r ≡ claimIn (fieldsOf (take (length l - (t + 1)) (drop (t + 1) l)))
+  pub with-word : same (take (t - 0) l) (bytes "claim") ≡ true → {r : ClaimRecord} → r ≡ claimIn (fieldsOf (take (length l - (t + 1)) (drop (t + 1) l)))
       → r ≡ saidIn (fieldsOf l)
   unfolding saidIn
   with-word w f = f ∙ rw (parted t l e h, w) refl
@@ -92,7 +92,7 @@ unfolding says
 said-over n line h = rw (lt-leb n widest h) refl
 
 -- ---- what a line gets
-module _ (c : Curve) (o : Line) {m : Said} (e : m ≡ says o) where
+module _ (c : Curve) (o : Line) {m : ClaimRecord} (e : m ≡ says o) where
   module _ {r : Record} (l : m ≡ Listed r) where
     pub listed-leaves : {d : Curve} → d ≡ afterOf c r → d ≡ claimsProgram .after c o
     unfolding leavesOf
@@ -101,7 +101,7 @@ module _ (c : Curve) (o : Line) {m : Said} (e : m ≡ says o) where
     pub listed-wrote : {out : List ℕ} {at : ℕ} {out′ : List ℕ} {next : ℕ} → Wrote out at (textOf (replyTo c r)) out′ next
         → Wrote out at (claimsProgram .tells c o) out′ next
     unfolding tellsOf
-    listed-wrote {out} {at} {out′} {next} w = subst (λ (q : Said). Wrote out at (tellsOf c q) out′ next) (sym l ∙ e) w
+    listed-wrote {out} {at} {out′} {next} w = subst (λ (q : ClaimRecord). Wrote out at (tellsOf c q) out′ next) (sym l ∙ e) w
 
   module _ {y x ε : Float} {s : ℕ} (l : m ≡ Claim y s x ε) where
     pub claim-leaves : c ≡ claimsProgram .after c o
@@ -111,14 +111,14 @@ module _ (c : Curve) (o : Line) {m : Said} (e : m ≡ says o) where
     pub claim-wrote : {out : List ℕ} {at : ℕ} {out′ : List ℕ} {next : ℕ} → Wrote out at (checkText c y s x ε) out′ next
         → Wrote out at (claimsProgram .tells c o) out′ next
     unfolding tellsOf
-    claim-wrote {out} {at} {out′} {next} w = subst (λ (q : Said). Wrote out at (tellsOf c q) out′ next) (sym l ∙ e) w
+    claim-wrote {out} {at} {out′} {next} w = subst (λ (q : ClaimRecord). Wrote out at (tellsOf c q) out′ next) (sym l ∙ e) w
 
 -- ---- a claim upon the first n knots of a table
-pub on-table : (t : Table) (m : EndsBy) (n : ℕ) (table : List Float) (y : Float) (s : ℕ) (x ε : Float) {q : Claimed}
+pub on-table : (t : Table) (m : EndsBy) (n : ℕ) (table : List Float) (y : Float) (s : ℕ) (x ε : Float) {q : ClaimAnswer}
     → q ≡ claimOf (t .basis) y s x ε (take (n - 0) table)
     → {out : List ℕ} {at : ℕ} {out′ : List ℕ} {next : ℕ} → Wrote out at (claimText q) out′ next
     → Wrote out at (checkText (on t m (take n table)) y s x ε) out′ next
 unfolding checkText
 on-table t m n table y s x ε e {out} {at} {out′} {next} w =
     let z : n - 0 ≡ n = omega arith in
-    subst (λ (q : Claimed). Wrote out at (claimText q) out′ next) (e ∙ ap (λ (i : ℕ). claimOf (t .basis) y s x ε (take i table)) z) w
+    subst (λ (q : ClaimAnswer). Wrote out at (claimText q) out′ next) (e ∙ ap (λ (i : ℕ). claimOf (t .basis) y s x ε (take i table)) z) w

@@ -4,23 +4,23 @@ ghost use mathlib.Core.List.{_∷_};
 ghost use Prim.Native.Nat.{_+_, _≤_};
 ghost use lib.ListN.{length};
 ghost use Rattle.lines_answer.specs.Answer.{places};
-ghost use Rattle.lines_answer.specs.Held.{curveOf, countOf};
-ghost use Rattle.lines_reply.specs.Told.{longest};
+ghost use Rattle.lines_answer.specs.Contract.{curveOf, countOf};
+ghost use Rattle.lines_reply.specs.Contract.{longest};
 ghost use Rattle.text.specs.Text.{fieldsOf, hexOf};
 ghost use Rattle.text.specs.Wrote.{Wrote};
 ghost use Rattle.text_decimals.specs.Decimals.{numberIn};
 ghost use Rattle.lines_machine.specs.Program.{widest};
-ghost use Rattle.lines_machine.specs.Held.{openOf};
+ghost use Rattle.lines_machine.specs.Contract.{openOf};
 ghost use Rattle.claims.specs.Claims.{ofTable, claimWith, claimIn, saidIn, says, claimText, checkText, claimsProgram};
-use claim::Claimed;
+use claim::ClaimAnswer;
 use error::Refusal;
-use lines::Lined;
-use lines_answer::Held;
+use lines::LineResult;
+use lines_answer::Session;
 use lines_record::Record;
-use text::Hexed;
+use text::HexNumber;
 
 // What a line says: a record of a listing, or a claim: a target, a segment, a local place and a precision.
-pub enum Said {
+pub enum ClaimRecord {
     Listed(Record),
     Claim(f64, usize, f64, f64),
 }
@@ -42,23 +42,23 @@ fn of_table(r: Record) -> Record
 }
 
 // The claim of its four fields.
-fn claim_with(y: &[u8], s: &[u8], x: &[u8], e: &[u8]) -> Said
+fn claim_with(y: &[u8], s: &[u8], x: &[u8], e: &[u8]) -> ClaimRecord
     ensures { λ r. ⌜ r ≡ claimWith (hexOf (now (y .entry))) (numberIn 4 (now (s .entry))) (hexOf (now (x .entry)))
         (hexOf (now (e .entry))) ⌝ }
 {
-    let Hexed::Is(target) = text::hex(y) else {
-        return Said::Listed(Record::Bad);
+    let HexNumber::Is(target) = text::hex(y) else {
+        return ClaimRecord::Listed(Record::Bad);
     };
-    let Hexed::Is(segment) = text_decimals::number_in(s, 4) else {
-        return Said::Listed(Record::Bad);
+    let HexNumber::Is(segment) = text_decimals::number_in(s, 4) else {
+        return ClaimRecord::Listed(Record::Bad);
     };
-    let Hexed::Is(place) = text::hex(x) else {
-        return Said::Listed(Record::Bad);
+    let HexNumber::Is(place) = text::hex(x) else {
+        return ClaimRecord::Listed(Record::Bad);
     };
-    let Hexed::Is(precision) = text::hex(e) else {
-        return Said::Listed(Record::Bad);
+    let HexNumber::Is(precision) = text::hex(e) else {
+        return ClaimRecord::Listed(Record::Bad);
     };
-    Said::Claim(
+    ClaimRecord::Claim(
         text::of_bits(target),
         segment as usize,
         text::of_bits(place),
@@ -67,16 +67,16 @@ fn claim_with(y: &[u8], s: &[u8], x: &[u8], e: &[u8]) -> Said
 }
 
 // The claim of three fields and of what stands after their tab: one field more, and no fifth.
-fn after_place(y: &[u8], s: &[u8], x: &[u8], rest: &[u8]) -> Said
+fn after_place(y: &[u8], s: &[u8], x: &[u8], rest: &[u8]) -> ClaimRecord
     ensures { λ r. ⌜ r ≡ claimIn (now (y .entry) ∷ now (s .entry) ∷ now (x .entry) ∷ fieldsOf (now (rest .entry))) ⌝ }
 {
     if text::tab_at(rest) < rest.len() {
-        return Said::Listed(Record::Bad);
+        return ClaimRecord::Listed(Record::Bad);
     }
     claim_with(y, s, x, rest)
 }
 
-fn after_segment(y: &[u8], s: &[u8], rest: &[u8]) -> Said
+fn after_segment(y: &[u8], s: &[u8], rest: &[u8]) -> ClaimRecord
     ensures { λ r. ⌜ r ≡ claimIn (now (y .entry) ∷ now (s .entry) ∷ fieldsOf (now (rest .entry))) ⌝ }
 {
     let t = text::tab_at(rest);
@@ -84,10 +84,10 @@ fn after_segment(y: &[u8], s: &[u8], rest: &[u8]) -> Said
         let from = t + 1;
         return after_place(y, s, &rest[0..t], &rest[from..]);
     }
-    Said::Listed(Record::Bad)
+    ClaimRecord::Listed(Record::Bad)
 }
 
-fn after_target(y: &[u8], rest: &[u8]) -> Said
+fn after_target(y: &[u8], rest: &[u8]) -> ClaimRecord
     ensures { λ r. ⌜ r ≡ claimIn (now (y .entry) ∷ fieldsOf (now (rest .entry))) ⌝ }
 {
     let t = text::tab_at(rest);
@@ -95,11 +95,11 @@ fn after_target(y: &[u8], rest: &[u8]) -> Said
         let from = t + 1;
         return after_segment(y, &rest[0..t], &rest[from..]);
     }
-    Said::Listed(Record::Bad)
+    ClaimRecord::Listed(Record::Bad)
 }
 
 // What stands after the word `claim` and its tab.
-fn after_word(rest: &[u8]) -> Said
+fn after_word(rest: &[u8]) -> ClaimRecord
     ensures { λ r. ⌜ r ≡ claimIn (fieldsOf (now (rest .entry))) ⌝ }
 {
     let t = text::tab_at(rest);
@@ -107,10 +107,10 @@ fn after_word(rest: &[u8]) -> Said
         let from = t + 1;
         return after_target(&rest[0..t], &rest[from..]);
     }
-    Said::Listed(Record::Bad)
+    ClaimRecord::Listed(Record::Bad)
 }
 
-fn said_in(line: &[u8]) -> Said
+fn said_in(line: &[u8]) -> ClaimRecord
     ensures { λ r. ⌜ r ≡ saidIn (fieldsOf (now (line .entry))) ⌝ }
 {
     let t = text::tab_at(line);
@@ -119,36 +119,36 @@ fn said_in(line: &[u8]) -> Said
             let from = t + 1;
             return after_word(&line[from..]);
         }
-        return Said::Listed(of_table(lines_record::record_of(line)));
+        return ClaimRecord::Listed(of_table(lines_record::record_of(line)));
     }
-    Said::Listed(Record::Bad)
+    ClaimRecord::Listed(Record::Bad)
 }
 
 // What the line of len bytes says.
-fn said_of(len: usize, line: &[u8]) -> Said
+fn said_of(len: usize, line: &[u8]) -> ClaimRecord
     requires { ⌜ length (now line) ≡ widest ⌝ }
     ensures { λ r. ⌜ r ≡ says (openOf len (now (line .entry))) ⌝ }
 {
     if len <= 64 {
         return said_in(&line[0..len]);
     }
-    Said::Listed(Record::Bad)
+    ClaimRecord::Listed(Record::Bad)
 }
 
-fn put_claimed(out: &mut [u8], at: usize, c: Claimed) -> usize
+fn put_claimed(out: &mut [u8], at: usize, c: ClaimAnswer) -> usize
     requires { ⌜ at + 18 ≤ length (now out) ⌝ }
     ensures { λ r. ⌜ Wrote (now (out .entry)) at (claimText c) (now (out .exit)) r × (r ≤ at + 18) ⌝ }
 {
     match c {
-        Claimed::Refused(r) => lines_reply::put_refused(out, at, r),
-        Claimed::Holds => text::put_word(out, at, b"holds\n"),
-        Claimed::Differs => text::put_word(out, at, b"differs\n"),
+        ClaimAnswer::Refused(r) => lines_reply::put_refused(out, at, r),
+        ClaimAnswer::Holds => text::put_word(out, at, b"holds\n"),
+        ClaimAnswer::Differs => text::put_word(out, at, b"differs\n"),
     }
 }
 
 // The reply to a claim; before the first curve it is a bad line.
 fn checked(
-    held: Held,
+    held: Session,
     y: f64,
     s: usize,
     x: f64,
@@ -164,8 +164,8 @@ fn checked(
     ensures short { λ r. ⌜ r ≤ at + longest ⌝ }
 {
     match held {
-        Held::Nothing => put_claimed(out, at, Claimed::Refused(Refusal::BadLine)),
-        Held::Curve(t, _, n) => {
+        Session::Nothing => put_claimed(out, at, ClaimAnswer::Refused(Refusal::BadLine)),
+        Session::Curve(t, _, n) => {
             let b = t.basis;
             put_claimed(
                 out,
@@ -178,16 +178,16 @@ fn checked(
 
 // A line of len bytes, the first ones of the lent 64; 65 for one that is too long. Its reply is written from place `at` of `out` on.
 pub fn line(
-    held: Held,
+    held: Session,
     len: usize,
     line: &[u8],
     table: &mut [f64],
-    turned: &mut [f64],
+    converted: &mut [f64],
     out: &mut [u8],
     at: usize,
-) -> Lined
+) -> LineResult
     requires line { ⌜ length (now line) ≡ widest ⌝ }
-    requires table { ⌜ (countOf held ≤ places) × (length (now table) ≡ places) × (length (now turned) ≡ places) ⌝ }
+    requires table { ⌜ (countOf held ≤ places) × (length (now table) ≡ places) × (length (now converted) ≡ places) ⌝ }
     requires room { ⌜ at + longest ≤ length (now out) ⌝ }
     ensures state { λ r. ⌜ curveOf (r .held) (now (table .exit)) ≡ claimsProgram .after (curveOf held (now (table .entry)))
         (openOf len (now (line .entry))) ⌝ }
@@ -198,10 +198,10 @@ pub fn line(
 {
     let told = said_of(len, line);
     match told {
-        Said::Listed(r) => lines::answered(held, r, table, turned, out, at),
-        Said::Claim(y, s, x, precision) => {
+        ClaimRecord::Listed(r) => lines::answered(held, r, table, converted, out, at),
+        ClaimRecord::Claim(y, s, x, precision) => {
             let next = checked(held, y, s, x, precision, &table[..], out, at);
-            Lined {
+            LineResult {
                 held: held,
                 at: next,
             }

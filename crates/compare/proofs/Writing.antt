@@ -16,7 +16,7 @@ use Rattle.text.specs.Wrote.{Wrote}
 use Rattle.text.proofs.Writing.{nothing, then}
 use Rattle.compare.specs.Differences.{Difference, basis, span, knot, only, basisDifference, spanDifference, knotsFrom, differencesOf, placesIn}
 use Rattle.compare.specs.Comparison.{differenceText, linesText, lastText, comparisonText}
-use Rattle.compare.specs.Shown.{atPlace, lastLine}
+use Rattle.compare.specs.Contract.{atPlace, lastLine}
 use Rattle.compare.proofs.Same.{places-counted}
 
 pub no-line : (o : List ℕ) (at : ℕ) → Wrote o at (linesText []) o at

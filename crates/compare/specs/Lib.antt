@@ -1,3 +1,3 @@
 pub mod Differences
 pub mod Comparison
-pub mod Shown
+pub mod Contract

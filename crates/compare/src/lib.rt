@@ -6,7 +6,7 @@ ghost use lib.ListN.{length};
 ghost use Rattle.text.specs.Wrote.{Wrote};
 ghost use Rattle.compare.specs.Differences.{knot, only, rankOf, basisDifference, spanDifference, knotsFrom, placesIn};
 ghost use Rattle.compare.specs.Comparison.{differenceText, linesText, comparisonText};
-ghost use Rattle.compare.specs.Shown.{most, longest, atPlace, lastLine};
+ghost use Rattle.compare.specs.Contract.{most, longest, atPlace, lastLine};
 use basis::Basis;
 use table::Table;
 
@@ -14,7 +14,7 @@ use table::Table;
 pub const LONGEST: usize = 180284;
 
 // The place behind what was written, and how many places of the tables were told.
-pub struct Counted {
+pub struct DifferenceCount {
     pub at: usize,
     pub places: u32,
 }
@@ -90,7 +90,14 @@ fn put_only(out: &mut [u8], at: usize, i: usize, knot: u64) -> usize
 }
 
 // The line of place i, which one of the tables has at least, where they differ there; n places were told before.
-fn put_place(out: &mut [u8], at: usize, n: u32, i: usize, old: &[u64], new: &[u64]) -> Counted
+fn put_place(
+    out: &mut [u8],
+    at: usize,
+    n: u32,
+    i: usize,
+    old: &[u64],
+    new: &[u64],
+) -> DifferenceCount
     requires { ⌜ (n ≤ i) × (i < most) × (at + 44 ≤ length (now out)) × (length (now old) ≤ i → i < length (now new)) ⌝ }
     ensures wrote { λ r. ⌜ Wrote (now (out .entry)) at (linesText (atPlace i (now (old .entry)) (now (new .entry)))) (now (out .exit))
         (r .at) ⌝ }
@@ -100,19 +107,19 @@ fn put_place(out: &mut [u8], at: usize, n: u32, i: usize, old: &[u64], new: &[u6
     if i < old.len() {
         if i < new.len() {
             if old[i] == new[i] {
-                return Counted { at: at, places: n };
+                return DifferenceCount { at: at, places: n };
             }
-            return Counted {
+            return DifferenceCount {
                 at: put_knot(out, at, i, old[i], new[i]),
                 places: n + 1,
             };
         }
-        return Counted {
+        return DifferenceCount {
             at: put_only(out, at, i, old[i]),
             places: n + 1,
         };
     }
-    Counted {
+    DifferenceCount {
         at: put_only(out, at, i, new[i]),
         places: n + 1,
     }
@@ -126,7 +133,7 @@ fn longer(m: usize, n: usize) -> usize
 }
 
 // The lines of all places, lowest first.
-fn put_places(out: &mut [u8], at: usize, old: &[u64], new: &[u64]) -> Counted
+fn put_places(out: &mut [u8], at: usize, old: &[u64], new: &[u64]) -> DifferenceCount
     requires { ⌜ (length (now old) ≤ most) × (length (now new) ≤ most) × (at + 180224 ≤ length (now out)) ⌝ }
     ensures wrote { λ r. ⌜ Wrote (now (out .entry)) at (linesText (knotsFrom 0 (now (old .entry)) (now (new .entry)))) (now (out .exit))
         (r .at) ⌝ }
@@ -143,11 +150,11 @@ fn put_places(out: &mut [u8], at: usize, old: &[u64], new: &[u64]) -> Counted
         n = c.places;
         i += 1;
     }
-    Counted { at: p, places: n }
+    DifferenceCount { at: p, places: n }
 }
 
 // The last line: `same` where nothing was written before it from `start` on, else how many places were told.
-fn put_last(out: &mut [u8], start: usize, c: Counted) -> usize
+fn put_last(out: &mut [u8], start: usize, c: DifferenceCount) -> usize
     requires { ⌜ (c .places ≤ most) × (c .at + 5 ≤ length (now out)) ⌝ }
     ensures wrote { λ r. ⌜ Wrote (now (out .entry)) (c .at) (lastLine (eqb (c .at) start) (c .places)) (now (out .exit)) r ⌝ }
     ensures short { λ r. ⌜ r ≤ c .at + 5 ⌝ }

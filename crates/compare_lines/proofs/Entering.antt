@@ -15,10 +15,10 @@ use Rattle.table.specs.declared.Table.{Table}
 use Rattle.table.specs.Second.{goodSpan}
 use Rattle.text.specs.Wrote.{Wrote}
 use Rattle.lines_machine.specs.Program.{Line}
-use Rattle.compare_lines.specs.declared.Said.{Said}
-use Rattle.compare_lines.specs.declared.Said.the-variants.{Span, Knot}
-use Rattle.compare_lines.specs.declared.Took.{Took}
-use Rattle.compare_lines.specs.Said.{isOther}
+use Rattle.compare_lines.specs.declared.CompareRecord.{CompareRecord}
+use Rattle.compare_lines.specs.declared.CompareRecord.the-variants.{Span, Knot}
+use Rattle.compare_lines.specs.declared.TakeResult.{TakeResult}
+use Rattle.compare_lines.specs.CompareRecord.{isOther}
 use Rattle.compare_lines.specs.Listings.{
   Listing,
   none,
@@ -35,7 +35,7 @@ use Rattle.compare_lines.specs.Listings.{
   says,
   compareProgram,
 }
-use Rattle.compare_lines.specs.Held.{bothOf, Takes}
+use Rattle.compare_lines.specs.Contract.{bothOf, Takes}
 
 module _ (t : Table) (n x : ℕ) (knots : List ℕ) where
   -- a place is left
@@ -65,20 +65,20 @@ module _ (t : Table) (n x : ℕ) (knots : List ℕ) where
   span-refused e = (rw e refl, rw e refl)
 
 -- ---- both listings
-pub parting : (l : Listing) (s : Said) → isOther s ≡ true → (parted l none ≡ afterOf (before l) s) × (Passed ≡ verdictOf (before l) s)
+pub parting : (l : Listing) (s : CompareRecord) → isOther s ≡ true → (parted l none ≡ afterOf (before l) s) × (Passed ≡ verdictOf (before l) s)
 unfolding afterOf verdictOf
 parting l s e = (rw e refl, rw e refl)
 
-pub entering : (l : Listing) (s : Said) → isOther s ≡ false → (before (entered l s) ≡ afterOf (before l) s) × (heard l s ≡ verdictOf (before l) s)
+pub entering : (l : Listing) (s : CompareRecord) → isOther s ≡ false → (before (entered l s) ≡ afterOf (before l) s) × (heard l s ≡ verdictOf (before l) s)
 unfolding afterOf verdictOf
 entering l s e = (rw e refl, rw e refl)
 
-pub second : (k l : Listing) (s : Said) → (parted k (entered l s) ≡ afterOf (parted k l) s) × (heard l s ≡ verdictOf (parted k l) s)
+pub second : (k l : Listing) (s : CompareRecord) → (parted k (entered l s) ≡ afterOf (parted k l) s) × (heard l s ≡ verdictOf (parted k l) s)
 unfolding afterOf verdictOf
 second k l s = (refl, refl)
 
 -- ---- a line
-module _ {b : Both} {s : Said} {t : Took} {old new : List ℕ} (o : Line) (e : s ≡ says o) (h : Takes b s t old new) where
+module _ {b : Both} {s : CompareRecord} {t : TakeResult} {old new : List ℕ} (o : Line) (e : s ≡ says o) (h : Takes b s t old new) where
   pub line-state : bothOf (t .held) old new ≡ compareProgram .after b o
   line-state = h .held ∙ ap (afterOf b) e
 

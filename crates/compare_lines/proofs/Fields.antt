@@ -12,9 +12,9 @@ use lib.Seq.{take-all}
 use Rattle.text.specs.Text.{bytes, same, fieldsOf, tabOf}
 use Rattle.text.proofs.Fields.{fields-one, fields-more}
 use Rattle.lines_machine.specs.Program.{widest}
-use Rattle.lines_machine.specs.Held.{openOf}
-use Rattle.compare_lines.specs.declared.Said.the-variants.{Other, Bad}
-use Rattle.compare_lines.specs.Said.{meaningOf, ofFields, saidOf}
+use Rattle.lines_machine.specs.Contract.{openOf}
+use Rattle.compare_lines.specs.declared.CompareRecord.the-variants.{Other, Bad}
+use Rattle.compare_lines.specs.CompareRecord.{meaningOf, ofFields, saidOf}
 use Rattle.compare_lines.specs.Listings.{says}
 
 -- a line without a tab is one field

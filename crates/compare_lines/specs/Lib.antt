@@ -1,3 +1,3 @@
-pub mod Said
+pub mod CompareRecord
 pub mod Listings
-pub mod Held
+pub mod Contract

@@ -14,9 +14,9 @@ use Rattle.table.specs.Second.{goodSpan}
 use Rattle.lines_reply.specs.Reply.{refusedText}
 use Rattle.lines_machine.specs.Program.{Line, so, over, Program}
 use Rattle.compare.specs.Comparison.{comparisonText}
-use Rattle.compare_lines.specs.declared.Said.{Said}
-use Rattle.compare_lines.specs.declared.Said.the-variants.{Curve, Span, Knot, Other, Bad}
-use Rattle.compare_lines.specs.Said.{saidOf, isOther}
+use Rattle.compare_lines.specs.declared.CompareRecord.{CompareRecord}
+use Rattle.compare_lines.specs.declared.CompareRecord.the-variants.{Curve, Span, Knot, Other, Bad}
+use Rattle.compare_lines.specs.CompareRecord.{saidOf, isOther}
 
 -- ---- one listing: none before its `curve`, then a table and the bits of its knots
 pub data Listing : Type 0 where
@@ -31,7 +31,7 @@ abbrev pub bare : Basis → Table
 bare b = record { basis = b; span = 0 }
 
 -- whether a record is refused there: 12 without a `curve`; 14, a span out of range; 3, a knot beyond the last place
-unfoldable pub heard : Listing → Said → Verdict
+unfoldable pub heard : Listing → CompareRecord → Verdict
 heard none (Curve b) = Passed
 heard none (Span s) = Failed BadLine
 heard none (Knot n) = Failed BadLine
@@ -44,7 +44,7 @@ heard (on t ks) Other = Failed BadLine
 heard (on t ks) Bad = Failed BadLine
 
 -- the listing after it: `curve` clears knots and span, so the last one counts; `span` replaces the one before
-unfoldable pub entered : Listing → Said → Listing
+unfoldable pub entered : Listing → CompareRecord → Listing
 entered none (Curve b) = on (bare b) []
 entered none (Span s) = none
 entered none (Knot n) = none
@@ -62,11 +62,11 @@ pub data Both : Type 0 where
   parted : Listing → Listing → Both
 
 -- the first `other` parts the two, and the second begins with none; any other `other` is a bad line
-unfoldable pub verdictOf : Both → Said → Verdict
+unfoldable pub verdictOf : Both → CompareRecord → Verdict
 verdictOf (before l) s = cond (isOther s) Passed (heard l s)
 verdictOf (parted k l) s = heard l s
 
-unfoldable pub afterOf : Both → Said → Both
+unfoldable pub afterOf : Both → CompareRecord → Both
 afterOf (before l) s = cond (isOther s) (parted l none) (before (entered l s))
 afterOf (parted k l) s = parted k (entered l s)
 
@@ -83,7 +83,7 @@ endsOf (parted (on t ks) none) = refusedText NoComparison
 endsOf (parted (on t ks) (on u ls)) = comparisonText t ks u ls
 
 -- what a line says; one that is too long says nothing
-unfoldable pub says : Line → Said
+unfoldable pub says : Line → CompareRecord
 says (so l) = saidOf l
 says over = Bad
 

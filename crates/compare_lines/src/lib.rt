@@ -8,21 +8,21 @@ ghost use Rattle.text.specs.Wrote.{Wrote};
 ghost use Rattle.text_decimals.specs.Decimals.{numberIn};
 ghost use Rattle.lines_record.specs.Record.{namedOf};
 ghost use Rattle.lines_machine.specs.Program.{widest};
-ghost use Rattle.lines_machine.specs.Held.{openOf};
-ghost use Rattle.compare.specs.Shown.{longest};
-ghost use Rattle.compare_lines.specs.declared.Said.the-variants.{Span, Knot};
-ghost use Rattle.compare_lines.specs.Said.{curveSaid, spanSaid, knotSaid, meaningOf, ofFields, saidOf, isOther};
+ghost use Rattle.lines_machine.specs.Contract.{openOf};
+ghost use Rattle.compare.specs.Contract.{longest};
+ghost use Rattle.compare_lines.specs.declared.CompareRecord.the-variants.{Span, Knot};
+ghost use Rattle.compare_lines.specs.CompareRecord.{curveSaid, spanSaid, knotSaid, meaningOf, ofFields, saidOf, isOther};
 ghost use Rattle.compare_lines.specs.Listings.{none, on, places, parted, verdictText, endsOf, says, compareProgram};
-ghost use Rattle.compare_lines.specs.Held.{listingOf, knotsOf, bothOf, countOf, Enters, Takes};
+ghost use Rattle.compare_lines.specs.Contract.{listingOf, knotsOf, bothOf, countOf, Enters, Takes};
 use basis::Basis;
 use error::Refusal;
 use error::Verdict;
-use lines_record::Named;
+use lines_record::BasisName;
 use table::Table;
-use text::Hexed;
+use text::HexNumber;
 
 // What a line says. A knot is its 64 bits.
-pub enum Said {
+pub enum CompareRecord {
     Curve(Basis),
     Span(u32),
     Knot(u64),
@@ -37,59 +37,59 @@ pub enum Listing {
 }
 
 // The listings: the first alone, then the first and the second.
-pub enum Held {
+pub enum Comparison {
     Before(Listing),
     Parted(Listing, Listing),
 }
 
 // A listing after a record, and whether the record was refused.
-pub struct Entered {
+pub struct EntryResult {
     pub listing: Listing,
     pub verdict: Verdict,
 }
 
 // Both listings after a record, and whether it was refused.
-pub struct Took {
-    pub held: Held,
+pub struct TakeResult {
+    pub held: Comparison,
     pub verdict: Verdict,
 }
 
 // Both listings after a line, and the place behind its reply.
-pub struct Lined {
-    pub held: Held,
+pub struct LineResult {
+    pub held: Comparison,
     pub at: usize,
 }
 
-fn curve_of(s: &[u8]) -> Said
+fn curve_of(s: &[u8]) -> CompareRecord
     ensures { λ r. ⌜ r ≡ curveSaid (namedOf (now (s .entry))) ⌝ }
 {
-    let Named::Is(b) = lines_record::basis_named(s) else {
-        return Said::Bad;
+    let BasisName::Is(b) = lines_record::basis_named(s) else {
+        return CompareRecord::Bad;
     };
-    Said::Curve(b)
+    CompareRecord::Curve(b)
 }
 
 // A span of 1 to 5 digits; whether it is in range is for the listing to say.
-fn span_of(s: &[u8]) -> Said
+fn span_of(s: &[u8]) -> CompareRecord
     ensures { λ r. ⌜ r ≡ spanSaid (numberIn 5 (now (s .entry))) ⌝ }
 {
-    let Hexed::Is(n) = text_decimals::number_in(s, 5) else {
-        return Said::Bad;
+    let HexNumber::Is(n) = text_decimals::number_in(s, 5) else {
+        return CompareRecord::Bad;
     };
-    Said::Span(n as u32)
+    CompareRecord::Span(n as u32)
 }
 
-fn knot_of(s: &[u8]) -> Said
+fn knot_of(s: &[u8]) -> CompareRecord
     ensures { λ r. ⌜ r ≡ knotSaid (hexOf (now (s .entry))) ⌝ }
 {
-    let Hexed::Is(n) = text::hex(s) else {
-        return Said::Bad;
+    let HexNumber::Is(n) = text::hex(s) else {
+        return CompareRecord::Bad;
     };
-    Said::Knot(n)
+    CompareRecord::Knot(n)
 }
 
 // What a word and the field after it say.
-fn meaning(w: &[u8], s: &[u8]) -> Said
+fn meaning(w: &[u8], s: &[u8]) -> CompareRecord
     ensures { λ r. ⌜ r ≡ meaningOf (now (w .entry)) (now (s .entry)) ⌝ }
 {
     if text::is_word(w, b"curve") {
@@ -101,20 +101,20 @@ fn meaning(w: &[u8], s: &[u8]) -> Said
     if text::is_word(w, b"knot") {
         return knot_of(s);
     }
-    Said::Bad
+    CompareRecord::Bad
 }
 
 // What a first field and what stands after its tab say: one field more, and no third.
-fn said_after(w: &[u8], s: &[u8]) -> Said
+fn said_after(w: &[u8], s: &[u8]) -> CompareRecord
     ensures { λ r. ⌜ r ≡ ofFields (now (w .entry) ∷ fieldsOf (now (s .entry))) ⌝ }
 {
     if text::tab_at(s) < s.len() {
-        return Said::Bad;
+        return CompareRecord::Bad;
     }
     meaning(w, s)
 }
 
-fn said_of(line: &[u8]) -> Said
+fn said_of(line: &[u8]) -> CompareRecord
     ensures { λ r. ⌜ r ≡ saidOf (now (line .entry)) ⌝ }
 {
     let t = text::tab_at(line);
@@ -123,114 +123,114 @@ fn said_of(line: &[u8]) -> Said
         return said_after(&line[0..t], &line[from..]);
     }
     if text::is_word(line, b"other") {
-        return Said::Other;
+        return CompareRecord::Other;
     }
-    Said::Bad
+    CompareRecord::Bad
 }
 
 // What the line of len bytes says; 65 stands for one that is too long.
-fn said_by(len: usize, line: &[u8]) -> Said
+fn said_by(len: usize, line: &[u8]) -> CompareRecord
     requires { ⌜ length (now line) ≡ widest ⌝ }
     ensures { λ r. ⌜ r ≡ says (openOf len (now (line .entry))) ⌝ }
 {
     if len <= 64 {
         return said_of(&line[0..len]);
     }
-    Said::Bad
+    CompareRecord::Bad
 }
 
-fn is_other(s: Said) -> bool
+fn is_other(s: CompareRecord) -> bool
     ensures { λ r. ⌜ r ≡ isOther s ⌝ }
 {
     match s {
-        Said::Curve(_) => false,
-        Said::Span(_) => false,
-        Said::Knot(_) => false,
-        Said::Other => true,
-        Said::Bad => false,
+        CompareRecord::Curve(_) => false,
+        CompareRecord::Span(_) => false,
+        CompareRecord::Knot(_) => false,
+        CompareRecord::Other => true,
+        CompareRecord::Bad => false,
     }
 }
 
 // A record before the listing's `curve`.
-fn first(s: Said, knots: &[u64]) -> Entered
+fn first(s: CompareRecord, knots: &[u64]) -> EntryResult
     ensures { λ e. ⌜ Enters none s e (now (knots .entry)) ⌝ }
 {
-    let bad = Entered {
+    let bad = EntryResult {
         listing: Listing::Nothing,
         verdict: Verdict::Failed(Refusal::BadLine),
     };
     match s {
-        Said::Curve(b) => Entered {
+        CompareRecord::Curve(b) => EntryResult {
             listing: Listing::On(Table { basis: b, span: 0 }, 0),
             verdict: Verdict::Passed,
         },
-        Said::Span(_) => bad,
-        Said::Knot(_) => bad,
-        Said::Other => bad,
-        Said::Bad => bad,
+        CompareRecord::Span(_) => bad,
+        CompareRecord::Knot(_) => bad,
+        CompareRecord::Other => bad,
+        CompareRecord::Bad => bad,
     }
 }
 
 // A span: in place of the one before, if it is good.
-fn spanned(t: Table, n: usize, s: u32, knots: &[u64]) -> Entered
+fn spanned(t: Table, n: usize, s: u32, knots: &[u64]) -> EntryResult
     requires { ⌜ n ≤ places ⌝ }
     ensures { λ e. ⌜ Enters (on t (take n (now (knots .entry)))) (Span s) e (now (knots .entry)) ⌝ }
 {
     if table::is_span(s) {
         let b = t.basis;
-        return Entered {
+        return EntryResult {
             listing: Listing::On(Table { basis: b, span: s }, n),
             verdict: Verdict::Passed,
         };
     }
-    Entered {
+    EntryResult {
         listing: Listing::On(t, n),
         verdict: Verdict::Failed(Refusal::BadSpan),
     }
 }
 
 // A knot's bits, into the next place, if there is one.
-fn add(t: Table, n: usize, x: u64, knots: &mut [u64]) -> Entered
+fn add(t: Table, n: usize, x: u64, knots: &mut [u64]) -> EntryResult
     requires { ⌜ (n ≤ places) × (length (now knots) ≡ places) ⌝ }
     ensures { λ e. ⌜ Enters (on t (take n (now (knots .entry)))) (Knot x) e (now (knots .exit)) ⌝ }
 {
     if n < 4096 {
         knots[n] = x;
         let next = n + 1;
-        return Entered {
+        return EntryResult {
             listing: Listing::On(t, next),
             verdict: Verdict::Passed,
         };
     }
-    Entered {
+    EntryResult {
         listing: Listing::On(t, n),
         verdict: Verdict::Failed(Refusal::TooMany),
     }
 }
 
 // A record after the listing's `curve`, which has n knots.
-fn later(t: Table, n: usize, s: Said, knots: &mut [u64]) -> Entered
+fn later(t: Table, n: usize, s: CompareRecord, knots: &mut [u64]) -> EntryResult
     requires { ⌜ (n ≤ places) × (length (now knots) ≡ places) ⌝ }
     ensures { λ e. ⌜ Enters (on t (take n (now (knots .entry)))) s e (now (knots .exit)) ⌝ }
 {
-    let bad = Entered {
+    let bad = EntryResult {
         listing: Listing::On(t, n),
         verdict: Verdict::Failed(Refusal::BadLine),
     };
     match s {
-        Said::Curve(b) => Entered {
+        CompareRecord::Curve(b) => EntryResult {
             listing: Listing::On(Table { basis: b, span: 0 }, 0),
             verdict: Verdict::Passed,
         },
-        Said::Span(r) => spanned(t, n, r, &knots[..]),
-        Said::Knot(x) => add(t, n, x, knots),
-        Said::Other => bad,
-        Said::Bad => bad,
+        CompareRecord::Span(r) => spanned(t, n, r, &knots[..]),
+        CompareRecord::Knot(x) => add(t, n, x, knots),
+        CompareRecord::Other => bad,
+        CompareRecord::Bad => bad,
     }
 }
 
 // A record that comes upon a listing.
-fn enter(l: Listing, s: Said, knots: &mut [u64]) -> Entered
+fn enter(l: Listing, s: CompareRecord, knots: &mut [u64]) -> EntryResult
     requires { ⌜ (knotsOf l ≤ places) × (length (now knots) ≡ places) ⌝ }
     ensures { λ e. ⌜ Enters (listingOf l (now (knots .entry))) s e (now (knots .exit)) ⌝ }
 {
@@ -241,32 +241,32 @@ fn enter(l: Listing, s: Said, knots: &mut [u64]) -> Entered
 }
 
 // A record that comes upon both listings.
-fn take_in(h: Held, s: Said, old: &mut [u64], new: &mut [u64]) -> Took
+fn take_in(h: Comparison, s: CompareRecord, old: &mut [u64], new: &mut [u64]) -> TakeResult
     requires { ⌜ (countOf h ≤ places) × (length (now old) ≡ places) × (length (now new) ≡ places) ⌝ }
     ensures { λ t. ⌜ Takes (bothOf h (now (old .entry)) (now (new .entry))) s t (now (old .exit)) (now (new .exit)) ⌝ }
 {
     match h {
-        Held::Before(l) => {
+        Comparison::Before(l) => {
             if is_other(s) {
-                return Took {
-                    held: Held::Parted(l, Listing::Nothing),
+                return TakeResult {
+                    held: Comparison::Parted(l, Listing::Nothing),
                     verdict: Verdict::Passed,
                 };
             }
             let e = enter(l, s, old);
             let after = e.listing;
             let verdict = e.verdict;
-            Took {
-                held: Held::Before(after),
+            TakeResult {
+                held: Comparison::Before(after),
                 verdict: verdict,
             }
         }
-        Held::Parted(k, l) => {
+        Comparison::Parted(k, l) => {
             let e = enter(l, s, new);
             let after = e.listing;
             let verdict = e.verdict;
-            Took {
-                held: Held::Parted(k, after),
+            TakeResult {
+                held: Comparison::Parted(k, after),
                 verdict: verdict,
             }
         }
@@ -285,14 +285,14 @@ fn put_verdict(v: Verdict, out: &mut [u8], at: usize) -> usize
 
 // A line of len bytes, the first ones of the lent 64; 65 for one that is too long. Its refusal, if any, is written from place `at` on.
 pub fn line(
-    h: Held,
+    h: Comparison,
     len: usize,
     line: &[u8],
     old: &mut [u64],
     new: &mut [u64],
     out: &mut [u8],
     at: usize,
-) -> Lined
+) -> LineResult
     requires line { ⌜ length (now line) ≡ widest ⌝ }
     requires listings { ⌜ (countOf h ≤ places) × (length (now old) ≡ places) × (length (now new) ≡ places) ⌝ }
     requires room { ⌜ at + 18 ≤ length (now out) ⌝ }
@@ -309,7 +309,7 @@ pub fn line(
     let after = t.held;
     let verdict = t.verdict;
     let next = put_verdict(verdict, out, at);
-    Lined {
+    LineResult {
         held: after,
         at: next,
     }
@@ -350,13 +350,13 @@ fn end_parted(k: Listing, l: Listing, old: &[u64], new: &[u64], out: &mut [u8], 
 }
 
 // The end of the input: what differs, or 20 in its place.
-pub fn end(h: Held, old: &[u64], new: &[u64], out: &mut [u8], at: usize) -> usize
+pub fn end(h: Comparison, old: &[u64], new: &[u64], out: &mut [u8], at: usize) -> usize
     requires { ⌜ (countOf h ≤ places) × (length (now old) ≡ places) × (length (now new) ≡ places) × (at + longest ≤ length (now out)) ⌝ }
     ensures { λ r. ⌜ Wrote (now (out .entry)) at (endsOf (bothOf h (now (old .entry)) (now (new .entry)))) (now (out .exit)) r
         × (r ≤ at + longest) ⌝ }
 {
     match h {
-        Held::Before(_) => lines_reply::put_refused(out, at, Refusal::NoComparison),
-        Held::Parted(k, l) => end_parted(k, l, old, new, out, at),
+        Comparison::Before(_) => lines_reply::put_refused(out, at, Refusal::NoComparison),
+        Comparison::Parted(k, l) => end_parted(k, l, old, new, out, at),
     }
 }

@@ -42,13 +42,13 @@ applied-finite m cv s k =
     (more (row-finite 3 cv (row m 2) (lit≤ tt) k (s .r2) .within)
     (more (row-finite 3 cv (row m 3) (lit≤ tt) k (s .r3) .within) none)))
 
-windows-finite : (m : Matrix) (step gap : ℕ) (ks : List Float) (n : ℕ) → Small 3 m → T (allInRange ks) → ((i : ℕ) → i ≤ n → i * step + 4 ≤ length ks)
-    → Finite (windows m step gap ks n)
+windows-finite : (m : Matrix) (step stride : ℕ) (ks : List Float) (n : ℕ) → Small 3 m → T (allInRange ks) → ((i : ℕ) → i ≤ n → i * step + 4 ≤ length ks)
+    → Finite (windows m step stride ks n)
 unfolding windows
-windows-finite m step gap ks zero s t h = applied-finite m (drop (0 * step) ks) s (knots-within ks (0 * step) t (h 0 (omega arith)))
-windows-finite m step gap ks (suc n) s t h =
-    joined (windows-finite m step gap ks n s t (λ i k. h i (omega arith)))
-    (dropped (4 - gap) (applied-finite m (drop (suc n * step) ks) s (knots-within ks (suc n * step) t (h (suc n) (omega arith)))))
+windows-finite m step stride ks zero s t h = applied-finite m (drop (0 * step) ks) s (knots-within ks (0 * step) t (h 0 (omega arith)))
+windows-finite m step stride ks (suc n) s t h =
+    joined (windows-finite m step stride ks n s t (λ i k. h i (omega arith)))
+    (dropped (4 - stride) (applied-finite m (drop (suc n * step) ks) s (knots-within ks (suc n * step) t (h (suc n) (omega arith)))))
 
 -- ---- the two calls
 pub segment-finite : (from to : Basis) (cv : List Float) (room : ℕ) (l : List Float) → convertedSegmentOf from to cv room ≡ gives l → Finite l

@@ -2,4 +2,4 @@ pub mod Verdicts
 pub mod Writing
 pub mod Kept
 pub mod Finite
-pub mod Calls
+pub mod Glue

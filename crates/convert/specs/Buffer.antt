@@ -4,16 +4,16 @@ use Prim.Native.Nat.{ℕ}
 use lib.ListN.{length, drop}
 use lib.Ieee.{Float}
 use Rattle.error.specs.Refusals.{numberOf}
-use Rattle.convert.specs.declared.Converted.{Converted}
-use Rattle.convert.specs.declared.Converted.the-variants.{Written, Refused}
+use Rattle.convert.specs.declared.ConversionAnswer.{ConversionAnswer}
+use Rattle.convert.specs.declared.ConversionAnswer.the-variants.{Written, Refused}
 use Rattle.convert.specs.Conversion.{Conversion, gives, refuses}
 
-abbrev pub answerOf : Conversion → Converted
+abbrev pub answerOf : Conversion → ConversionAnswer
 answerOf (gives l) = Written (length l)
 answerOf (refuses r) = Refused r
 
 -- the number that an answer tells: the refusal's; 0 where doubles were written
-abbrev pub convertedNumber : Converted → ℕ
+abbrev pub convertedNumber : ConversionAnswer → ℕ
 convertedNumber (Written n) = 0
 convertedNumber (Refused r) = numberOf r
 

@@ -1,4 +1,4 @@
 pub mod Output
 pub mod Conversion
 pub mod Buffer
-pub mod Shown
+pub mod Contract

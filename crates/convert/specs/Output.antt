@@ -12,11 +12,11 @@ use Rattle.convert_matrix.specs.Elimination.{conversionOf}
 abbrev pub windowOf : Matrix → ℕ → List Float → ℕ → List Float
 windowOf m step ks s = applied m (drop (s * step) ks)
 
--- segments 0 to n: segment 0 gives four doubles, each later one the last `gap` of its four
+-- segments 0 to n: segment 0 gives four doubles, each later one the last `stride` of its four
 unfoldable pub windows : Matrix → ℕ → ℕ → List Float → ℕ → List Float
 unfolding add mul
-windows m step gap ks zero = windowOf m step ks 0
-windows m step gap ks (suc n) = windows m step gap ks n ++ drop (4 - gap) (windowOf m step ks (suc n))
+windows m step stride ks zero = windowOf m step ks 0
+windows m step stride ks (suc n) = windows m step stride ks n ++ drop (4 - stride) (windowOf m step ks (suc n))
 
 -- a segment's four doubles
 unfoldable pub segmentOutput : Basis → Basis → List Float → List Float

@@ -10,38 +10,38 @@ use error::Verdict;
 pub mod output;
 pub mod refusals;
 
-pub enum Converted {
+pub enum ConversionAnswer {
     Written(usize),
     Refused(Refusal),
 }
 
 // One segment: four doubles are written.
-pub fn convert_segment(from: Basis, to: Basis, cv: &[f64], out: &mut [f64]) -> Converted
+pub fn convert_segment(from: Basis, to: Basis, cv: &[f64], out: &mut [f64]) -> ConversionAnswer
     ensures { λ r. ⌜ (r ≡ answerOf (convertedSegmentOf from to (now (cv .entry)) (length (now (out .entry)))))
         × (now (out .exit) ≡ bufferOf (convertedSegmentOf from to (now (cv .entry)) (length (now (out .entry)))) (now (out .entry))) ⌝ }
 {
     let v = refusals::segment_verdict(to, cv, out.len());
     match v {
-        Verdict::Failed(r) => Converted::Refused(r),
+        Verdict::Failed(r) => ConversionAnswer::Refused(r),
         Verdict::Passed => {
             let m = convert_matrix::conversion_matrix(from, to);
             output::put_last(out, 0, spline::segment::sums(m, cv), 4);
-            Converted::Written(4)
+            ConversionAnswer::Written(4)
         }
     }
 }
 
 // A curve of k segments: 4 + (k - 1) * STEP doubles are written, by the STEP of the output's basis.
-pub fn convert_spline(from: Basis, to: Basis, knots: &[f64], out: &mut [f64]) -> Converted
+pub fn convert_spline(from: Basis, to: Basis, knots: &[f64], out: &mut [f64]) -> ConversionAnswer
     ensures { λ r. ⌜ (r ≡ answerOf (convertedOf from to (now (knots .entry)) (length (now (out .entry)))))
         × (now (out .exit) ≡ bufferOf (convertedOf from to (now (knots .entry)) (length (now (out .entry)))) (now (out .entry))) ⌝ }
 {
     let v = refusals::spline_verdict(from, to, knots, out.len());
     match v {
-        Verdict::Failed(r) => Converted::Refused(r),
+        Verdict::Failed(r) => ConversionAnswer::Refused(r),
         Verdict::Passed => {
             let m = convert_matrix::conversion_matrix(from, to);
-            Converted::Written(output::put_windows(
+            ConversionAnswer::Written(output::put_windows(
                 &m,
                 basis::step(from),
                 knots,

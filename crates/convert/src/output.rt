@@ -1,31 +1,31 @@
 // The writing, once nothing is refused. A window is the four doubles that the matrix makes of a segment. Segment 0 writes its whole window;
-// a later one writes the last `gap` doubles of its own, which is the output's STEP.
+// a later one writes the last `stride` doubles of its own, which is the output's STEP.
 ghost use mathlib.Core.Path.{_≡_};
 ghost use mathlib.Core.List.{[]};
 ghost use Prim.Native.Nat.{_+_, _-_, _*_, _/_, _≤_, _<_};
 ghost use lib.ListN.{length, getD, drop};
-ghost use Rattle.spline.specs.Segment.{rowSum, weightsOf};
+ghost use Rattle.spline.specs.Segment.{rowSum, rowSumsOf};
 ghost use Rattle.convert.specs.Output.{windows};
 ghost use Rattle.convert.specs.Conversion.{gives};
 ghost use Rattle.convert.specs.Buffer.{bufferOf};
-ghost use Rattle.convert.specs.Shown.{placed, listOf};
-use spline::Weights;
+ghost use Rattle.convert.specs.Contract.{placed, listOf};
+use spline::RowSums;
 
-// Writes the last `gap` doubles of a window, from place `at` on.
-pub fn put_last(out: &mut [f64], at: usize, w: Weights, gap: usize)
-    requires { ⌜ (0 < gap) × (gap ≤ 4) × (at + gap ≤ length (now out)) ⌝ }
-    ensures { λ _. ⌜ now (out .exit) ≡ placed at (drop (4 - gap) (listOf w)) (now (out .entry)) ⌝ }
+// Writes the last `stride` doubles of a window, from place `at` on.
+pub fn put_last(out: &mut [f64], at: usize, w: RowSums, stride: usize)
+    requires { ⌜ (0 < stride) × (stride ≤ 4) × (at + stride ≤ length (now out)) ⌝ }
+    ensures { λ _. ⌜ now (out .exit) ≡ placed at (drop (4 - stride) (listOf w)) (now (out .entry)) ⌝ }
 {
-    if gap == 1 {
+    if stride == 1 {
         out[at] = w.w3;
         return;
     }
-    if gap == 2 {
+    if stride == 2 {
         out[at] = w.w2;
         out[at + 1] = w.w3;
         return;
     }
-    if gap == 3 {
+    if stride == 3 {
         out[at] = w.w1;
         out[at + 1] = w.w2;
         out[at + 2] = w.w3;
@@ -45,42 +45,42 @@ fn last_sum(m: &[[f64; 4]; 4], cv: &[f64]) -> f64
     cv[0] * m[3][0] + cv[1] * m[3][1] + cv[2] * m[3][2] + cv[3] * m[3][3]
 }
 
-// The last `gap` of a window's four. Where one is written the other three are not worked out: to Bspline and CatmullRom this halves the time.
-fn put_window(out: &mut [f64], at: usize, m: &[[f64; 4]; 4], cv: &[f64], gap: usize)
-    requires { ⌜ (0 < gap) × (gap ≤ 4) × (4 ≤ length (now cv)) × (at + gap ≤ length (now out)) ⌝ }
+// The last `stride` of a window's four. Where one is written the other three are not worked out: to Bspline and CatmullRom this halves the time.
+fn put_window(out: &mut [f64], at: usize, m: &[[f64; 4]; 4], cv: &[f64], stride: usize)
+    requires { ⌜ (0 < stride) × (stride ≤ 4) × (4 ≤ length (now cv)) × (at + stride ≤ length (now out)) ⌝ }
     ensures { λ _. ⌜ now (out .exit)
-        ≡ placed at (drop (4 - gap) (listOf (weightsOf (now (m .entry)) (now (cv .entry))))) (now (out .entry)) ⌝ }
+        ≡ placed at (drop (4 - stride) (listOf (rowSumsOf (now (m .entry)) (now (cv .entry))))) (now (out .entry)) ⌝ }
 {
-    if gap == 1 {
+    if stride == 1 {
         out[at] = last_sum(m, cv);
         return;
     }
-    put_last(out, at, spline::segment::sums(*m, cv), gap);
+    put_last(out, at, spline::segment::sums(*m, cv), stride);
 }
 
-// Segment 0 fills four places, and each later one `gap` more. The matrix is lent: by value it would stand on the stack twice.
+// Segment 0 fills four places, and each later one `stride` more. The matrix is lent: by value it would stand on the stack twice.
 pub fn put_windows(
     m: &[[f64; 4]; 4],
     step: usize,
     knots: &[f64],
-    gap: usize,
+    stride: usize,
     out: &mut [f64],
 ) -> usize
-    requires { ⌜ (0 < step) × (0 < gap) × (gap ≤ 4) × (4 ≤ length (now knots)) × (length (now knots) ≤ 4096)
-        × (4 + (length (now knots) - 4) / step * gap ≤ length (now out)) ⌝ }
-    ensures { λ r. ⌜ (r ≡ 4 + (length (now (knots .entry)) - 4) / step * gap)
+    requires { ⌜ (0 < step) × (0 < stride) × (stride ≤ 4) × (4 ≤ length (now knots)) × (length (now knots) ≤ 4096)
+        × (4 + (length (now knots) - 4) / step * stride ≤ length (now out)) ⌝ }
+    ensures { λ r. ⌜ (r ≡ 4 + (length (now (knots .entry)) - 4) / step * stride)
         × (now (out .exit) ≡ bufferOf
-        (gives (windows (now (m .entry)) step gap (now (knots .entry)) ((length (now (knots .entry)) - 4) / step)))
+        (gives (windows (now (m .entry)) step stride (now (knots .entry)) ((length (now (knots .entry)) - 4) / step)))
         (now (out .entry))) ⌝ }
 {
     let last = (knots.len() - 4) / step;
     put_last(&mut *out, 0, spline::segment::sums(*m, knots), 4);
     let mut s = 0;
     while s < last {
-        let at = 4 + s * gap;
+        let at = 4 + s * stride;
         s += 1;
         let start = s * step;
-        put_window(&mut *out, at, &*m, &knots[start..], gap);
+        put_window(&mut *out, at, &*m, &knots[start..], stride);
     }
-    4 + last * gap
+    4 + last * stride
 }

@@ -35,7 +35,7 @@ use Rattle.convert_matrix.specs.Elimination.{
   inverseOf,
   conversionOf,
 }
-use Rattle.convert_matrix.specs.Shown.{shown, Found}
+use Rattle.convert_matrix.specs.Contract.{shown, Found}
 
 pub listed : {A : Type 0} {a b c d a′ b′ c′ d′ : A} → a ≡ a′ → b ≡ b′ → c ≡ c′ → d ≡ d′ → a ∷ b ∷ c ∷ d ∷ [] ≡ a′ ∷ b′ ∷ c′ ∷ d′ ∷ []
 listed p q r s = cc

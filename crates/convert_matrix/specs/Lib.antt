@@ -1,3 +1,3 @@
 pub mod Matrix
 pub mod Elimination
-pub mod Shown
+pub mod Contract

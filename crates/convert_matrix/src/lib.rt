@@ -17,7 +17,7 @@ ghost use Rattle.convert_matrix.specs.Elimination.{
   goes,
   no-inverse,
 };
-ghost use Rattle.convert_matrix.specs.Shown.{shown, Found};
+ghost use Rattle.convert_matrix.specs.Contract.{shown, Found};
 use basis::Basis;
 
 pub mod constants;

@@ -62,13 +62,13 @@ module _ (from to : Basis) (ks : List Float) (allowance : Float) (room : ℕ) wh
     allowed-goes-on k h = goes-on (allowedUses from to ks allowance room) e k h
 
 -- what the scan finds, by the curve's matrix and steps
-pub found : (from to : Basis) (ks : List Float) (allowance : Float) {m : Matrix} {step gap s : ℕ} → m ≡ conversionOf from to → step ≡ stepOf from →
-    gap ≡ stepOf to → s ≡ lostSeam m step gap allowance ks ((length ks - 4) / step) → s ≡ lostSeamOf from to ks allowance
+pub found : (from to : Basis) (ks : List Float) (allowance : Float) {m : Matrix} {step stride s : ℕ} → m ≡ conversionOf from to → step ≡ stepOf from →
+    stride ≡ stepOf to → s ≡ lostSeam m step stride allowance ks ((length ks - 4) / step) → s ≡ lostSeamOf from to ks allowance
 unfolding lostSeamOf
-found from to ks allowance {m} {step} {gap} p a b e =
+found from to ks allowance {m} {step} {stride} p a b e =
     e
-    ∙ ap (λ (x : Matrix). lostSeam x step gap allowance ks ((length ks - 4) / step)) p
-    ∙ ap (λ (x : ℕ). lostSeam (conversionOf from to) x gap allowance ks ((length ks - 4) / x)) a
+    ∙ ap (λ (x : Matrix). lostSeam x step stride allowance ks ((length ks - 4) / step)) p
+    ∙ ap (λ (x : ℕ). lostSeam (conversionOf from to) x stride allowance ks ((length ks - 4) / x)) a
     ∙ ap (λ (x : ℕ). lostSeam (conversionOf from to) (stepOf from) x allowance ks ((length ks - 4) / stepOf from)) b
     ∙ ap (lostSeam (conversionOf from to) (stepOf from) (stepOf to) allowance ks) (less-one ((length ks - 4) / stepOf from))
 

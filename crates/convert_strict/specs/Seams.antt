@@ -23,14 +23,14 @@ lowest zero s f = 0
 lowest (suc n) s f = cond (f s) s (lowest n (suc s) f)
 
 -- of the segments 0 to last
-module _ (m : Matrix) (step gap : ℕ) (allowance : Float) (ks : List Float) (last : ℕ) where
-  -- double j of segment s belongs at place s × gap + j of the output, and is apart from what stands there
+module _ (m : Matrix) (step stride : ℕ) (allowance : Float) (ks : List Float) (last : ℕ) where
+  -- double j of segment s belongs at place s × stride + j of the output, and is apart from what stands there
   abbrev pub isLost : ℕ → ℕ → Bool
-  isLost s j = isApart allowance (getD (windowOf m step ks s) j nan) (getD (windows m step gap ks last) (s * gap + j) nan)
+  isLost s j = isApart allowance (getD (windowOf m step ks s) j nan) (getD (windows m step stride ks last) (s * stride + j) nan)
 
-  -- a later segment drops all its doubles but the last `gap`
+  -- a later segment drops all its doubles but the last `stride`
   abbrev pub loses : ℕ → Bool
-  loses s = any (4 - gap) (isLost s)
+  loses s = any (4 - stride) (isLost s)
 
   -- the lowest segment that loses one; 0 if none does, since segment 0 drops nothing
   abbrev pub lostSeam : ℕ

@@ -4,7 +4,7 @@ ghost use lib.ListN.{length};
 ghost use Rattle.convert.specs.Buffer.{answerOf, bufferOf};
 ghost use Rattle.convert_strict.specs.Strict.{strictOf};
 use basis::Basis;
-use convert::Converted;
+use convert::ConversionAnswer;
 use error::Refusal;
 use error::Verdict;
 
@@ -18,23 +18,23 @@ pub fn convert_spline_strict(
     knots: &[f64],
     allowance: f64,
     out: &mut [f64],
-) -> Converted
+) -> ConversionAnswer
     ensures answer { λ r. ⌜ r ≡ answerOf (strictOf from to (now (knots .entry)) allowance (length (now (out .entry)))) ⌝ }
     ensures buffer { λ _. ⌜ now (out .exit) ≡ bufferOf (strictOf from to (now (knots .entry)) allowance (length (now (out .entry))))
         (now (out .entry)) ⌝ }
 {
     let v = refusals::allowed_verdict(from, to, knots, allowance, out.len());
     match v {
-        Verdict::Failed(r) => Converted::Refused(r),
+        Verdict::Failed(r) => ConversionAnswer::Refused(r),
         Verdict::Passed => {
             let m = convert_matrix::conversion_matrix(from, to);
             let step = basis::step(from);
-            let gap = basis::step(to);
-            let s = seams::lost_seam(m, step, knots, gap, allowance);
+            let stride = basis::step(to);
+            let s = seams::lost_seam(m, step, knots, stride, allowance);
             if 0 < s {
-                return Converted::Refused(Refusal::LostSeam(s as u16));
+                return ConversionAnswer::Refused(Refusal::LostSeam(s as u16));
             }
-            Converted::Written(convert::output::put_windows(&m, step, knots, gap, out))
+            ConversionAnswer::Written(convert::output::put_windows(&m, step, knots, stride, out))
         }
     }
 }

@@ -4,9 +4,9 @@ ghost use mathlib.Core.List.{_++_};
 ghost use Prim.Native.Nat.{_-_, _*_, _/_, _+_, _≤_, _<_};
 ghost use lib.ListN.{length, drop, getD};
 ghost use lib.Ieee.{nan};
-ghost use Rattle.convert.specs.Shown.{listOf};
+ghost use Rattle.convert.specs.Contract.{listOf};
 ghost use Rattle.convert_strict.specs.Seams.{isApart, any, lostSeam};
-use spline::Weights;
+use spline::RowSums;
 
 fn is_apart(allowance: f64, a: f64, b: f64) -> bool
     ensures { λ r. ⌜ r ≡ isApart allowance a b ⌝ }
@@ -15,11 +15,11 @@ fn is_apart(allowance: f64, a: f64, b: f64) -> bool
 }
 
 // Whether a double that the window w drops lies apart from the one that the output has in its place; h holds the output's last four.
-fn loses(allowance: f64, gap: usize, w: Weights, h: Weights) -> bool
-    requires { ⌜ (0 < gap) × (gap ≤ 4) ⌝ }
-    ensures { λ r. ⌜ r ≡ any (4 - gap) (λ j. isApart allowance (getD (listOf w) j nan) (getD (listOf h) (gap + j) nan)) ⌝ }
+fn loses(allowance: f64, stride: usize, w: RowSums, h: RowSums) -> bool
+    requires { ⌜ (0 < stride) × (stride ≤ 4) ⌝ }
+    ensures { λ r. ⌜ r ≡ any (4 - stride) (λ j. isApart allowance (getD (listOf w) j nan) (getD (listOf h) (stride + j) nan)) ⌝ }
 {
-    if gap == 1 {
+    if stride == 1 {
         if is_apart(allowance, w.w0, h.w1) {
             return true;
         }
@@ -28,41 +28,41 @@ fn loses(allowance: f64, gap: usize, w: Weights, h: Weights) -> bool
         }
         return is_apart(allowance, w.w2, h.w3);
     }
-    if gap == 2 {
+    if stride == 2 {
         if is_apart(allowance, w.w0, h.w2) {
             return true;
         }
         return is_apart(allowance, w.w1, h.w3);
     }
-    if gap == 3 {
+    if stride == 3 {
         return is_apart(allowance, w.w0, h.w3);
     }
     false
 }
 
-// The output's last four doubles once the last `gap` ones of the window w are written behind h.
-fn shifted(gap: usize, h: Weights, w: Weights) -> Weights
-    requires { ⌜ (0 < gap) × (gap ≤ 4) ⌝ }
-    ensures { λ r. ⌜ listOf r ≡ drop gap (listOf h) ++ drop (4 - gap) (listOf w) ⌝ }
+// The output's last four doubles once the last `stride` ones of the window w are written behind h.
+fn shifted(stride: usize, h: RowSums, w: RowSums) -> RowSums
+    requires { ⌜ (0 < stride) × (stride ≤ 4) ⌝ }
+    ensures { λ r. ⌜ listOf r ≡ drop stride (listOf h) ++ drop (4 - stride) (listOf w) ⌝ }
 {
-    if gap == 1 {
-        return Weights {
+    if stride == 1 {
+        return RowSums {
             w0: h.w1,
             w1: h.w2,
             w2: h.w3,
             w3: w.w3,
         };
     }
-    if gap == 2 {
-        return Weights {
+    if stride == 2 {
+        return RowSums {
             w0: h.w2,
             w1: h.w3,
             w2: w.w2,
             w3: w.w3,
         };
     }
-    if gap == 3 {
-        return Weights {
+    if stride == 3 {
+        return RowSums {
             w0: h.w3,
             w1: w.w1,
             w2: w.w2,
@@ -74,9 +74,15 @@ fn shifted(gap: usize, h: Weights, w: Weights) -> Weights
 
 // The lowest segment at whose seam a double is lost; 0 where none is. Nothing is written: `held` has the four doubles of the output that
 // the next seam overlaps.
-pub fn lost_seam(m: [[f64; 4]; 4], step: usize, knots: &[f64], gap: usize, allowance: f64) -> usize
-    requires { ⌜ (0 < step) × (0 < gap) × (gap ≤ 4) × (4 ≤ length (now knots)) × (length (now knots) ≤ 4096) ⌝ }
-    ensures lowest { λ r. ⌜ r ≡ lostSeam m step gap allowance (now (knots .entry)) ((length (now (knots .entry)) - 4) / step) ⌝ }
+pub fn lost_seam(
+    m: [[f64; 4]; 4],
+    step: usize,
+    knots: &[f64],
+    stride: usize,
+    allowance: f64,
+) -> usize
+    requires { ⌜ (0 < step) × (0 < stride) × (stride ≤ 4) × (4 ≤ length (now knots)) × (length (now knots) ≤ 4096) ⌝ }
+    ensures lowest { λ r. ⌜ r ≡ lostSeam m step stride allowance (now (knots .entry)) ((length (now (knots .entry)) - 4) / step) ⌝ }
     ensures small { λ r. ⌜ r ≤ 4092 ⌝ }
 {
     let last = (knots.len() - 4) / step;
@@ -86,10 +92,10 @@ pub fn lost_seam(m: [[f64; 4]; 4], step: usize, knots: &[f64], gap: usize, allow
         s += 1;
         let start = s * step;
         let w = spline::segment::sums(m, &knots[start..]);
-        if loses(allowance, gap, w, held) {
+        if loses(allowance, stride, w, held) {
             return s;
         }
-        let next = shifted(gap, held, w);
+        let next = shifted(stride, held, w);
         held = next;
     }
     0

@@ -8,8 +8,8 @@ use borrow.Author.Tests.{lt-ltb, ne-eqb}
 use lib.Dec.{ltb, eqb}
 use lib.ListN.{length, take, drop, length-append}
 use Rattle.sheet_depth.specs.Depth.{greatest}
-use Rattle.text.specs.declared.Hexed.{Hexed}
-use Rattle.text.specs.declared.Hexed.the-variants.{Is, Nothing}
+use Rattle.text.specs.declared.HexNumber.{HexNumber}
+use Rattle.text.specs.declared.HexNumber.the-variants.{Is, Nothing}
 use Rattle.text.specs.Text.{bytes, decText}
 use Rattle.text_decimals.specs.Decimals.{POINT, digitIn, digitsOf, numberIn, placeOf, scaled, behindOf, joined, thousandthsOf}
 use Rattle.text_decimals.proofs.Digits.{digit-is}

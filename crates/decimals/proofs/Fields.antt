@@ -11,10 +11,10 @@ use lib.ListN.{length, take, drop, length-drop}
 use lib.Seq.{take-all}
 use Rattle.error.specs.declared.Refusal.the-variants.{BadLine}
 use Rattle.lines_machine.specs.Program.{widest, so, over}
-use Rattle.lines_machine.specs.Held.{openOf}
+use Rattle.lines_machine.specs.Contract.{openOf}
 use Rattle.lines_reply.specs.Reply.{refusedText}
-use Rattle.text.specs.declared.Hexed.{Hexed}
-use Rattle.text.specs.declared.Hexed.the-variants.{Is, Nothing}
+use Rattle.text.specs.declared.HexNumber.{HexNumber}
+use Rattle.text.specs.declared.HexNumber.the-variants.{Is, Nothing}
 use Rattle.text.specs.Text.{bytes, TAB, LF, same, onto, fieldsOf, tabOf, valueOf, hexOf, decText}
 use Rattle.text.specs.Wrote.{Wrote}
 use Rattle.text.proofs.Writing.{then}
@@ -43,15 +43,16 @@ module _ (w : List ℕ) where
   by-none e h f k g l = rw (← e, h, ← f, k, ← g, l) refl
 
 -- ---- a field
-pub field-number : {o o₁ : List ℕ} {at r : ℕ} (d n : ℕ) (s : List ℕ) {h : Hexed} → h ≡ hexOf s → h ≡ Is n → Wrote o at (roundedText d n) o₁ r
+pub field-number : {o o₁ : List ℕ} {at r : ℕ} (d n : ℕ) (s : List ℕ) {h : HexNumber} → h ≡ hexOf s → h ≡ Is n → Wrote o at (roundedText d n) o₁ r
     → Wrote o at (fieldText d s) o₁ r
 field-number d n s e f w = rw (← e, f) w
 
-pub field-other : {o o₁ : List ℕ} {at r : ℕ} (d : ℕ) (s : List ℕ) {h : Hexed} → h ≡ hexOf s → h ≡ Nothing → Wrote o at s o₁ r → Wrote o at (fieldText d s) o₁ r
+pub field-other : {o o₁ : List ℕ} {at r : ℕ} (d : ℕ) (s : List ℕ) {h : HexNumber} → h ≡ hexOf s → h ≡ Nothing → Wrote o at s o₁ r
+    → Wrote o at (fieldText d s) o₁ r
 field-other d s e f w = rw (← e, f) w
 
 -- only 16 bytes say a number
-pub sixteen : (s : List ℕ) (n : ℕ) {h : Hexed} → h ≡ hexOf s → h ≡ Is n → length s ≡ 16
+pub sixteen : (s : List ℕ) (n : ℕ) {h : HexNumber} → h ≡ hexOf s → h ≡ Is n → length s ≡ 16
 unfolding hexOf
 sixteen s n e f = go (eqb (length s) 16) refl (sym e ∙ f)
   where

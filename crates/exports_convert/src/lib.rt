@@ -5,7 +5,7 @@ ghost use Rattle.convert.specs.Conversion.{convertedOf, convertedSegmentOf};
 ghost use Rattle.convert.specs.Buffer.{answerOf, bufferOf};
 ghost use Rattle.convert_strict.specs.Strict.{strictOf};
 ghost use Rattle.exports_reply.specs.Replies.{chosenOf, noBasis, chosen, convertedReply, lengthLeft};
-use exports_reply::Chosen;
+use exports_reply::BasisChoice;
 
 // One segment's conversion, into the first four places of out.
 pub fn convert_segment(from: u8, to: u8, cv: &[f64], out: &mut [f64]) -> u32
@@ -17,11 +17,11 @@ pub fn convert_segment(from: u8, to: u8, cv: &[f64], out: &mut [f64]) -> u32
         (λ t. bufferOf (convertedSegmentOf f t (now (cv .entry)) (length (now (out .entry)))) (now (out .entry)))) ⌝ }
 {
     let c = exports_reply::basis_of(from);
-    let Chosen::Known(f) = c else {
+    let BasisChoice::Known(f) = c else {
         return 255;
     };
     let d = exports_reply::basis_of(to);
-    let Chosen::Known(t) = d else {
+    let BasisChoice::Known(t) = d else {
         return 255;
     };
     exports_reply::conversion_reply(convert::convert_segment(f, t, cv, out))
@@ -40,11 +40,11 @@ pub fn convert_spline(from: u8, to: u8, knots: &[f64], out: &mut [f64], written:
         (λ t. bufferOf (convertedOf f t (now (knots .entry)) (length (now (out .entry)))) (now (out .entry)))) ⌝ }
 {
     let c = exports_reply::basis_of(from);
-    let Chosen::Known(f) = c else {
+    let BasisChoice::Known(f) = c else {
         return 255;
     };
     let d = exports_reply::basis_of(to);
-    let Chosen::Known(t) = d else {
+    let BasisChoice::Known(t) = d else {
         return 255;
     };
     exports_reply::length_told(convert::convert_spline(f, t, knots, out), written)
@@ -71,11 +71,11 @@ pub fn convert_spline_strict(
         (λ t. bufferOf (strictOf f t (now (knots .entry)) allowance (length (now (out .entry)))) (now (out .entry)))) ⌝ }
 {
     let c = exports_reply::basis_of(from);
-    let Chosen::Known(f) = c else {
+    let BasisChoice::Known(f) = c else {
         return 255;
     };
     let d = exports_reply::basis_of(to);
-    let Chosen::Known(t) = d else {
+    let BasisChoice::Known(t) = d else {
         return 255;
     };
     exports_reply::length_told(

@@ -4,7 +4,7 @@ ghost use Rattle.inverse_segment.specs.Answer.{defaultLimit, defaultPrecision};
 ghost use Rattle.inverse.specs.Inverse.{inverseOf, inverseBy, steadyOf};
 ghost use Rattle.exports_reply.specs.Replies.{chosenOf, noBasis, chosen, invertedReply, placeLeft, wholeLeft};
 ghost use Rattle.exports_reply.specs.Options.{chosenBy};
-use exports_reply::Chosen;
+use exports_reply::BasisChoice;
 use exports_reply::options::Way;
 use inverse::Options;
 
@@ -25,7 +25,7 @@ pub fn spline_inverse(
         (λ b. wholeLeft (inverseOf b y (now (knots .entry)) check defaultLimit defaultPrecision) (now (whole .entry))) ⌝ }
 {
     let c = exports_reply::basis_of(basis);
-    let Chosen::Known(b) = c else {
+    let BasisChoice::Known(b) = c else {
         return 255;
     };
     exports_reply::place_told(inverse::spline_inverse(b, y, knots, check), place, whole)
@@ -50,7 +50,7 @@ pub fn spline_inverse_with(
         (λ b. wholeLeft (inverseOf b y (now (knots .entry)) check limit precision) (now (whole .entry))) ⌝ }
 {
     let c = exports_reply::basis_of(basis);
-    let Chosen::Known(b) = c else {
+    let BasisChoice::Known(b) = c else {
         return 255;
     };
     exports_reply::place_told(
@@ -81,7 +81,7 @@ pub fn spline_inverse_by(
         (λ b e m. wholeLeft (inverseBy e m b y (now (knots .entry)) check limit precision) (now (whole .entry))) ⌝ }
 {
     let c = exports_reply::basis_of(basis);
-    let Chosen::Known(b) = c else {
+    let BasisChoice::Known(b) = c else {
         return 255;
     };
     let w = exports_reply::options::way_of(ends, method);
@@ -114,7 +114,7 @@ pub fn spline_inverse_steady(
         (λ b. wholeLeft (steadyOf b y (now (knots .entry)) check) (now (whole .entry))) ⌝ }
 {
     let c = exports_reply::basis_of(basis);
-    let Chosen::Known(b) = c else {
+    let BasisChoice::Known(b) = c else {
         return 255;
     };
     exports_reply::place_told(

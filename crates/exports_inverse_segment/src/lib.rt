@@ -4,7 +4,7 @@ ghost use Rattle.inverse_segment.specs.Answer.{inverseSegmentOf, inverseSegment
 ghost use Rattle.inverse_methods.specs.Method.{ruleOf, steadySegmentOf};
 ghost use Rattle.exports_reply.specs.Replies.{chosenOf, noBasis, chosen, invertedReply, placeLeft, wholeLeft};
 ghost use Rattle.exports_reply.specs.Options.{chosenBy};
-use exports_reply::Chosen;
+use exports_reply::BasisChoice;
 use exports_reply::options::Way;
 
 // One segment's inversion with the defaults: the crate's method among the others, so that the archive has its rounds once.
@@ -23,7 +23,7 @@ pub fn spline_inverse_segment(
         (λ b. wholeLeft (inverseSegmentOf b y (now (cv .entry)) defaultLimit defaultPrecision) (now (whole .entry))) ⌝ }
 {
     let c = exports_reply::basis_of(basis);
-    let Chosen::Known(b) = c else {
+    let BasisChoice::Known(b) = c else {
         return 255;
     };
     exports_reply::place_told(
@@ -51,7 +51,7 @@ pub fn spline_inverse_segment_with(
         (λ b. wholeLeft (inverseSegmentOf b y (now (cv .entry)) limit precision) (now (whole .entry))) ⌝ }
 {
     let c = exports_reply::basis_of(basis);
-    let Chosen::Known(b) = c else {
+    let BasisChoice::Known(b) = c else {
         return 255;
     };
     exports_reply::place_told(
@@ -80,7 +80,7 @@ pub fn spline_inverse_segment_by(
         (λ b _ m. wholeLeft (inverseSegmentBy (ruleOf m) b y (now (cv .entry)) limit precision) (now (whole .entry))) ⌝ }
 {
     let c = exports_reply::basis_of(basis);
-    let Chosen::Known(b) = c else {
+    let BasisChoice::Known(b) = c else {
         return 255;
     };
     let w = exports_reply::options::way_of(0, method);
@@ -109,7 +109,7 @@ pub fn spline_inverse_segment_steady(
         (λ b. wholeLeft (steadySegmentOf b y (now (cv .entry))) (now (whole .entry))) ⌝ }
 {
     let c = exports_reply::basis_of(basis);
-    let Chosen::Known(b) = c else {
+    let BasisChoice::Known(b) = c else {
         return 255;
     };
     exports_reply::place_told(

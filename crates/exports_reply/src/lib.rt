@@ -12,31 +12,31 @@ ghost use Rattle.exports_reply.specs.Replies.{
   lengthLeft,
 };
 use basis::Basis;
-use convert::Converted;
+use convert::ConversionAnswer;
 use error::Refusal;
 use inverse_segment::Ground;
-use inverse_segment::Inverted;
-use spline::Evaluated;
+use inverse_segment::Inversion;
+use spline::Evaluation;
 
 pub mod options;
 
-pub enum Chosen {
+pub enum BasisChoice {
     Known(Basis),
     Unknown,
 }
 
 // The basis of a number; the order is that of `bases` in specs/Replies.antt.
-pub fn basis_of(n: u8) -> Chosen
+pub fn basis_of(n: u8) -> BasisChoice
     ensures { λ r. ⌜ r ≡ chosenOf n ⌝ }
 {
     match n {
-        0 => Chosen::Known(Basis::Bspline),
-        1 => Chosen::Known(Basis::Bezier),
-        2 => Chosen::Known(Basis::CatmullRom),
-        3 => Chosen::Known(Basis::Hermite),
-        4 => Chosen::Known(Basis::Linear),
-        5 => Chosen::Known(Basis::Power),
-        _ => Chosen::Unknown,
+        0 => BasisChoice::Known(Basis::Bspline),
+        1 => BasisChoice::Known(Basis::Bezier),
+        2 => BasisChoice::Known(Basis::CatmullRom),
+        3 => BasisChoice::Known(Basis::Hermite),
+        4 => BasisChoice::Known(Basis::Linear),
+        5 => BasisChoice::Known(Basis::Power),
+        _ => BasisChoice::Unknown,
     }
 }
 
@@ -53,56 +53,56 @@ pub fn ground_number(g: Ground) -> usize
 }
 
 // A value is written and answered by 0; a refusal writes nothing.
-pub fn value_told(e: Evaluated, value: &mut f64) -> u32
+pub fn value_told(e: Evaluation, value: &mut f64) -> u32
     ensures { λ r. ⌜ (r ≡ evaluatedReply e) × (now (value .exit) ≡ valueLeft e (now (value .entry))) ⌝ }
 {
     match e {
-        Evaluated::Value(v) => {
+        Evaluation::Value(v) => {
             *value = v;
             0
         }
-        Evaluated::Refused(r) => error::reply(r),
+        Evaluation::Refused(r) => error::reply(r),
     }
 }
 
 // A place leaves parameter, local place, lower and upper end, and ground, segment and count; refusal 11 its count.
-pub fn place_told(a: Inverted, place: &mut [f64; 4], whole: &mut [usize; 3]) -> u32
+pub fn place_told(a: Inversion, place: &mut [f64; 4], whole: &mut [usize; 3]) -> u32
     ensures { λ r. ⌜ (r ≡ invertedReply a) × (now (place .exit) ≡ placeLeft a (now (place .entry)))
         × (now (whole .exit) ≡ wholeLeft a (now (whole .entry))) ⌝ }
 {
     match a {
-        Inverted::At(p) => {
+        Inversion::At(p) => {
             *place = [p.parameter, p.local, p.lower, p.upper];
             let g = p.ground;
             *whole = [ground_number(g), p.segment, p.count as usize];
             0
         }
-        Inverted::OffCurve(n) => {
+        Inversion::OffCurve(n) => {
             whole[2] = n;
             error::reply(Refusal::OffCurve)
         }
-        Inverted::Refused(r) => error::reply(r),
+        Inversion::Refused(r) => error::reply(r),
     }
 }
 
 // The length is written and answered by 0; a refusal writes nothing.
-pub fn length_told(a: Converted, written: &mut usize) -> u32
+pub fn length_told(a: ConversionAnswer, written: &mut usize) -> u32
     ensures { λ r. ⌜ (r ≡ convertedReply a) × (now (written .exit) ≡ lengthLeft a (now (written .entry))) ⌝ }
 {
     match a {
-        Converted::Written(n) => {
+        ConversionAnswer::Written(n) => {
             *written = n;
             0
         }
-        Converted::Refused(r) => error::reply(r),
+        ConversionAnswer::Refused(r) => error::reply(r),
     }
 }
 
-pub fn conversion_reply(a: Converted) -> u32
+pub fn conversion_reply(a: ConversionAnswer) -> u32
     ensures { λ r. ⌜ r ≡ convertedReply a ⌝ }
 {
     match a {
-        Converted::Written(_) => 0,
-        Converted::Refused(r) => error::reply(r),
+        ConversionAnswer::Written(_) => 0,
+        ConversionAnswer::Refused(r) => error::reply(r),
     }
 }

@@ -19,20 +19,20 @@ ghost use Rattle.exports_table.specs.Tables.{
   handedLength,
 };
 use error::Refusal;
-use exports_reply::Chosen;
+use exports_reply::BasisChoice;
 use exports_reply::options::Way;
 use inverse::Options;
-use table::Handed;
 use table::Table;
-use table::Timed;
+use table::TableConversion;
+use table::TableInversion;
 
 // A place leaves what it leaves without a span, and its second; refusal 11 its count.
-pub fn timed_told(a: Timed, place: &mut [f64; 4], whole: &mut [usize; 4]) -> u32
+pub fn timed_told(a: TableInversion, place: &mut [f64; 4], whole: &mut [usize; 4]) -> u32
     ensures { λ r. ⌜ (r ≡ timedReply a) × (now (place .exit) ≡ timedPlace a (now (place .entry)))
         × (now (whole .exit) ≡ timedWhole a (now (whole .entry))) ⌝ }
 {
     match a {
-        Timed::At(p, s) => {
+        TableInversion::At(p, s) => {
             *place = [p.parameter, p.local, p.lower, p.upper];
             let g = p.ground;
             *whole = [
@@ -43,25 +43,25 @@ pub fn timed_told(a: Timed, place: &mut [f64; 4], whole: &mut [usize; 4]) -> u32
             ];
             0
         }
-        Timed::OffCurve(n) => {
+        TableInversion::OffCurve(n) => {
             whole[2] = n;
             error::reply(Refusal::OffCurve)
         }
-        Timed::Refused(r) => error::reply(r),
+        TableInversion::Refused(r) => error::reply(r),
     }
 }
 
-fn handed_told(a: Handed, handed: &mut u32, written: &mut usize) -> u32
+fn handed_told(a: TableConversion, handed: &mut u32, written: &mut usize) -> u32
     ensures { λ r. ⌜ (r ≡ handedReply a) × (now (handed .exit) ≡ handedSpan a (now (handed .entry)))
         × (now (written .exit) ≡ handedLength a (now (written .entry))) ⌝ }
 {
     match a {
-        Handed::On(t, n) => {
+        TableConversion::On(t, n) => {
             *handed = t.span;
             *written = n;
             0
         }
-        Handed::Refused(r) => error::reply(r),
+        TableConversion::Refused(r) => error::reply(r),
     }
 }
 
@@ -85,7 +85,7 @@ pub fn table_spline_inverse(
         (now (whole .entry))) ⌝ }
 {
     let c = exports_reply::basis_of(basis);
-    let Chosen::Known(b) = c else {
+    let BasisChoice::Known(b) = c else {
         return 255;
     };
     let t = Table {
@@ -121,7 +121,7 @@ pub fn table_spline_inverse_by(
         (λ b e m. timedWhole (tableInverseBy e m (tableOf span b) y (now (knots .entry)) check limit precision) (now (whole .entry))) ⌝ }
 {
     let c = exports_reply::basis_of(basis);
-    let Chosen::Known(b) = c else {
+    let BasisChoice::Known(b) = c else {
         return 255;
     };
     let w = exports_reply::options::way_of(ends, method);
@@ -160,7 +160,7 @@ pub fn table_spline_inverse_steady(
         (λ b. timedWhole (tableSteadyOf (tableOf span b) y (now (knots .entry)) check) (now (whole .entry))) ⌝ }
 {
     let c = exports_reply::basis_of(basis);
-    let Chosen::Known(b) = c else {
+    let BasisChoice::Known(b) = c else {
         return 255;
     };
     let t = Table {
@@ -203,11 +203,11 @@ pub fn table_convert_spline(
         (λ t. bufferOf (tableConvertedOf (tableOf span f) t (now (knots .entry)) (length (now (out .entry)))) (now (out .entry)))) ⌝ }
 {
     let c = exports_reply::basis_of(from);
-    let Chosen::Known(f) = c else {
+    let BasisChoice::Known(f) = c else {
         return 255;
     };
     let d = exports_reply::basis_of(to);
-    let Chosen::Known(t) = d else {
+    let BasisChoice::Known(t) = d else {
         return 255;
     };
     let old = Table {
@@ -252,11 +252,11 @@ pub fn table_convert_spline_strict(
         (now (out .entry)))) ⌝ }
 {
     let c = exports_reply::basis_of(from);
-    let Chosen::Known(f) = c else {
+    let BasisChoice::Known(f) = c else {
         return 255;
     };
     let d = exports_reply::basis_of(to);
-    let Chosen::Known(t) = d else {
+    let BasisChoice::Known(t) = d else {
         return 255;
     };
     let old = Table {

@@ -8,18 +8,18 @@ ghost use Rattle.uneven.specs.Uneven.{depthOf};
 ghost use Rattle.exports_reply.specs.Replies.{chosenOf, noBasis, chosen, evaluatedReply, valueLeft};
 ghost use Rattle.exports_value.specs.Claims.{claimedReply, holdsLeft};
 ghost use Rattle.exports_value.specs.Uneven.{namedReply, soundedReply, depthLeft, depthPlaceLeft, depthWholeLeft};
-use claim::Claimed;
+use claim::ClaimAnswer;
 use error::Refusal;
-use exports_reply::Chosen;
-use uneven::Named;
-use uneven::Sounded;
+use exports_reply::BasisChoice;
+use uneven::DepthAnswer;
+use uneven::WhichTable;
 
 // 1 or 0; 255 for a number that is no basis, here and in every other call.
 pub fn is_len_ok(basis: u8, n: usize) -> u8
     ensures { λ r. ⌜ r ≡ chosen (chosenOf basis) noBasis (λ b. cond (lengthOk b n) 1 0) ⌝ }
 {
     let c = exports_reply::basis_of(basis);
-    let Chosen::Known(b) = c else {
+    let BasisChoice::Known(b) = c else {
         return 255;
     };
     if basis::is_len_ok(b, n) { 1 } else { 0 }
@@ -32,7 +32,7 @@ pub fn spline(basis: u8, x: f64, knots: &[f64], value: &mut f64) -> u32
         (λ b. valueLeft (splineOf b x (now (knots .entry))) (now (value .entry))) ⌝ }
 {
     let c = exports_reply::basis_of(basis);
-    let Chosen::Known(b) = c else {
+    let BasisChoice::Known(b) = c else {
         return 255;
     };
     exports_reply::value_told(spline::spline(b, x, knots), value)
@@ -45,26 +45,26 @@ pub fn spline_segment(basis: u8, x: f64, cv: &[f64], value: &mut f64) -> u32
         (λ b. valueLeft (splineSegmentOf b x (now (cv .entry))) (now (value .entry))) ⌝ }
 {
     let c = exports_reply::basis_of(basis);
-    let Chosen::Known(b) = c else {
+    let BasisChoice::Known(b) = c else {
         return 255;
     };
     exports_reply::value_told(spline::spline_segment(b, x, cv), value)
 }
 
 // Whether the claim holds is written and answered by 0; a refusal writes nothing.
-fn claimed_told(c: Claimed, holds: &mut bool) -> u32
+fn claimed_told(c: ClaimAnswer, holds: &mut bool) -> u32
     ensures { λ r. ⌜ (r ≡ claimedReply c) × (now (holds .exit) ≡ holdsLeft c (now (holds .entry))) ⌝ }
 {
     match c {
-        Claimed::Holds => {
+        ClaimAnswer::Holds => {
             *holds = true;
             0
         }
-        Claimed::Differs => {
+        ClaimAnswer::Differs => {
             *holds = false;
             0
         }
-        Claimed::Refused(r) => error::reply(r),
+        ClaimAnswer::Refused(r) => error::reply(r),
     }
 }
 
@@ -84,7 +84,7 @@ pub fn check_claim(
         (λ b. holdsLeft (claimOf b y segment x precision (now (knots .entry))) (now (holds .entry))) ⌝ }
 {
     let c = exports_reply::basis_of(basis);
-    let Chosen::Known(b) = c else {
+    let BasisChoice::Known(b) = c else {
         return 255;
     };
     claimed_told(
@@ -94,24 +94,31 @@ pub fn check_claim(
 }
 
 // The highest bit is set where the depths are meant.
-fn named_reply(t: Named, r: Refusal) -> u32
+fn named_reply(t: WhichTable, r: Refusal) -> u32
     ensures { λ n. ⌜ n ≡ namedReply t r ⌝ }
 {
     match t {
-        Named::Times => error::reply(r),
-        Named::Depths => { 2147483648 + (error::number(r) as u32 + 256 * (error::place(r) as u32)) }
+        WhichTable::Times => error::reply(r),
+        WhichTable::Depths => {
+            2147483648 + (error::number(r) as u32 + 256 * (error::place(r) as u32))
+        }
     }
 }
 
 // A depth leaves all; 11 leaves the count of the inversion.
-fn sounded_told(a: Sounded, depth: &mut f64, place: &mut [f64; 4], whole: &mut [usize; 4]) -> u32
+fn sounded_told(
+    a: DepthAnswer,
+    depth: &mut f64,
+    place: &mut [f64; 4],
+    whole: &mut [usize; 4],
+) -> u32
     ensures answer { λ r. ⌜ r ≡ soundedReply a ⌝ }
     ensures value { λ _. ⌜ now (depth .exit) ≡ depthLeft a (now (depth .entry)) ⌝ }
     ensures place { λ _. ⌜ now (place .exit) ≡ depthPlaceLeft a (now (place .entry)) ⌝ }
     ensures whole { λ _. ⌜ now (whole .exit) ≡ depthWholeLeft a (now (whole .entry)) ⌝ }
 {
     match a {
-        Sounded::At(d) => {
+        DepthAnswer::At(d) => {
             let p = d.place;
             let g = p.ground;
             *depth = d.depth;
@@ -124,11 +131,11 @@ fn sounded_told(a: Sounded, depth: &mut f64, place: &mut [f64; 4], whole: &mut [
             ];
             0
         }
-        Sounded::OffCurve(n) => {
+        DepthAnswer::OffCurve(n) => {
             whole[2] = n;
             error::reply(Refusal::OffCurve)
         }
-        Sounded::Refused(t, r) => named_reply(t, r),
+        DepthAnswer::Refused(t, r) => named_reply(t, r),
     }
 }
 
@@ -159,11 +166,11 @@ pub fn depth_at(
         (λ d. depthWholeLeft (depthOf t (now (times .entry)) d (now (depths .entry)) y limit precision) (now (whole .entry)))) ⌝ }
 {
     let c = exports_reply::basis_of(tb);
-    let Chosen::Known(t) = c else {
+    let BasisChoice::Known(t) = c else {
         return 255;
     };
     let e = exports_reply::basis_of(db);
-    let Chosen::Known(d) = e else {
+    let BasisChoice::Known(d) = e else {
         return 255;
     };
     sounded_told(

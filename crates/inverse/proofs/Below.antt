@@ -22,7 +22,7 @@ use Rattle.inverse_methods.specs.Method.{ruleOf}
 use Rattle.inverse_methods.proofs.Lawful.{lawful-of}
 use Rattle.inverse_search.specs.declared.SearchResult.{SearchResult}
 use Rattle.inverse_search.specs.declared.SearchResult.the-variants.{Entered}
-use Rattle.inverse_search.specs.Shown.{resultOf, FindIs}
+use Rattle.inverse_search.specs.Contract.{resultOf, FindIs}
 use Rattle.inverse_search.specs.Trial.{trial}
 use Rattle.inverse_search.specs.Search.{find}
 use Rattle.inverse_search.proofs.Found.{Result, missed, got}

@@ -15,8 +15,8 @@ use Rattle.doubles.specs.Lerp.{lerpOf}
 use Rattle.doubles.proofs.Tests.{each, each-at}
 use Rattle.spline.specs.Segment.{segmentOf}
 use Rattle.checks.specs.Checks.{inRange, allInRange, precise}
-use Rattle.inverse_segment.specs.declared.Inverted.the-variants.{OffCurve}
-use Rattle.inverse_segment.specs.Round.{narrow, halving, weighed, chord, kept, fraction, moved, settled, probed, turn}
+use Rattle.inverse_segment.specs.declared.Inversion.the-variants.{OffCurve}
+use Rattle.inverse_segment.specs.Round.{narrow, halving, weighed, chord, kept, fraction, moved, settled, probed, roundOf}
 use Rattle.inverse_segment.specs.Rounds.{rounds}
 use Rattle.inverse_segment.specs.Segment.{entered, enter}
 use Rattle.inverse_segment.specs.Answer.{defaultLimit, defaultPrecision}
@@ -67,6 +67,6 @@ jumping = nought ∷ nought ∷ one ∷ nought ∷ zeros 44 (nought ∷ nought �
 
 pub premise-needed : T (Holds (segmentOf Power jumping) half 13 0) × (inverseOf Power half jumping false defaultLimit defaultPrecision ≡ OffCurve 12)
 unfolding zeros jumping matrixOf row frac round ofInt ofBits add sub mul div lt le eq ne neg isNan inRange allInRange precise ordered bitsOf leadingZeros
-    magnitudeOf lerpOf narrow halving weighed kept fraction moved settled probed turn rounds entered enter tries last halve find parameterOf located
+    magnitudeOf lerpOf narrow halving weighed kept fraction moved settled probed roundOf rounds entered enter tries last halve find parameterOf located
     inverseBy
 premise-needed = (tt, refl)

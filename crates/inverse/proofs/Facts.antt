@@ -17,8 +17,8 @@ use Rattle.doubles.proofs.Share.{share-in}
 use Rattle.inverse_segment.specs.declared.Ground.{Ground}
 use Rattle.inverse_segment.specs.declared.Ground.the-variants.{End, Edge, Value, Width, Spent}
 use Rattle.inverse_segment.specs.declared.Place.{Place}
-use Rattle.inverse_segment.specs.declared.Inverted.{Inverted}
-use Rattle.inverse_segment.specs.declared.Inverted.the-variants.{Refused, OffCurve, At}
+use Rattle.inverse_segment.specs.declared.Inversion.{Inversion}
+use Rattle.inverse_segment.specs.declared.Inversion.the-variants.{Refused, OffCurve, At}
 use Rattle.inverse_segment.specs.Agreed.{Agreed}
 use Rattle.inverse_segment.specs.Evaluations.{Evaluations}
 use Rattle.inverse_segment.specs.Segment.{Outcome, off, placed, encloses, near, evaluationsOf}
@@ -34,16 +34,16 @@ use Rattle.inverse_search.proofs.Listed.{find-grows, find-same}
 use Rattle.inverse.specs.declared.Ends.{Ends}
 use Rattle.inverse.specs.EndRule.{atLow, atHigh}
 use Rattle.inverse.specs.Curve.{parameterOf, ended, located, evaluations}
-use Rattle.inverse.proofs.Told.{Silent, NoneHolds, Supposed, most, In, Told, at-low, at-high, entered, nowhere, located-told}
+use Rattle.inverse.proofs.Cases.{Silent, NoneHolds, Supposed, most, In, AnswerCase, at-low, at-high, entered, nowhere, located-told}
 
 -- where the answer is a place, it is one of which P holds
-abbrev pub AtPlace : (Place → Type 0) → Inverted → Type 0
+abbrev pub AtPlace : (Place → Type 0) → Inversion → Type 0
 AtPlace P (At p) = P p
 AtPlace P (OffCurve n) = Unit
 AtPlace P (Refused r) = Unit
 
 -- where the answer is refusal 11, P holds
-abbrev pub IfOff : Type 0 → Inverted → Type 0
+abbrev pub IfOff : Type 0 → Inversion → Type 0
 IfOff P (At p) = Unit
 IfOff P (OffCurve n) = P
 IfOff P (Refused r) = Unit
@@ -145,7 +145,7 @@ module _ (R : Rule) (lawful : Lawful R) (e : Ends) (ev : Evaluations) (g : ℕ �
   in-bounded : (p : Place) → In e ev g k y ε limit p → p .count ≤ most e ev g k y ε limit
   in-bounded p r = le-trans (r .sound .count) (r .few)
 
-  told-bounded : (r : Inverted) → Told e ev g k y ε limit r → countTold r ≤ most e ev g k y ε limit
+  told-bounded : (r : Inversion) → AnswerCase e ev g k y ε limit r → countTold r ≤ most e ev g k y ε limit
   told-bounded _ (at-low h) = omega arith
   told-bounded _ (at-high p h) = omega arith
   told-bounded _ (entered {p} q r) = in-bounded p r
@@ -169,7 +169,7 @@ module _ (R : Rule) (lawful : Lawful R) (e : Ends) (ev : Evaluations) (g : ℕ �
         order = b .order;
       }
 
-  told-proper : (r : Inverted) → Told e ev g k y ε limit r → AtPlace Proper r
+  told-proper : (r : Inversion) → AnswerCase e ev g k y ε limit r → AtPlace Proper r
   unfolding le lt
   told-proper _ (at-low h) = record { parameter = nought-from; local = nought-from; lower = nought-from; upper = nought-from; order = tt }
   told-proper _ (at-high p h) = record { parameter = one-from; local = one-from; lower = one-from; upper = one-from; order = tt }
@@ -198,7 +198,7 @@ module _ (R : Rule) (lawful : Lawful R) (e : Ends) (ev : Evaluations) (g : ℕ �
   by-ground p Width h = h
   by-ground p Spent h = h
 
-  told-enclosed : (r : Inverted) → Told e ev g k y ε limit r → AtPlace (λ p. Enclosed e ev g k y ε limit (p .ground) p) r
+  told-enclosed : (r : Inversion) → AnswerCase e ev g k y ε limit r → AtPlace (λ p. Enclosed e ev g k y ε limit (p .ground) p) r
   told-enclosed _ (at-low h) = tt
   told-enclosed _ (at-high p h) = tt
   told-enclosed _ (entered {p} q r) = by-ground p (p .ground) (in-enclosing p r)
@@ -217,7 +217,7 @@ module _ (R : Rule) (lawful : Lawful R) (e : Ends) (ev : Evaluations) (g : ℕ �
   says-so p base Width few h = h
   says-so p base Spent few h = (base, few, h)
 
-  told-says : (r : Inverted) → Told e ev g k y ε limit r → AtPlace (λ p. GroundSays e ev g k y ε limit (p .ground) p) r
+  told-says : (r : Inversion) → AnswerCase e ev g k y ε limit r → AtPlace (λ p. GroundSays e ev g k y ε limit (p .ground) p) r
   told-says _ (at-low h) = inl (h, record { segment = refl; local = refl; lower = refl; upper = refl; parameter = refl; count = refl })
   told-says _ (at-high p h) = inr (p, h, record { segment = refl; local = refl; lower = refl; upper = refl; parameter = refl; count = refl })
   told-says _ (entered {p} q r) = says-so p (r .base) (p .ground) (r .few) (r .sound .says)
@@ -227,7 +227,8 @@ module _ (R : Rule) (lawful : Lawful R) (e : Ends) (ev : Evaluations) (g : ℕ �
   pub ground-says : AtPlace (λ p. GroundSays e ev g k y ε limit (p .ground) p) (located R e ev g k y ε limit)
   ground-says = told-says (located R e ev g k y ε limit) (located-told R lawful e ev g k y ε limit some fits numbers)
 
-  told-off : (r : Inverted) → Told e ev g k y ε limit r → IfOff (Silent e ev g k y ε limit × (Supposed e ev g k y ε limit → NoneHolds e ev g k y ε limit)) r
+  told-off : (r : Inversion) → AnswerCase e ev g k y ε limit r
+      → IfOff (Silent e ev g k y ε limit × (Supposed e ev g k y ε limit → NoneHolds e ev g k y ε limit)) r
   told-off _ (at-low h) = tt
   told-off _ (at-high p h) = tt
   told-off _ (entered q r) = tt
@@ -237,7 +238,7 @@ module _ (R : Rule) (lawful : Lawful R) (e : Ends) (ev : Evaluations) (g : ℕ �
   pub off-only : IfOff (Silent e ev g k y ε limit × (Supposed e ev g k y ε limit → NoneHolds e ev g k y ε limit)) (located R e ev g k y ε limit)
   off-only = told-off (located R e ev g k y ε limit) (located-told R lawful e ev g k y ε limit some fits numbers)
 
-  told-nowhere : (r : Inverted) → Told e ev g k y ε limit r → Silent e ev g k y ε limit → NoneHolds e ev g k y ε limit → (n : ℕ) × (r ≡ OffCurve n)
+  told-nowhere : (r : Inversion) → AnswerCase e ev g k y ε limit r → Silent e ev g k y ε limit → NoneHolds e ev g k y ε limit → (n : ℕ) × (r ≡ OffCurve n)
   told-nowhere _ (at-low h) q N = absurd (T-not (atLow e y) (q .0) h)
   told-nowhere _ (at-high p h) q N = absurd (T-not (atHigh e y) (q .1) h)
   told-nowhere _ (entered {p} _ r) q N = absurd (T-not (Holds g y k (p .segment)) (N (p .segment) (r .below)) (r .holds))
@@ -247,7 +248,7 @@ module _ (R : Rule) (lawful : Lawful R) (e : Ends) (ev : Evaluations) (g : ℕ �
   pub off-where : Silent e ev g k y ε limit → NoneHolds e ev g k y ε limit → (n : ℕ) × (located R e ev g k y ε limit ≡ OffCurve n)
   off-where = told-nowhere (located R e ev g k y ε limit) (located-told R lawful e ev g k y ε limit some fits numbers)
 
-  told-place : (r : Inverted) → Told e ev g k y ε limit r → Silent e ev g k y ε limit → Supposed e ev g k y ε limit → (s : ℕ) → s < k → T (Holds g y k s)
+  told-place : (r : Inversion) → AnswerCase e ev g k y ε limit r → Silent e ev g k y ε limit → Supposed e ev g k y ε limit → (s : ℕ) → s < k → T (Holds g y k s)
       → (p : Place) × (r ≡ At p)
   told-place _ (at-low h) q S s l H = absurd (T-not (atLow e y) (q .0) h)
   told-place _ (at-high p h) q S s l H = absurd (T-not (atHigh e y) (q .1) h)

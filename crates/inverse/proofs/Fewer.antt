@@ -15,11 +15,11 @@ use Rattle.basis.specs.Basis.{segmentsOf}
 use Rattle.doubles.specs.Numbers.{nought, one}
 use Rattle.spline.specs.Segment.{segmentOf}
 use Rattle.inverse_segment.specs.declared.Place.{Place}
-use Rattle.inverse_segment.specs.declared.Inverted.{Inverted}
-use Rattle.inverse_segment.specs.declared.Inverted.the-variants.{Refused, OffCurve, At}
+use Rattle.inverse_segment.specs.declared.Inversion.{Inversion}
+use Rattle.inverse_segment.specs.declared.Inversion.the-variants.{Refused, OffCurve, At}
 use Rattle.inverse_segment.specs.Evaluations.{Evaluations}
 use Rattle.inverse_segment.specs.Round.{Rule}
-use Rattle.inverse_segment.specs.Rounds.{Placed}
+use Rattle.inverse_segment.specs.Rounds.{Arrival}
 use Rattle.inverse_segment.specs.Segment.{Outcome}
 use Rattle.inverse_segment.specs.Answer.{placeOf, answered, inverted}
 use Rattle.inverse_methods.specs.declared.Method.{Method}
@@ -36,7 +36,7 @@ use Rattle.inverse.specs.Curve.{parameterOf, ended, located}
 use Rattle.inverse.specs.Inverse.{inverseUses, inverseBy}
 
 -- q is p with n more counted
-pub record Counted (n : ℕ) (p q : Place) : Type 0 where
+pub record CountDiffers (n : ℕ) (p q : Place) : Type 0 where
   pub parameter : q .parameter ≡ p .parameter
   pub ground : q .ground ≡ p .ground
   pub segment : q .segment ≡ p .segment
@@ -46,17 +46,17 @@ pub record Counted (n : ℕ) (p q : Place) : Type 0 where
   pub count : q .count ≡ p .count + n
 
 -- n fewer where a segment was entered; and where none was, the two answers are one: a refusal, refusal 11 or a place by the end rule
-pub data Fewer (n : ℕ) : Inverted → Inverted → Type 0 where
+pub data Fewer (n : ℕ) : Inversion → Inversion → Type 0 where
   refused : {r : Refusal} → Fewer n (Refused r) (Refused r)
   off-curve : {c : ℕ} → Fewer n (OffCurve c) (OffCurve c)
   by-end : {p : Place} → isEnd (p .ground) ≡ true → Fewer n (At p) (At p)
-  fewer : {p q : Place} → isEnd (p .ground) ≡ false → Counted n p q → Fewer n (At p) (At q)
+  fewer : {p q : Place} → isEnd (p .ground) ≡ false → CountDiffers n p q → Fewer n (At p) (At q)
 
-either : (n : ℕ) (t : Bool) {a b c d : Inverted} → Fewer n a c → Fewer n b d → Fewer n (cond t a b) (cond t c d)
+either : (n : ℕ) (t : Bool) {a b c d : Inversion} → Fewer n a c → Fewer n b d → Fewer n (cond t a b) (cond t c d)
 either n true p q = p
 either n false p q = q
 
-counted : (P : ℕ → Float → Float) (n : ℕ) (p q : Placed) → More n p q → Counted n (placeOf P p) (placeOf P q)
+counted : (P : ℕ → Float → Float) (n : ℕ) (p q : Arrival) → More n p q → CountDiffers n (placeOf P p) (placeOf P q)
 counted P n p q m =
     record {
       parameter = ap (λ (s : ℕ). P s (q .local)) (m .segment) ∙ ap (P (p .segment)) (m .local);
@@ -74,7 +74,7 @@ told P n (search.fewer {p} {q} m) = fewer (m .searched) (counted P n p q m)
 
 module _ (R : Rule) (e : Ends) (ev : Evaluations) (g : ℕ → Float → Float) (k : ℕ) (y ε : Float) (limit : ℕ) where
   -- the answer past the refusals, by the crate's trial
-  abbrev pub locatedTwice : Inverted
+  abbrev pub locatedTwice : Inversion
   locatedTwice =
       let searched = answered (parameterOf k) (find (trialTwice R g y ε limit) y (e .rising) k ev) in
       cond (atLow e y) (ended ev 0 nought) (cond (atHigh e y) (ended ev (k - 1) one) searched)
@@ -87,7 +87,7 @@ module _ (R : Rule) (e : Ends) (ev : Evaluations) (g : ℕ → Float → Float) 
 -- ---- the call
 module _ (m : EndsBy) (how : Method) (b : Basis) (y : Float) (ks : List Float) (check : Bool) (limit : ℕ) (ε : Float) where
   -- as the call would answer if each segment that it enters had its ends evaluated twice
-  abbrev pub twice : Inverted
+  abbrev pub twice : Inversion
   twice =
       let r = endRuleOf m b ks (segmentOf b ks) in
       inverted (first (inverseUses b y ks check limit ε)) (locatedTwice (ruleOf how) (r .ends) (r .made) (segmentOf b ks) (segmentsOf b (length ks)) y ε limit)

@@ -11,9 +11,9 @@ use Rattle.basis.specs.declared.Basis.{Basis}
 use Rattle.basis.specs.Basis.{segmentsOf}
 use Rattle.spline.specs.Segment.{segmentOf}
 use Rattle.inverse_segment.specs.declared.Place.{Place}
-use Rattle.inverse_segment.specs.declared.Inverted.{Inverted}
-use Rattle.inverse_segment.specs.declared.Inverted.the-variants.{At}
-use Rattle.inverse_segment.specs.Rounds.{Placed}
+use Rattle.inverse_segment.specs.declared.Inversion.{Inversion}
+use Rattle.inverse_segment.specs.declared.Inversion.the-variants.{At}
+use Rattle.inverse_segment.specs.Rounds.{Arrival}
 use Rattle.inverse_segment.specs.Segment.{Outcome, placed}
 use Rattle.inverse_segment.specs.Answer.{answered}
 use Rattle.inverse_search.proofs.Found.{Holds, Nothing}
@@ -36,10 +36,10 @@ module _ (m : EndsBy) (how : Method) (b : Basis) (y : Float) (ks : List Float) (
   k = segmentsOf b (length ks)
 
   -- the answer is a place in segment s
-  abbrev pub In : ℕ → Inverted → Type 0
+  abbrev pub In : ℕ → Inversion → Type 0
   In s r = (p : Place) × (r ≡ At p) × (p .segment ≡ s)
 
-  placed-in : (s : ℕ) (o : Outcome) (p : Placed) → o ≡ placed p → p .segment ≡ s → In s (answered (parameterOf k) o)
+  placed-in : (s : ℕ) (o : Outcome) (p : Arrival) → o ≡ placed p → p .segment ≡ s → In s (answered (parameterOf k) o)
   placed-in s o p e q = (_, ap (answered (parameterOf k)) e, q)
 
   located-first : Pass m how b y ks check limit ε → Quiet m how b y ks check limit ε → k ≤ 12 → (s : ℕ) → s < k → T (Holds (segmentOf b ks) y k s)

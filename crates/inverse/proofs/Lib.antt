@@ -1,7 +1,7 @@
-pub mod Told
+pub mod Cases
 pub mod Facts
 pub mod Curve
-pub mod Calls
+pub mod Glue
 pub mod Scan
 pub mod Below
 pub mod Verdicts

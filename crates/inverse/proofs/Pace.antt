@@ -11,10 +11,10 @@ use lib.Ieee.{Float}
 use Rattle.doubles.specs.Numbers.{nought, one}
 use Rattle.doubles.proofs.Tests.{branch}
 use Rattle.doubles.proofs.Units.{nought-in, one-in}
-use Rattle.inverse_segment.specs.declared.Inverted.{Inverted}
-use Rattle.inverse_segment.specs.declared.Inverted.the-variants.{OffCurve, At}
+use Rattle.inverse_segment.specs.declared.Inversion.{Inversion}
+use Rattle.inverse_segment.specs.declared.Inversion.the-variants.{OffCurve, At}
 use Rattle.inverse_segment.specs.Evaluations.{Evaluations}
-use Rattle.inverse_segment.specs.Rounds.{Placed}
+use Rattle.inverse_segment.specs.Rounds.{Arrival}
 use Rattle.inverse_segment.specs.Segment.{encloses, near, entered, enter, Outcome, off, placed}
 use Rattle.inverse_segment.specs.Answer.{answered, countTold}
 use Rattle.inverse_segment.proofs.Ends.{both}
@@ -33,7 +33,7 @@ use Rattle.inverse_methods.proofs.Ending.{Enough}
 use Rattle.inverse_methods.proofs.Timely as S
 
 module _ (R : Rule) (lawful : Lawful R) (y ε : Float) (limit N : ℕ) (E : Enough ε N) where
-  abbrev InTime : ℕ → ℕ → Placed → Type 0
+  abbrev InTime : ℕ → ℕ → Arrival → Type 0
   InTime s base p = S.InTime limit N base p
 
   module _ (g : ℕ → Float → Float) (k : ℕ) where
@@ -54,7 +54,7 @@ module _ (R : Rule) (lawful : Lawful R) (y ε : Float) (limit N : ℕ) (E : Enou
           (λ s l. (numbers s l .values nought nought-in, numbers s l .values one one-in)) (e .rising) ev (lt-of-le-of-lt fits (lit< tt))
 
       -- what an answer owes: never spent, and a count bounded as if the limit were N
-      abbrev pub Timely : Inverted → Type 0
+      abbrev pub Timely : Inversion → Type 0
       Timely r = (N < limit → S.NeverSpent r) × (countTold r ≤ length ev + boundOf k N)
 
       room : (n : ℕ) → n ≤ length ev + probes (leb k 12) k → n + N ≤ length ev + boundOf k N

@@ -18,8 +18,8 @@ use Rattle.basis.specs.declared.Basis.{Basis}
 use Rattle.basis.specs.Basis.{segmentsOf}
 use Rattle.spline.specs.Segment.{segmentOf}
 use Rattle.inverse_segment.specs.declared.Place.{Place}
-use Rattle.inverse_segment.specs.declared.Inverted.{Inverted}
-use Rattle.inverse_segment.specs.declared.Inverted.the-variants.{Refused, OffCurve, At}
+use Rattle.inverse_segment.specs.declared.Inversion.{Inversion}
+use Rattle.inverse_segment.specs.declared.Inversion.the-variants.{Refused, OffCurve, At}
 use Rattle.inverse_segment.specs.Agreed.{Agreed}
 use Rattle.inverse_segment.specs.Answer.{inverted, countTold, unlessRefused}
 use Rattle.inverse_methods.specs.declared.Method.{Method}
@@ -33,7 +33,7 @@ use Rattle.inverse.specs.declared.EndsBy.the-variants.{Knots, Curve}
 use Rattle.inverse.specs.EndRule.{EndRule, endRuleOf, own}
 use Rattle.inverse.specs.Curve.{located, evaluations}
 use Rattle.inverse.specs.Inverse.{inverseUses, inverseBy, evaluationsBy}
-use Rattle.inverse.proofs.Told.{Silent, NoneHolds, Supposed}
+use Rattle.inverse.proofs.Cases.{Silent, NoneHolds, Supposed}
 use Rattle.inverse.proofs.Facts.{
   AtPlace,
   IfOff,
@@ -51,7 +51,7 @@ use Rattle.inverse.proofs.Facts.{
   off-where,
   place-where,
 }
-use Rattle.inverse.proofs.Calls.{rule-made}
+use Rattle.inverse.proofs.Glue.{rule-made}
 use Rattle.inverse.proofs.Curve.{segments-some, segments-few, curve-numbers}
 use Rattle.inverse.proofs.Verdicts.{Admitted, admitted}
 
@@ -61,7 +61,7 @@ rule-same : (m : EndsBy) (b : Basis) (ks : List Float) (g h : ℕ → Float → 
 rule-same Knots b ks g h a = refl
 rule-same Curve b ks g h a = rw (a .0, a .1 .0)
 
-with-pass : (P Q R : Type 0) (r : Inverted) → P → IfOff (Q × R) r → IfOff (P × Q × R) r
+with-pass : (P Q R : Type 0) (r : Inversion) → P → IfOff (Q × R) r → IfOff (P × Q × R) r
 with-pass P Q R (At p) e h = tt
 with-pass P Q R (OffCurve n) e h = (e, h .0, h .1)
 with-pass P Q R (Refused r) e h = tt
@@ -75,7 +75,7 @@ module _ (m : EndsBy) (how : Method) (b : Basis) (y : Float) (ks : List Float) (
   rule = endRuleOf m b ks (segmentOf b ks)
 
   -- the answer past the refusals
-  abbrev pub here : Inverted
+  abbrev pub here : Inversion
   here = located (ruleOf how) (rule .ends) (rule .made) (segmentOf b ks) (segmentsOf b (length ks)) y ε limit
 
   -- no row of the refusal table applies
@@ -94,7 +94,7 @@ module _ (m : EndsBy) (how : Method) (b : Basis) (y : Float) (ks : List Float) (
   abbrev pub Premise : Type 0
   Premise = Supposed (rule .ends) (rule .made) (segmentOf b ks) k y ε limit
 
-  pub by-verdict : (P : Inverted → Type 0) → ((r : Refusal) → P (Refused r)) → (Admitted b y ks check → P here) → P (inverseBy m how b y ks check limit ε)
+  pub by-verdict : (P : Inversion → Type 0) → ((r : Refusal) → P (Refused r)) → (Admitted b y ks check → P here) → P (inverseBy m how b y ks check limit ε)
   unfolding inverseBy
   by-verdict P f h = go (first (inverseUses b y ks check limit ε)) refl
     where
@@ -197,7 +197,7 @@ module _ (m : EndsBy) (how : Method) (b : Basis) (y : Float) (ks : List Float) (
       rw v (off-where (ruleOf how) (lawful-of how) (rule .ends) (rule .made) (segmentOf b ks) k y ε limit some (fits a) (numbers a) q N)
 
   -- ---- all of these of a reply r, as the call's contract gives it
-  pub record Promised (r : Inverted) : Type 0 where
+  pub record Promised (r : Inversion) : Type 0 where
     pub count : countTold r ≡ length (evaluationsBy m how b y ks check limit ε)
     pub unlisted : (h : ℕ → Float → Float) → Agreed (segmentOf b ks) h (evaluationsBy m how b y ks check limit ε)
         → r ≡ inverted (first (inverseUses b y ks check limit ε)) (located (ruleOf how) (endRuleOf m b ks h .ends) (endRuleOf m b ks h .made) h k y ε limit)
@@ -209,7 +209,7 @@ module _ (m : EndsBy) (how : Method) (b : Basis) (y : Float) (ks : List Float) (
     pub off-only : IfOff (Pass × Quiet × (Premise → Nowhere)) r
     pub off-where : Pass → Quiet → Nowhere → (n : ℕ) × (r ≡ OffCurve n)
 
-  pub reply-promised : (r : Inverted) → r ≡ inverseBy m how b y ks check limit ε → Promised r
+  pub reply-promised : (r : Inversion) → r ≡ inverseBy m how b y ks check limit ε → Promised r
   reply-promised r e =
       subst Promised (sym e)
       (record {

@@ -17,7 +17,7 @@ use Rattle.basis.specs.declared.Basis.{Basis}
 use Rattle.basis.specs.Basis.{segmentsOf}
 use Rattle.doubles.proofs.Tests.{branch}
 use Rattle.spline.specs.Segment.{segmentOf}
-use Rattle.inverse_segment.specs.declared.Inverted.the-variants.{Refused}
+use Rattle.inverse_segment.specs.declared.Inversion.the-variants.{Refused}
 use Rattle.inverse_segment.proofs.Verdicts.{Past, answered-past, refused-by}
 use Rattle.inverse_methods.specs.declared.Method.{Method}
 use Rattle.inverse_methods.specs.Method.{ruleOf}

@@ -13,7 +13,7 @@ use Rattle.doubles.proofs.Order.{le-trans-float, not-lt→le, lt-le-absurd}
 use Rattle.checks.specs.Checks.{bound, inRange, allInRange}
 use Rattle.inverse_search.specs.Search.{before}
 use Rattle.inverse.specs.Order.{ordered}
-use Rattle.inverse.specs.Scan.{follows, kept}
+use Rattle.inverse.specs.ContractOrder.{follows, kept}
 
 -- ---- the loop
 pub next : (ks : List Float) (i : ℕ) → i < length ks → drop i ks ≡ getD ks i nan ∷ drop (i + 1) ks

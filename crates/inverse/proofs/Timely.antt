@@ -11,7 +11,7 @@ use lib.Ieee.{Float}
 use Rattle.basis.specs.declared.Basis.{Basis}
 use Rattle.basis.specs.Basis.{segmentsOf}
 use Rattle.spline.specs.Segment.{segmentOf}
-use Rattle.inverse_segment.specs.declared.Inverted.{Inverted}
+use Rattle.inverse_segment.specs.declared.Inversion.{Inversion}
 use Rattle.inverse_segment.specs.Answer.{countTold}
 use Rattle.inverse_search.specs.Bound.{boundOf}
 use Rattle.inverse_methods.specs.declared.Method.the-variants.{Steady}
@@ -22,13 +22,13 @@ use Rattle.inverse_methods.proofs.Timely.{NeverSpent}
 use Rattle.inverse.specs.declared.EndsBy.{EndsBy}
 use Rattle.inverse.specs.EndRule.{endRuleOf, own}
 use Rattle.inverse.specs.Inverse.{inverseBy}
-use Rattle.inverse.proofs.Calls.{rule-made}
+use Rattle.inverse.proofs.Glue.{rule-made}
 use Rattle.inverse.proofs.Pace.{located-timely}
 use Rattle.inverse.proofs.Promises as kept
 
 module _ (m : EndsBy) (b : Basis) (ks : List Float) (limit : ℕ) where
   -- not spent, where the limit is above N; and at most N + 24 evaluations, or N + 2b + 4, and the two of the curve's own ends where the end rule goes by them
-  abbrev pub Within : ℕ → Inverted → Type 0
+  abbrev pub Within : ℕ → Inversion → Type 0
   Within N r = (N < limit → NeverSpent r) × (countTold r ≤ own m + boundOf (segmentsOf b (length ks)) N)
 
   pub timely : (y : Float) (check : Bool) (ε : Float) (N : ℕ) → Enough ε N → Within N (inverseBy m Steady b y ks check limit ε)

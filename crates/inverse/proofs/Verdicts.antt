@@ -18,8 +18,8 @@ use Rattle.basis.specs.Basis.{segmentsOf}
 use Rattle.doubles.proofs.Tests.{holds, fails}
 use Rattle.spline.specs.Segment.{segmentOf}
 use Rattle.checks.specs.Checks.{inRange, allInRange, firstBad, curveLength, asked}
-use Rattle.inverse_segment.specs.declared.Inverted.{Inverted}
-use Rattle.inverse_segment.specs.declared.Inverted.the-variants.{Refused}
+use Rattle.inverse_segment.specs.declared.Inversion.{Inversion}
+use Rattle.inverse_segment.specs.declared.Inversion.the-variants.{Refused}
 use Rattle.inverse_methods.specs.declared.Method.{Method}
 use Rattle.inverse_methods.specs.Method.{ruleOf}
 use Rattle.checks.proofs.Verdicts.{askedRows, lastRows}
@@ -28,7 +28,7 @@ use Rattle.inverse.specs.Order.{rises, turnsBack, turningKnot}
 use Rattle.inverse.specs.EndRule.{endRuleOf}
 use Rattle.inverse.specs.Curve.{located}
 use Rattle.inverse.specs.Inverse.{inverseUses, inverseBy}
-use Rattle.inverse.specs.Scan.{kept}
+use Rattle.inverse.specs.ContractOrder.{kept}
 use Rattle.inverse.proofs.Scan.{all-sound}
 
 -- ---- all in range and in order, by one scan
@@ -127,7 +127,7 @@ module _ (m : EndsBy) (how : Method) (b : Basis) (y : Float) (ks : List Float) (
   unfolding inverseBy
   refused-is k = rw (sym e ∙ k)
 
-  pub answer-is : {a : Inverted} → v ≡ Passed
+  pub answer-is : {a : Inversion} → v ≡ Passed
       → a ≡ located (ruleOf how) (endRuleOf m b ks (segmentOf b ks) .ends) (endRuleOf m b ks (segmentOf b ks) .made) (segmentOf b ks)
       (segmentsOf b (length ks)) y ε limit → a ≡ inverseBy m how b y ks check limit ε
   unfolding inverseBy

@@ -6,7 +6,7 @@ use lib.Ieee.{Float, binary64, add, mul, div}
 use Rattle.doubles.specs.Numbers.{nought, one}
 use Rattle.doubles.specs.Whole.{double}
 use Rattle.inverse_segment.specs.declared.Ground.the-variants.{End}
-use Rattle.inverse_segment.specs.declared.Inverted.{Inverted}
+use Rattle.inverse_segment.specs.declared.Inversion.{Inversion}
 use Rattle.inverse_segment.specs.Evaluations.{Evaluations}
 use Rattle.inverse_segment.specs.Segment.{placed, evaluationsOf}
 use Rattle.inverse_segment.specs.Answer.{answered, alone}
@@ -21,11 +21,11 @@ unfoldable pub parameterOf : ℕ → ℕ → Float → Float
 parameterOf k s x = mul binary64 (add binary64 (double s) x) (div binary64 one (double k))
 
 -- by the end rule: both bracket ends equal the local place, which is the parameter too
-abbrev pub ended : Evaluations → ℕ → Float → Inverted
+abbrev pub ended : Evaluations → ℕ → Float → Inversion
 ended ev s x = answered alone (placed (record { ground = End; segment = s; local = x; lower = x; upper = x; made = ev }))
 
 -- low first, then high, then the search
-unfoldable pub located : Rule → Ends → Evaluations → (ℕ → Float → Float) → ℕ → Float → Float → ℕ → Inverted
+unfoldable pub located : Rule → Ends → Evaluations → (ℕ → Float → Float) → ℕ → Float → Float → ℕ → Inversion
 located R e ev g k y ε limit =
     let searched = answered (parameterOf k) (find (trial R g y ε limit) y (e .rising) k ev) in
     cond (atLow e y) (ended ev 0 nought) (cond (atHigh e y) (ended ev (k - 1) one) searched)

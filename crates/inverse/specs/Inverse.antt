@@ -9,7 +9,7 @@ use Rattle.basis.specs.declared.Basis.{Basis}
 use Rattle.basis.specs.Basis.{segmentsOf}
 use Rattle.spline.specs.Segment.{segmentOf}
 use Rattle.checks.specs.Checks.{curveLength, badKnot, asked}
-use Rattle.inverse_segment.specs.declared.Inverted.{Inverted}
+use Rattle.inverse_segment.specs.declared.Inversion.{Inversion}
 use Rattle.inverse_segment.specs.Evaluations.{Evaluations}
 use Rattle.inverse_segment.specs.Answer.{inverted, unlessRefused, defaultPrecision}
 use Rattle.inverse_methods.specs.declared.Method.{Method}
@@ -24,7 +24,7 @@ use Rattle.inverse.specs.Curve.{located, evaluations}
 abbrev pub inverseUses : Basis → Float → List Float → Bool → ℕ → Float → Uses
 inverseUses b y ks check limit ε = curveLength b (length ks) ++ asked y limit ε ++ (badKnot ks ∷ turnBack check ks ∷ [])
 
-unfoldable pub inverseBy : EndsBy → Method → Basis → Float → List Float → Bool → ℕ → Float → Inverted
+unfoldable pub inverseBy : EndsBy → Method → Basis → Float → List Float → Bool → ℕ → Float → Inversion
 inverseBy m how b y ks check limit ε =
     let r = endRuleOf m b ks (segmentOf b ks) in
     inverted (first (inverseUses b y ks check limit ε))
@@ -38,12 +38,12 @@ evaluationsBy m how b y ks check limit ε =
     (evaluations (ruleOf how) (r .ends) (r .made) (segmentOf b ks) (segmentsOf b (length ks)) y ε limit)
 
 -- as the crate inverts: by the knots, and by its own rule
-abbrev pub inverseOf : Basis → Float → List Float → Bool → ℕ → Float → Inverted
+abbrev pub inverseOf : Basis → Float → List Float → Bool → ℕ → Float → Inversion
 inverseOf = inverseBy Knots AsCrate
 
 abbrev pub inverseEvaluations : Basis → Float → List Float → Bool → ℕ → Float → Evaluations
 inverseEvaluations = evaluationsBy Knots AsCrate
 
 -- by the knots and by the steady method, with its defaults
-abbrev pub steadyOf : Basis → Float → List Float → Bool → Inverted
+abbrev pub steadyOf : Basis → Float → List Float → Bool → Inversion
 steadyOf b y ks check = inverseBy Knots Steady b y ks check steadyLimit defaultPrecision

@@ -2,5 +2,5 @@ pub mod Order
 pub mod EndRule
 pub mod Curve
 pub mod Inverse
-pub mod Scan
-pub mod Shown
+pub mod ContractOrder
+pub mod Contract

@@ -12,13 +12,13 @@ ghost use Rattle.inverse_methods.specs.Method.{ruleOf};
 ghost use Rattle.inverse.specs.EndRule.{atLow, atHigh, knotEnds, curveRule, endRuleOf, own};
 ghost use Rattle.inverse.specs.Curve.{parameterOf, located};
 ghost use Rattle.inverse.specs.Inverse.{inverseBy, inverseOf, steadyOf};
-ghost use Rattle.inverse.specs.Shown.{EndedIs, SearchedIs, LocatedIs};
+ghost use Rattle.inverse.specs.Contract.{EndedIs, SearchedIs, LocatedIs};
 use basis::Basis;
 use error::Verdict;
 use inverse_methods::Method;
 use inverse_search::SearchResult;
 use inverse_segment::Ground;
-use inverse_segment::Inverted;
+use inverse_segment::Inversion;
 use inverse_segment::Place;
 
 pub mod order;
@@ -83,8 +83,8 @@ fn curve_ends(b: Basis, knots: &[f64], k: usize) -> Ends
     requires { ⌜ (k ≡ segmentsOf b (length (now knots))) × (4 ≤ length (now knots)) × (length (now knots) ≤ 4096) ⌝ }
     ensures { λ r. ⌜ r ≡ curveRule (segmentOf b (now (knots .entry))) k .ends ⌝ }
 {
-    let start = spline::segment::horner(inverse_search::weights_at(b, knots, 0), 0.0);
-    let end = spline::segment::horner(inverse_search::weights_at(b, knots, k - 1), 1.0);
+    let start = spline::segment::horner(inverse_search::row_sums_at(b, knots, 0), 0.0);
+    let end = spline::segment::horner(inverse_search::row_sums_at(b, knots, k - 1), 1.0);
     Ends {
         rising: start < end,
         low: start,
@@ -93,10 +93,10 @@ fn curve_ends(b: Basis, knots: &[f64], k: usize) -> Ends
 }
 
 // The end rule's answer at a local place of segment s; n evaluations were made.
-fn end_place(s: usize, x: f64, n: u32) -> Inverted
+fn end_place(s: usize, x: f64, n: u32) -> Inversion
     ensures { λ r. ⌜ EndedIs n s x r ⌝ }
 {
-    Inverted::At(Place {
+    Inversion::At(Place {
         parameter: x,
         ground: Ground::End,
         segment: s,
@@ -125,16 +125,16 @@ fn searched(
     rising: bool,
     k: usize,
     n: u32,
-) -> Inverted
+) -> Inversion
     requires { ⌜ (k ≡ segmentsOf b (length (now knots))) × (4 ≤ length (now knots)) × (length (now knots) ≤ 4096) × (isNan y ≡ false)
         × (allInRange (now knots) ≡ true) × (n ≤ 1000) ⌝ }
     ensures { λ r. ⌜ SearchedIs how b y (now (knots .entry)) limit precision rising k n r ⌝ }
 {
     let a = inverse_search::find(how, b, knots, y, precision, limit, rising, k, n);
     let SearchResult::Entered(s, e) = a else {
-        return Inverted::OffCurve(inverse_search::count_of(a) as usize);
+        return Inversion::OffCurve(inverse_search::count_of(a) as usize);
     };
-    Inverted::At(inverse_segment::place_of(parameter(k, s, e.local), s, e))
+    Inversion::At(inverse_segment::place_of(parameter(k, s, e.local), s, e))
 }
 
 // The end rule, then the search; n evaluations have been made for the rule.
@@ -148,7 +148,7 @@ fn located(
     limit: u16,
     precision: f64,
     k: usize,
-) -> Inverted
+) -> Inversion
     requires { ⌜ (k ≡ segmentsOf b (length (now knots))) × (4 ≤ length (now knots)) × (length (now knots) ≤ 4096) × (isNan y ≡ false)
         × (allInRange (now knots) ≡ true) × (n ≤ 1000) ⌝ }
     ensures { λ r. ⌜ LocatedIs how e b y (now (knots .entry)) limit precision k n r ⌝ }
@@ -191,7 +191,7 @@ fn locate(
     knots: &[f64],
     limit: u16,
     precision: f64,
-) -> Inverted
+) -> Inversion
     requires { ⌜ (4 ≤ length (now knots)) × (length (now knots) ≤ 4096) × (isNan y ≡ false) × (allInRange (now knots) ≡ true) ⌝ }
     ensures { λ r. ⌜ r ≡ located (ruleOf how) (endRuleOf ends b (now (knots .entry)) (segmentOf b (now (knots .entry))) .ends)
         (endRuleOf ends b (now (knots .entry)) (segmentOf b (now (knots .entry))) .made) (segmentOf b (now (knots .entry)))
@@ -212,12 +212,12 @@ fn locate(
 }
 
 // The place of y on the curve, by these options; where they ask for the order check, knots that turn back are refused.
-pub fn spline_inverse_by(o: Options, b: Basis, y: f64, knots: &[f64]) -> Inverted
+pub fn spline_inverse_by(o: Options, b: Basis, y: f64, knots: &[f64]) -> Inversion
     ensures { λ r. ⌜ r ≡ inverseBy (o .ends) (o .method) b y (now (knots .entry)) (o .check) (o .limit) (o .precision) ⌝ }
 {
     let v = refusals::verdict(b, y, knots, o.check, o.limit, o.precision);
     match v {
-        Verdict::Failed(r) => Inverted::Refused(r),
+        Verdict::Failed(r) => Inversion::Refused(r),
         Verdict::Passed => {
             let ends = o.ends;
             let method = o.method;
@@ -234,7 +234,7 @@ pub fn spline_inverse_with(
     check: bool,
     limit: u16,
     precision: f64,
-) -> Inverted
+) -> Inversion
     ensures { λ r. ⌜ r ≡ inverseOf b y (now (knots .entry)) check limit precision ⌝ }
 {
     let o = Options {
@@ -248,14 +248,14 @@ pub fn spline_inverse_with(
 }
 
 // The same with limit 32 and precision 1e-10.
-pub fn spline_inverse(b: Basis, y: f64, knots: &[f64], check: bool) -> Inverted
+pub fn spline_inverse(b: Basis, y: f64, knots: &[f64], check: bool) -> Inversion
     ensures { λ r. ⌜ r ≡ inverseOf b y (now (knots .entry)) check defaultLimit defaultPrecision ⌝ }
 {
     spline_inverse_with(b, y, knots, check, 32, 1e-10)
 }
 
 // By the knots and by the steady method, with limit 64 and precision 1e-10: never spent.
-pub fn spline_inverse_steady(b: Basis, y: f64, knots: &[f64], check: bool) -> Inverted
+pub fn spline_inverse_steady(b: Basis, y: f64, knots: &[f64], check: bool) -> Inversion
     ensures { λ r. ⌜ r ≡ steadyOf b y (now (knots .entry)) check ⌝ }
 {
     let o = Options {

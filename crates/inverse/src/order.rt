@@ -6,7 +6,7 @@ ghost use lib.ListN.{length, drop};
 ghost use Rattle.error.specs.declared.Refusal.the-variants.{TurnsBack};
 ghost use Rattle.checks.specs.Checks.{allInRange};
 ghost use Rattle.inverse.specs.Order.{rises, turnsBack, turnsAt, turningKnot};
-ghost use Rattle.inverse.specs.Scan.{follows, kept};
+ghost use Rattle.inverse.specs.ContractOrder.{follows, kept};
 use error::Refusal;
 
 pub fn rising(knots: &[f64]) -> bool

@@ -13,19 +13,19 @@ use Rattle.inverse_segment.specs.declared.Bracket.{Bracket}
 use Rattle.inverse_segment.specs.declared.State.{State}
 use Rattle.inverse_segment.specs.Evaluations.{Evaluations}
 use Rattle.inverse_segment.specs.Round.{toward, midpoint, weighed}
-use Rattle.spline.specs.declared.Weights.{Weights}
+use Rattle.spline.specs.declared.RowSums.{RowSums}
 use Rattle.spline.specs.Segment.{hornerOf}
 use Rattle.inverse_segment.specs.declared.Stop.{Stop}
 use Rattle.inverse_segment.specs.declared.Weighing.{Weighing}
 use Rattle.inverse_segment.specs.declared.Weighing.the-variants.{Value, Distance}
 use Rattle.inverse_segment.specs.Segment.{entered}
-use Rattle.inverse_segment.specs.Shown.{stopOf, EnteredIs as ChordIs}
+use Rattle.inverse_segment.specs.Contract.{stopOf, EnteredIs as ChordIs}
 use Rattle.inverse_methods.specs.declared.Method.{Method}
 use Rattle.inverse_methods.specs.declared.Method.the-variants.{AsCrate, Taught, Steady}
 use Rattle.inverse_methods.specs.declared.RoundsBy.{RoundsBy}
 use Rattle.inverse_methods.specs.declared.RoundsBy.the-variants.{Weight, Pace}
 use Rattle.inverse_methods.specs.Method.{ruleOf, roundsOf}
-use Rattle.inverse_methods.specs.Shown.{EnteredIs, EnteredBy}
+use Rattle.inverse_methods.specs.Contract.{EnteredIs, EnteredBy}
 use Rattle.inverse_methods.specs.Steady.{allowed, inner, secant, paced, steady}
 
 module _ (limit i : ℕ) (y width : Float) (st : State) (e : width ≡ allowed i) where
@@ -50,7 +50,7 @@ unfolding allowed
 next-width i e = rw (add-one) (ap (λ (z : Float). mul binary64 z half) e)
 
 -- ---- by a method
-module _ (w : Weights) (y ε : Float) (limit : ℕ) (v0 v1 : Float) (n : ℕ) (how : Method) {r : Stop} where
+module _ (w : RowSums) (y ε : Float) (limit : ℕ) (v0 v1 : Float) (n : ℕ) (how : Method) {r : Stop} where
   by-rule : (h : Method) → how ≡ h
       → ((s : ℕ) (ev : Evaluations) → length ev ≡ n → r ≡ stopOf (entered (ruleOf h) (hornerOf w) s y ε limit v0 v1 ev))
       → EnteredBy how w y ε limit v0 v1 n r

@@ -28,8 +28,8 @@ use Rattle.inverse_segment.specs.declared.Ground.the-variants.{End, Edge, Value
 use Rattle.inverse_segment.specs.declared.Bracket.{Bracket}
 use Rattle.inverse_segment.specs.declared.State.{State}
 use Rattle.inverse_segment.specs.Evaluations.{Evaluations}
-use Rattle.inverse_segment.specs.Round.{greater, narrow, midpoint, Choice, Rule, moved, Turn, found, on, settled, probed, turn}
-use Rattle.inverse_segment.specs.Rounds.{Placed, rounds}
+use Rattle.inverse_segment.specs.Round.{greater, narrow, midpoint, Choice, Rule, moved, Round, found, on, settled, probed, roundOf}
+use Rattle.inverse_segment.specs.Rounds.{Arrival, rounds}
 use Rattle.inverse_segment.specs.Segment.{opening, start}
 use Rattle.inverse_segment.proofs.Rules.{Placing, Lawful}
 use Rattle.inverse_methods.specs.Steady.{allowed, paced}
@@ -296,7 +296,7 @@ isSpent Spent = true
 
 module _ (R : Rule) (lawful : Lawful R) (f : Float → Float) (s : ℕ) (y ε : Float) (rising : Bool) (limit base N : ℕ) where
   -- after i rounds: an answer that is not for want of rounds, with at most N evaluations in them; or a bracket within the bound 2 ^ k and 6·2^-53
-  abbrev Tight : ℕ → ℕ → Turn → Type 0
+  abbrev Tight : ℕ → ℕ → Round → Type 0
   Tight k i (found g x b ev) = T (not (isSpent g)) × (length ev ≤ base + N)
   Tight k i (on st ev) = Placing (st .bracket) × Spans (st .bracket) (2 ^ k + 6 * 2 ^ J) × (length ev ≡ base + i)
 
@@ -308,11 +308,11 @@ module _ (R : Rule) (lawful : Lawful R) (f : Float → Float) (s : ℕ) (y ε : 
       let m = moved-tight (Bool·beq (lt v y) rising) b st x v (2 ^ k + 6 * 2 ^ J) p q j S in
       branch (Tight k (suc i)) (lt (magnitudeOf (sub binary64 v y)) ε) (λ _. (tt, omega (arith, l, c))) (λ _. (m .0, m .1, c))
 
-  turn-tight : (k i : ℕ) (st : State) (ev : Evaluations) → i + k ≡ C + 4 → i < N → Placing (st .bracket) → Spans (st .bracket) (2 ^ suc k + 6 * 2 ^ J)
+  round-tight : (k i : ℕ) (st : State) (ev : Evaluations) → i + k ≡ C + 4 → i < N → Placing (st .bracket) → Spans (st .bracket) (2 ^ suc k + 6 * 2 ^ J)
       → length ev ≡ base + i
-      → Tight k (suc i) (turn (paced R) f s y ε rising limit i st ev)
-  unfolding turn probed
-  turn-tight k i st ev e l p S c =
+      → Tight k (suc i) (roundOf (paced R) f s y ε rising limit i st ev)
+  unfolding roundOf probed
+  round-tight k i st ev e l p S c =
       branch (Tight k (suc i)) (narrow ε (st .bracket)) (λ _. (tt, omega (arith, l, c)))
       (λ _.
       let r = paced R limit i y st in
@@ -324,15 +324,15 @@ module _ (R : Rule) (lawful : Lawful R) (f : Float → Float) (s : ℕ) (y ε : 
       (splits-as (r .bracket) (st .bracket) (2 ^ k + 6 * 2 ^ J) (r .place) e-l e-u (paced-splits R lawful limit i k y st e p S)) (omega (arith, c)))
 
   -- the rounds end: before the limit if it is above N, and after at most N evaluations
-  pub record Ended (n i : ℕ) (p : Placed) : Type 0 where
+  pub record Ended (n i : ℕ) (p : Arrival) : Type 0 where
     pub in-time : N < i + n → T (not (isSpent (p .ground)))
     pub few : length (p .made) ≤ base + N
 
-  abbrev Done : Turn → Type 0
+  abbrev Done : Round → Type 0
   Done (found g x b ev) = T (not (isSpent g)) × (length ev ≤ base + N)
   Done (on st ev) = ⊥
 
-  done-ends : (n i a j : ℕ) (t : Turn) → Done t → Ended a j (rounds (paced R) f s y ε rising limit n i t)
+  done-ends : (n i a j : ℕ) (t : Round) → Done t → Ended a j (rounds (paced R) f s y ε rising limit n i t)
   unfolding rounds
   done-ends zero i a j (found g x b ev) h = record { in-time = λ _. h .0; few = h .1 }
   done-ends (suc n) i a j (found g x b ev) h = record { in-time = λ _. h .0; few = h .1 }
@@ -340,13 +340,13 @@ module _ (R : Rule) (lawful : Lawful R) (f : Float → Float) (s : ℕ) (y ε : 
 
   module _ (E : Enough ε N) where
     -- round N is the last
-    turn-last : (st : State) (ev : Evaluations) → Placing (st .bracket) → Spans (st .bracket) (2 ^ E .K + 6 * 2 ^ J) → length ev ≡ base + N
-        → Done (turn (paced R) f s y ε rising limit N st ev)
-    unfolding turn
-    turn-last st ev p S c =
+    round-last : (st : State) (ev : Evaluations) → Placing (st .bracket) → Spans (st .bracket) (2 ^ E .K + 6 * 2 ^ J) → length ev ≡ base + N
+        → Done (roundOf (paced R) f s y ε rising limit N st ev)
+    unfolding roundOf
+    round-last st ev p S c =
         branch Done (narrow ε (st .bracket)) (λ _. (tt, le-of-eq c)) (λ k. absurd (T-not (narrow ε (st .bracket)) k (spans-narrow ε N (st .bracket) E p S)))
 
-    rounds-end : (n i k : ℕ) (t : Turn) → i + k ≡ C + 5 → i ≤ N → Tight k i t → Ended n i (rounds (paced R) f s y ε rising limit n i t)
+    rounds-end : (n i k : ℕ) (t : Round) → i + k ≡ C + 5 → i ≤ N → Tight k i t → Ended n i (rounds (paced R) f s y ε rising limit n i t)
     unfolding rounds
     rounds-end zero i k (found g x b ev) e l h = record { in-time = λ _. h .0; few = h .1 }
     rounds-end (suc n) i k (found g x b ev) e l h = record { in-time = λ _. h .0; few = h .1 }
@@ -355,15 +355,15 @@ module _ (R : Rule) (lawful : Lawful R) (f : Float → Float) (s : ℕ) (y ε : 
       | inl g ↦
           let q : N ≡ i = omega (arith, l, g) in
           let r : k ≡ E .K = omega (arith, q, e, E .last) in
-          done-ends n (suc i) (suc n) i (turn (paced R) f s y ε rising limit i st ev)
-          (subst (λ (z : ℕ). Done (turn (paced R) f s y ε rising limit z st ev)) q
-          (turn-last st ev (h .0) (subst (λ (z : ℕ). Spans (st .bracket) (2 ^ z + 6 * 2 ^ J)) r (h .1)) (h .2 ∙ ap (λ (z : ℕ). base + z) (sym q))))
+          done-ends n (suc i) (suc n) i (roundOf (paced R) f s y ε rising limit i st ev)
+          (subst (λ (z : ℕ). Done (roundOf (paced R) f s y ε rising limit z st ev)) q
+          (round-last st ev (h .0) (subst (λ (z : ℕ). Spans (st .bracket) (2 ^ z + 6 * 2 ^ J)) r (h .1)) (h .2 ∙ ap (λ (z : ℕ). base + z) (sym q))))
       | inr g ↦
           let q : suc (k - 1) ≡ k = omega (arith, g, e, E .last) in
           let u =
-          turn-tight (k - 1) i st ev (omega (arith, q, e)) g (h .0) (subst (λ (z : ℕ). Spans (st .bracket) (2 ^ z + 6 * 2 ^ J)) (sym q) (h .1)) (h .2)
+          round-tight (k - 1) i st ev (omega (arith, q, e)) g (h .0) (subst (λ (z : ℕ). Spans (st .bracket) (2 ^ z + 6 * 2 ^ J)) (sym q) (h .1)) (h .2)
           in
-          let r = rounds-end n (suc i) (k - 1) (turn (paced R) f s y ε rising limit i st ev) (omega (arith, q, e)) g u in
+          let r = rounds-end n (suc i) (k - 1) (roundOf (paced R) f s y ε rising limit i st ev) (omega (arith, q, e)) g u in
           record { in-time = λ z. r .in-time (omega (arith, z)); few = r .few }
     ]
 
@@ -378,7 +378,7 @@ opening-spans v0 v1 = record { L = 0; H = 2 ^ C; lower-is = (refl, refl); upper-
 
 module _ (R : Rule) (lawful : Lawful R) (f : Float → Float) (s : ℕ) (y ε : Float) (rising : Bool) (limit : ℕ) (v0 v1 : Float) (ev : Evaluations) where
   -- the rounds at the pace, from a segment's ends
-  abbrev pub steadily : Placed
+  abbrev pub steadily : Arrival
   steadily = rounds (paced R) f s y ε rising limit limit 0 (on (start (opening v0 v1)) ev)
 
   -- at most n evaluations in the rounds; and the limit is not told as spent where it is above n

@@ -8,7 +8,7 @@ use lib.Ieee.{Float, fin, inf, nan, round, add, sub, mul, div, neg, lt, le, eq}
 use Rattle.doubles.specs.Numbers.{nought, one, half, magnitudeOf}
 use Rattle.doubles.specs.Lerp.{lerpOf}
 use Rattle.inverse_segment.specs.declared.Ground.the-variants.{Width, Spent}
-use Rattle.inverse_segment.specs.Round.{toward, narrow, weighed, moved, settled, probed, turn}
+use Rattle.inverse_segment.specs.Round.{toward, narrow, weighed, moved, settled, probed, roundOf}
 use Rattle.inverse_segment.specs.Rounds.{rounds}
 use Rattle.inverse_methods.specs.Steady.{allowed, inner, secant, paced}
 use Rattle.inverse_methods.proofs.Lawful.{secant-lawful}
@@ -19,10 +19,10 @@ pub jump : Float → Float
 jump x = cond (lt x (fin false 7036874417766401 (negsuc 52))) nought one
 
 pub needed : steadily secant secant-lawful jump 0 half (fin false 1 (negsuc 52)) true 100 nought one [] .ground ≡ Spent
-unfolding jump lt le eq round add sub mul div neg magnitudeOf lerpOf narrow weighed moved settled probed turn rounds toward allowed inner secant paced
+unfolding jump lt le eq round add sub mul div neg magnitudeOf lerpOf narrow weighed moved settled probed roundOf rounds toward allowed inner secant paced
 needed = refl
 
 -- with twice that precision it ends
 pub enough : steadily secant secant-lawful jump 0 half (fin false 1 (negsuc 51)) true 100 nought one [] .ground ≡ Width
-unfolding jump lt le eq round add sub mul div neg magnitudeOf lerpOf narrow weighed moved settled probed turn rounds toward allowed inner secant paced
+unfolding jump lt le eq round add sub mul div neg magnitudeOf lerpOf narrow weighed moved settled probed roundOf rounds toward allowed inner secant paced
 enough = refl

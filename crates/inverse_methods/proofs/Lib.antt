@@ -3,6 +3,6 @@ pub mod Lawful
 pub mod Ending
 pub mod Times
 pub mod Choosing
-pub mod Turning
+pub mod OneRound
 pub mod Examples
 pub mod Timely

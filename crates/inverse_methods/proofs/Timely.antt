@@ -14,11 +14,11 @@ use Rattle.basis.specs.declared.Basis.{Basis}
 use Rattle.doubles.specs.Numbers.{nought, one}
 use Rattle.doubles.proofs.Tests.{branch}
 use Rattle.spline.specs.Segment.{segmentOf}
-use Rattle.inverse_segment.specs.declared.Inverted.{Inverted}
-use Rattle.inverse_segment.specs.declared.Inverted.the-variants.{Refused, OffCurve, At}
+use Rattle.inverse_segment.specs.declared.Inversion.{Inversion}
+use Rattle.inverse_segment.specs.declared.Inversion.the-variants.{Refused, OffCurve, At}
 use Rattle.inverse_segment.specs.Evaluations.{Evaluations}
 use Rattle.inverse_segment.specs.Round.{Rule}
-use Rattle.inverse_segment.specs.Rounds.{Placed}
+use Rattle.inverse_segment.specs.Rounds.{Arrival}
 use Rattle.inverse_segment.specs.Segment.{encloses, near, entered, Entry, enter, outcomeOf}
 use Rattle.inverse_segment.specs.Answer.{countTold, answered, alone, inverted, inverseSegmentUses, inverseSegmentBy}
 use Rattle.inverse_segment.proofs.Ends.{both}
@@ -29,7 +29,7 @@ use Rattle.inverse_methods.proofs.Ending.{isSpent, Enough, paced-ends}
 
 -- ---- a segment that is entered: any lawful rule kept to the pace
 -- at most N evaluations after `base`; and not spent, where the limit is above N
-abbrev pub InTime : ℕ → ℕ → ℕ → Placed → Type 0
+abbrev pub InTime : ℕ → ℕ → ℕ → Arrival → Type 0
 InTime limit N base p = (length (p .made) ≤ base + N) × (N < limit → T (not (isSpent (p .ground))))
 
 module _ (R : Rule) (lawful : Lawful R) (y ε : Float) (limit N : ℕ) (E : Enough ε N) where
@@ -40,14 +40,14 @@ module _ (R : Rule) (lawful : Lawful R) (y ε : Float) (limit N : ℕ) (E : Enou
       (λ _. branch (InTime limit N (length ev)) (near y v1 ε) (λ _. (omega arith, λ _. tt)) (λ _. paced-ends R lawful f s y ε (lt v0 v1) limit v0 v1 ev N E))
 
 -- ---- one segment's call
-abbrev pub NeverSpent : Inverted → Type 0
+abbrev pub NeverSpent : Inversion → Type 0
 NeverSpent (At p) = T (not (isSpent (p .ground)))
 NeverSpent (OffCurve n) = Unit
 NeverSpent (Refused r) = Unit
 
 module _ (limit : ℕ) where
   -- not spent, where the limit is above N; and at most N + 2 evaluations
-  abbrev pub SegmentWithin : ℕ → Inverted → Type 0
+  abbrev pub SegmentWithin : ℕ → Inversion → Type 0
   SegmentWithin N r = (N < limit → NeverSpent r) × (countTold r ≤ N + 2)
 
   module _ (b : Basis) (y : Float) (cv : List Float) (ε : Float) (N : ℕ) (E : Enough ε N) where

@@ -1,3 +1,3 @@
 pub mod Steady
 pub mod Method
-pub mod Shown
+pub mod Contract

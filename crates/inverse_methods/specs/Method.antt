@@ -3,7 +3,7 @@ use mathlib.Core.List.{List}
 use Prim.Native.Nat.{ℕ}
 use lib.Ieee.{Float}
 use Rattle.basis.specs.declared.Basis.{Basis}
-use Rattle.inverse_segment.specs.declared.Inverted.{Inverted}
+use Rattle.inverse_segment.specs.declared.Inversion.{Inversion}
 use Rattle.inverse_segment.specs.Answer.{inverseSegmentBy, defaultPrecision}
 use Rattle.inverse_segment.specs.declared.Weighing.the-variants.{Value, Distance}
 use Rattle.inverse_segment.specs.Round.{Rule, toward, chord, asCrate}
@@ -23,7 +23,7 @@ abbrev pub steadyLimit : ℕ
 steadyLimit = 64
 
 -- one segment by the steady method, with its defaults
-abbrev pub steadySegmentOf : Basis → Float → List Float → Inverted
+abbrev pub steadySegmentOf : Basis → Float → List Float → Inversion
 steadySegmentOf b y cv = inverseSegmentBy steady b y cv steadyLimit defaultPrecision
 
 -- as the code has it: the crate's rounds with what they weigh, or those at the pace

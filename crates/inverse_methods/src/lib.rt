@@ -3,21 +3,21 @@ ghost use mathlib.Core.Path.{_≡_};
 ghost use Prim.Native.Nat.{_≤_, _<_, _+_};
 ghost use mathlib.Core.Bool.{true};
 ghost use Rattle.inverse_segment.specs.Round.{toward, weighed};
-ghost use Rattle.inverse_segment.specs.Shown.{repeatsAfter, countAfter};
+ghost use Rattle.inverse_segment.specs.Contract.{repeatsAfter, countAfter};
 ghost use Rattle.inverse_segment.specs.Answer.{inverseSegmentBy, inverseSegmentOf, defaultLimit, defaultPrecision};
 ghost use Rattle.inverse_methods.specs.Method.{ruleOf, roundsOf, steadySegmentOf};
 ghost use Rattle.inverse_methods.specs.Steady.{inner};
-ghost use Rattle.inverse_methods.specs.Shown.{ChosenIs, TurnIs, RoundsIs, EnteredIs, EnteredBy};
+ghost use Rattle.inverse_methods.specs.Contract.{NextPlaceIs, RoundIs, RoundsIs, EnteredIs, EnteredBy};
 use basis::Basis;
 use error::Verdict;
 use inverse_segment::Bracket;
 use inverse_segment::Ground;
-use inverse_segment::Inverted;
+use inverse_segment::Inversion;
+use inverse_segment::RoundResult;
 use inverse_segment::State;
 use inverse_segment::Stop;
-use inverse_segment::Turned;
 use inverse_segment::Weighing;
-use spline::Weights;
+use spline::RowSums;
 
 // How the next place is chosen: as the crate does; with the weighting as it is taught; or steadily, at a pace: a round allows the bracket
 // half the width that the round before it did, and takes the midpoint of one that is wider.
@@ -34,7 +34,7 @@ pub enum RoundsBy {
 }
 
 // The bracket as weighed, and the place that is evaluated.
-pub struct Chosen {
+pub struct NextPlace {
     pub bracket: Bracket,
     pub place: f64,
 }
@@ -60,40 +60,40 @@ pub fn inner(b: Bracket, x: f64) -> f64
     doubles::lerp(b.lower, b.upper, 0.5)
 }
 
-pub fn choose(y: f64, width: f64, st: State) -> Chosen
-    ensures { λ r. ⌜ ChosenIs y width st r ⌝ }
+pub fn choose(y: f64, width: f64, st: State) -> NextPlace
+    ensures { λ r. ⌜ NextPlaceIs y width st r ⌝ }
 {
     let b = st.bracket;
     if width < b.upper - b.lower {
-        return Chosen {
+        return NextPlace {
             bracket: b,
             place: doubles::lerp(b.lower, b.upper, 0.5),
         };
     }
     let a = weighed(y, st);
     let t = (y - a.v0) / (a.v1 - a.v0);
-    Chosen {
+    NextPlace {
         bracket: a,
         place: inner(a, doubles::lerp(a.lower, a.upper, t)),
     }
 }
 
 // One steady round; n evaluations have been made before it.
-pub fn turn(
-    w: Weights,
+pub fn round(
+    w: RowSums,
     y: f64,
     precision: f64,
     rising: bool,
     width: f64,
     st: State,
     n: u32,
-) -> Turned
+) -> RoundResult
     requires { ⌜ (st .repeats < 65536) × (n < 2000000) ⌝ }
-    ensures { λ r. ⌜ (TurnIs w y precision rising width st n r) × (repeatsAfter r ≤ st .repeats + 1) × (countAfter r ≤ n + 1) ⌝ }
+    ensures { λ r. ⌜ (RoundIs w y precision rising width st n r) × (repeatsAfter r ≤ st .repeats + 1) × (countAfter r ≤ n + 1) ⌝ }
 {
     let b = st.bracket;
     if inverse_segment::round::is_narrow(precision, b) {
-        return Turned::Done(Ground::Width, doubles::lerp(b.lower, b.upper, 0.5), b, n);
+        return RoundResult::Done(Ground::Width, doubles::lerp(b.lower, b.upper, 0.5), b, n);
     }
     let c = choose(y, width, st);
     let a = c.bracket;
@@ -102,14 +102,14 @@ pub fn turn(
     let next = inverse_segment::round::moved((v < y) == rising, a, st, x, v);
     if doubles::magnitude(v - y) < precision {
         let e = next.bracket;
-        return Turned::Done(Ground::Value, x, e, n + 1);
+        return RoundResult::Done(Ground::Value, x, e, n + 1);
     }
-    Turned::Next(next, n + 1)
+    RoundResult::Next(next, n + 1)
 }
 
 // The steady rounds, from the bracket that is given; n evaluations have been made before them.
 pub fn rounds(
-    w: Weights,
+    w: RowSums,
     y: f64,
     precision: f64,
     rising: bool,
@@ -130,13 +130,13 @@ pub fn rounds(
     let mut i: u32 = 0;
     let mut count = n;
     while i < most {
-        let t = turn(w, y, precision, rising, width, st, count);
+        let t = round(w, y, precision, rising, width, st, count);
         match t {
-            Turned::Next(next, k) => {
+            RoundResult::Next(next, k) => {
                 st = next;
                 count = k;
             }
-            Turned::Done(ground, x, b, k) => {
+            RoundResult::Done(ground, x, b, k) => {
                 return inverse_segment::stopped(ground, x, b, k);
             }
         }
@@ -153,7 +153,7 @@ pub fn rounds(
 }
 
 // A segment whose end values v0 and v1 enclose y is entered; n evaluations have been made, those of its ends among them.
-pub fn entered(w: Weights, y: f64, precision: f64, limit: u16, v0: f64, v1: f64, n: u32) -> Stop
+pub fn entered(w: RowSums, y: f64, precision: f64, limit: u16, v0: f64, v1: f64, n: u32) -> Stop
     requires { ⌜ n ≤ 1000000 ⌝ }
     ensures { λ r. ⌜ EnteredIs w y precision limit v0 v1 n r ⌝ }
 {
@@ -185,7 +185,7 @@ fn method_rounds(how: Method) -> RoundsBy
 // By the method that is asked for. One call of `inverse_segment::entered` serves both its weightings, so that it is inlined here.
 pub fn entered_by(
     how: Method,
-    w: Weights,
+    w: RowSums,
     y: f64,
     precision: f64,
     limit: u16,
@@ -211,20 +211,20 @@ pub fn spline_inverse_segment_by(
     limit: u16,
     precision: f64,
     how: Method,
-) -> Inverted
+) -> Inversion
     ensures { λ r. ⌜ r ≡ inverseSegmentBy (ruleOf how) b y (now (cv .entry)) limit precision ⌝ }
 {
     let v = inverse_segment::refusals::segment_verdict(y, cv, limit, precision);
     match v {
-        Verdict::Failed(r) => Inverted::Refused(r),
+        Verdict::Failed(r) => Inversion::Refused(r),
         Verdict::Passed => {
             let mut ends = [0.0, 0.0, 0.0, 0.0, 0.0, 0.0];
             if inverse_segment::probe(b, cv, 0, y, &mut ends) {
                 let w = inverse_segment::kept_sums(&ends);
                 let e = entered_by(how, w, y, precision, limit, ends[4], ends[5], 2);
-                return Inverted::At(inverse_segment::place_of(e.local, 0, e));
+                return Inversion::At(inverse_segment::place_of(e.local, 0, e));
             }
-            Inverted::OffCurve(2)
+            Inversion::OffCurve(2)
         }
     }
 }
@@ -236,21 +236,21 @@ pub fn spline_inverse_segment_with(
     cv: &[f64],
     limit: u16,
     precision: f64,
-) -> Inverted
+) -> Inversion
     ensures { λ r. ⌜ r ≡ inverseSegmentOf b y (now (cv .entry)) limit precision ⌝ }
 {
     spline_inverse_segment_by(b, y, cv, limit, precision, Method::AsCrate)
 }
 
 // As the crate inverts, with limit 32 and precision 1e-10.
-pub fn spline_inverse_segment(b: Basis, y: f64, cv: &[f64]) -> Inverted
+pub fn spline_inverse_segment(b: Basis, y: f64, cv: &[f64]) -> Inversion
     ensures { λ r. ⌜ r ≡ inverseSegmentOf b y (now (cv .entry)) defaultLimit defaultPrecision ⌝ }
 {
     spline_inverse_segment_with(b, y, cv, 32, 1e-10)
 }
 
 // By the steady method, with limit 64 and precision 1e-10: never spent.
-pub fn spline_inverse_segment_steady(b: Basis, y: f64, cv: &[f64]) -> Inverted
+pub fn spline_inverse_segment_steady(b: Basis, y: f64, cv: &[f64]) -> Inversion
     ensures { λ r. ⌜ r ≡ steadySegmentOf b y (now (cv .entry)) ⌝ }
 {
     spline_inverse_segment_by(b, y, cv, 64, 1e-10, Method::Steady)

@@ -9,7 +9,7 @@ use lib.Ieee.{Float}
 use Rattle.doubles.specs.Numbers.{nought, one}
 use Rattle.inverse_segment.specs.Evaluations.{Evaluations}
 use Rattle.inverse_segment.specs.Round.{Rule}
-use Rattle.inverse_segment.specs.Rounds.{Placed}
+use Rattle.inverse_segment.specs.Rounds.{Arrival}
 use Rattle.inverse_segment.specs.Segment.{encloses, entered, Entry, outside, inside, enter, Outcome, off, placed, orElse}
 use Rattle.inverse_segment.proofs.Ends.{both}
 use Rattle.inverse_segment.proofs.Later.{More, entered-more}
@@ -21,12 +21,12 @@ use Rattle.inverse_search.specs.Twice.{trialTwice}
 -- o is q with n evaluations fewer where a segment was entered, and q itself where none was
 pub data Fewer (n : ℕ) : Outcome → Outcome → Type 0 where
   same : {ev : Evaluations} → Fewer n (off ev) (off ev)
-  fewer : {p q : Placed} → More n p q → Fewer n (placed p) (placed q)
+  fewer : {p q : Arrival} → More n p q → Fewer n (placed p) (placed q)
 
 -- so of a trial
 data FewerIn (n : ℕ) : Entry → Entry → Type 0 where
   same-out : {v : Float} {ev : Evaluations} → FewerIn n (outside v ev) (outside v ev)
-  fewer-in : {p q : Placed} → More n p q → FewerIn n (inside p) (inside q)
+  fewer-in : {p q : Arrival} → More n p q → FewerIn n (inside p) (inside q)
 
 either : (n : ℕ) (t : Bool) {a b c d : Outcome} → Fewer n a c → Fewer n b d → Fewer n (cond t a b) (cond t c d)
 either n true p q = p
@@ -64,7 +64,7 @@ module _ (R : Rule) (g : ℕ → Float → Float) (y ε : Float) (limit : ℕ) w
   unfolding enter trialTwice
   trial-fewer s ev = go (encloses (g s nought) (g s one) y)
     where
-      p : Evaluations → Placed
+      p : Evaluations → Arrival
       p t = entered R (g s) s y ε limit (g s nought) (g s one) t
 
       go : (t : Bool) → FewerIn 2 (cond t (inside (p (both s ev))) (outside (g s nought) (both s ev)))

@@ -9,16 +9,16 @@ use lib.Ieee.{Float}
 use borrow.Author.Tests.{le-leb}
 use Rattle.doubles.specs.Numbers.{nought}
 use Rattle.inverse_segment.specs.Evaluations.{Evaluations}
-use Rattle.inverse_segment.specs.Rounds.{Placed}
+use Rattle.inverse_segment.specs.Rounds.{Arrival}
 use Rattle.inverse_segment.specs.Segment.{Entry, Outcome, placed, orElse}
 use Rattle.inverse_segment.proofs.Ends.{both}
 use Rattle.inverse_search.specs.Search.{Trial, tries, find}
 use Rattle.inverse_search.proofs.Found.{Holds, Nothing, Tried, shut, hit}
 
-module _ (g : ℕ → Float → Float) (y : Float) (k : ℕ) (Good : ℕ → ℕ → Placed → Type 0) where
+module _ (g : ℕ → Float → Float) (y : Float) (k : ℕ) (Good : ℕ → ℕ → Arrival → Type 0) where
   -- segment s is entered, m evaluations having been made before its rounds
   abbrev pub EnteredAt : ℕ → ℕ → Outcome → Type 0
-  EnteredAt s m o = (p : Placed) × (o ≡ placed p) × Good s m p
+  EnteredAt s m o = (p : Arrival) × (o ≡ placed p) × Good s m p
 
   here : (s m : ℕ) (ev : Evaluations) {e : Entry} (f : Float → Evaluations → Outcome) → length ev + 2 ≡ m → T (Holds g y k s) → Tried g y k Good s ev e
       → EnteredAt s m (orElse e f)

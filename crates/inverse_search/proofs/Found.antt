@@ -13,7 +13,7 @@ use Rattle.doubles.specs.Numbers.{nought, one}
 use Rattle.doubles.proofs.Tests.{branch}
 use Rattle.doubles.proofs.Rounding.{le-or-lt}
 use Rattle.inverse_segment.specs.Evaluations.{Evaluations}
-use Rattle.inverse_segment.specs.Rounds.{Placed}
+use Rattle.inverse_segment.specs.Rounds.{Arrival}
 use Rattle.inverse_segment.specs.Segment.{Entry, outside, inside, Outcome, off, placed, orElse, encloses}
 use Rattle.inverse_segment.proofs.Ends.{both}
 use Rattle.inverse_segment.proofs.Places.{encloses-of}
@@ -39,14 +39,14 @@ module _ (g : ℕ → Float → Float) (y : Float) (k : ℕ) where
 
 -- ---- what a search comes to. `Good s base p` stands for what the inversion of segment s tells of its place p, `base` evaluations having been made before its
 -- rounds
-module _ (g : ℕ → Float → Float) (y : Float) (k : ℕ) (Good : ℕ → ℕ → Placed → Type 0) where
+module _ (g : ℕ → Float → Float) (y : Float) (k : ℕ) (Good : ℕ → ℕ → Arrival → Type 0) where
   -- what the trial of segment s comes to, after the evaluations ev
   pub data Tried (s : ℕ) (ev : Evaluations) : Entry → Type 0 where
     shut : T (not (Holds g y k s)) → Tried s ev (outside (g s nought) (both s ev))
-    hit : {p : Placed} → T (Holds g y k s) → Good s (length ev + 2) p → Tried s ev (inside p)
+    hit : {p : Arrival} → T (Holds g y k s) → Good s (length ev + 2) p → Tried s ev (inside p)
 
   -- a segment below k was entered whose ends enclose y, after at most m evaluations, those of its ends among them
-  pub record Entered (m : ℕ) (p : Placed) : Type 0 where
+  pub record Entrance (m : ℕ) (p : Arrival) : Type 0 where
     pub at : ℕ
     pub base : ℕ
     pub few : base ≤ m
@@ -57,7 +57,7 @@ module _ (g : ℕ → Float → Float) (y : Float) (k : ℕ) (Good : ℕ → ℕ
   -- N is known where none was entered, after at most m evaluations
   pub data Result (m : ℕ) (N : Type 0) : Outcome → Type 0 where
     missed : {ev : Evaluations} → N → length ev ≤ m → Result m N (off ev)
-    got : {p : Placed} → Entered m p → Result m N (placed p)
+    got : {p : Arrival} → Entrance m p → Result m N (placed p)
 
   weaken : {N M : Type 0} (m n : ℕ) {o : Outcome} → n ≤ m → (M → N) → Result n M o → Result m N o
   weaken m n h f (missed a b) = missed (f a) (le-trans b h)
@@ -73,7 +73,7 @@ module _ (g : ℕ → Float → Float) (y : Float) (k : ℕ) (Good : ℕ → ℕ
 abbrev pub probes : Bool → ℕ → ℕ
 probes few k = cond few 24 (2 * bitsOf k + 4)
 
-module _ (g : ℕ → Float → Float) (y : Float) (k : ℕ) (Good : ℕ → ℕ → Placed → Type 0) (E : Trial)
+module _ (g : ℕ → Float → Float) (y : Float) (k : ℕ) (Good : ℕ → ℕ → Arrival → Type 0) (E : Trial)
     (tried : (s : ℕ) (ev : Evaluations) → s < k → Tried g y k Good s ev (E s ev)) where
   more : (s n : ℕ) → T (not (Holds g y k s)) → Nothing g y k (suc s) n → Nothing g y k s (suc n)
   more s n h r j a b = elim (eq-or-lt-of-le a) [ inl e ↦ subst (λ (i : ℕ). T (not (Holds g y k i))) e h | inr l ↦ r j l (omega arith) ]

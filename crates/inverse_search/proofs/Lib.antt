@@ -3,6 +3,6 @@ pub mod Digits
 pub mod Found
 pub mod Listed
 pub mod First
-pub mod Calls
+pub mod Glue
 pub mod Sound
 pub mod Fewer

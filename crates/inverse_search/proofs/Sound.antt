@@ -10,7 +10,7 @@ use Rattle.doubles.specs.Numbers.{nought, one}
 use Rattle.doubles.proofs.Units.{nought-in, one-in}
 use Rattle.inverse_segment.specs.Evaluations.{Evaluations}
 use Rattle.inverse_segment.specs.Round.{Rule}
-use Rattle.inverse_segment.specs.Rounds.{Placed}
+use Rattle.inverse_segment.specs.Rounds.{Arrival}
 use Rattle.inverse_segment.specs.Segment.{Entry}
 use Rattle.inverse_segment.proofs.Rules.{Lawful}
 use Rattle.inverse_segment.proofs.Enclosing.{Numbers}
@@ -21,7 +21,7 @@ use Rattle.inverse_search.proofs.Found.{Holds, Nothing, Straight, Tried
 
 module _ (g : ℕ → Float → Float) (y ε : Float) (limit : ℕ) where
   -- the place p is in segment s, and sound there
-  abbrev pub SoundIn : ℕ → ℕ → Placed → Type 0
+  abbrev pub SoundIn : ℕ → ℕ → Arrival → Type 0
   SoundIn s base p = places.SoundAt (g s) y ε (lt (g s nought) (g s one)) limit base p × (p .segment ≡ s)
 
   as-tried : (k s : ℕ) (ev : Evaluations) (e : Entry) → places.Tells (g s) s y ε limit ev e → Tried g y k SoundIn s ev e

@@ -2,4 +2,4 @@ pub mod Bound
 pub mod Search
 pub mod Trial
 pub mod Twice
-pub mod Shown
+pub mod Contract

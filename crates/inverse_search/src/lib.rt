@@ -3,14 +3,14 @@ ghost use mathlib.Core.Path.{_≡_};
 ghost use Prim.Native.Nat.{_+_, _-_, _*_, _≤_, _<_};
 ghost use lib.ListN.{length, drop};
 ghost use Rattle.basis.specs.Basis.{stepOf, matrixOf};
-ghost use Rattle.spline.specs.Segment.{weightsOf};
+ghost use Rattle.spline.specs.Segment.{rowSumsOf};
 ghost use Rattle.inverse_search.specs.Bound.{bitsOf, boundOf};
 ghost use Rattle.inverse_search.specs.Search.{before};
-ghost use Rattle.inverse_search.specs.Shown.{countIn, TriesIs, LastIs, HalveIs, SoughtIs, FindIs};
+ghost use Rattle.inverse_search.specs.Contract.{countIn, TriesIs, LastIs, HalveIs, SoughtIs, FindIs};
 use basis::Basis;
 use inverse_methods::Method;
 use inverse_segment::Stop;
-use spline::Weights;
+use spline::RowSums;
 
 // What a search comes to: none of the segments after so many evaluations, or the segment that was entered and where it stopped there.
 pub enum SearchResult {
@@ -47,12 +47,12 @@ pub fn most_evaluations(k: usize, limit: u16) -> u32
 }
 
 // The row sums of segment s: the part of the knots that starts at its place is lent, and nothing copied.
-pub fn weights_at(b: Basis, knots: &[f64], s: usize) -> Weights
+pub fn row_sums_at(b: Basis, knots: &[f64], s: usize) -> RowSums
     requires { ⌜ (s * stepOf b + 4 ≤ length (now knots)) × (length (now knots) ≤ 4096) ⌝ }
-    ensures { λ r. ⌜ r ≡ weightsOf (matrixOf b) (drop (s * stepOf b) (now (knots .entry))) ⌝ }
+    ensures { λ r. ⌜ r ≡ rowSumsOf (matrixOf b) (drop (s * stepOf b) (now (knots .entry))) ⌝ }
 {
     let start = s * basis::step(b);
-    spline::segment::weights(b, &knots[start..])
+    spline::segment::row_sums(b, &knots[start..])
 }
 
 // The segments from `first` up to below `end`, in order: the first whose ends enclose the target; k, where none has such ends.

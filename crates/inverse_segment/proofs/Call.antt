@@ -20,8 +20,8 @@ use Rattle.doubles.proofs.Units.{nought-le}
 use Rattle.spline.specs.Segment.{segmentOf}
 use Rattle.checks.specs.Checks.{allInRange, precise}
 use Rattle.spline.proofs.Finite.{knots-within, segment-finite}
-use Rattle.inverse_segment.specs.declared.Inverted.{Inverted}
-use Rattle.inverse_segment.specs.declared.Inverted.the-variants.{Refused, OffCurve, At}
+use Rattle.inverse_segment.specs.declared.Inversion.{Inversion}
+use Rattle.inverse_segment.specs.declared.Inversion.the-variants.{Refused, OffCurve, At}
 use Rattle.inverse_segment.specs.Agreed.{Agreed}
 use Rattle.inverse_segment.specs.Round.{Rule}
 use Rattle.inverse_segment.specs.Segment.{encloses, Entry, outside, inside, enter, evaluationsOf, Outcome, off, placed, outcomeOf}
@@ -50,7 +50,7 @@ segment-numbers b ks s y good long n =
 
 -- ---- what the answer owes where no row applies
 module _ (f : Float → Float) (y ε : Float) (limit : ℕ) where
-  abbrev pub Owed : Inverted → Type 0
+  abbrev pub Owed : Inversion → Type 0
   Owed (Refused r) = ⊥
   Owed (OffCurve n) = T (not (encloses (f nought) (f one) y)) × (n ≡ 2)
   Owed (At p) =
@@ -61,18 +61,18 @@ module _ (f : Float → Float) (y ε : Float) (limit : ℕ) where
   owed _ (missed h) = (h, refl)
   owed _ (hit h r e) = (h, r, e, refl)
 
-  owed-count : (a : Inverted) → Owed a → countTold a ≤ limit + 2
+  owed-count : (a : Inversion) → Owed a → countTold a ≤ limit + 2
   owed-count (Refused r) h = absurd h
   owed-count (OffCurve n) h = omega arith
   owed-count (At p) h = omega (arith, h .1 .count)
 
-  owed-number : (a : Inverted) → Owed a → numberTold a ≡ cond (encloses (f nought) (f one) y) 0 11
+  owed-number : (a : Inversion) → Owed a → numberTold a ≡ cond (encloses (f nought) (f one) y) 0 11
   owed-number (Refused r) h = absurd h
   owed-number (OffCurve n) h =
       branch (λ (k : ℕ). 11 ≡ k) (encloses (f nought) (f one) y) (λ t. absurd (T-not (encloses (f nought) (f one) y) (h .0) t)) (λ _. refl)
   owed-number (At p) h = branch (λ (k : ℕ). 0 ≡ k) (encloses (f nought) (f one) y) (λ _. refl) (λ t. absurd (T-not (encloses (f nought) (f one) y) t (h .0)))
 
-count-any : (limit : ℕ) (v : Verdict) (a : Inverted) → (v ≡ Passed → countTold a ≤ limit + 2) → countTold (inverted v a) ≤ limit + 2
+count-any : (limit : ℕ) (v : Verdict) (a : Inversion) → (v ≡ Passed → countTold a ≤ limit + 2) → countTold (inverted v a) ≤ limit + 2
 count-any limit Passed a h = h refl
 count-any limit (Failed r) a h = omega arith
 
@@ -101,7 +101,7 @@ module _ (R : Rule) (lawful : Lawful R) (b : Basis) (y : Float) (cv : List Float
 
   pub inverse-segment-owed : Passed-all → Owed (segmentOf b cv 0) y ε limit (inverseSegmentBy R b y cv limit ε)
   inverse-segment-owed e =
-      subst (λ (a : Inverted). Owed (segmentOf b cv 0) y ε limit a) (sym (answers e))
+      subst (λ (a : Inversion). Owed (segmentOf b cv 0) y ε limit a) (sym (answers e))
       (owed (segmentOf b cv 0) y ε limit (enter R (segmentOf b cv 0) 0 y ε limit []) (said e))
 
   -- at most limit + 2 evaluations, whatever is asked

@@ -11,8 +11,8 @@ use Rattle.inverse_segment.specs.declared.Bracket.{Bracket}
 use Rattle.inverse_segment.specs.declared.State.{State}
 use Rattle.inverse_segment.specs.Evaluations.{Evaluations}
 use Rattle.inverse_segment.specs.Agreed.{Agreed}
-use Rattle.inverse_segment.specs.Round.{Rule, narrow, Turn, found, on, settled, probed, turn}
-use Rattle.inverse_segment.specs.Rounds.{Placed, rounds}
+use Rattle.inverse_segment.specs.Round.{Rule, narrow, Round, found, on, settled, probed, roundOf}
+use Rattle.inverse_segment.specs.Rounds.{Arrival, rounds}
 use Rattle.inverse_segment.specs.Segment.{encloses, near, opening, start, entered, Entry, outside, inside, enter}
 use Rattle.inverse_segment.proofs.Ends.{both}
 
@@ -22,17 +22,17 @@ seenIn (outside v ev) = ev
 seenIn (inside p) = p .made
 
 -- what a round has seen
-abbrev seenBy : Turn → Evaluations
+abbrev seenBy : Round → Evaluations
 seenBy (found g x b ev) = ev
 seenBy (on st ev) = ev
 
 settled-sees : (y ε : Float) (rising : Bool) (b : Bracket) (st : State) (x v : Float) (ev : Evaluations) → seenBy (settled y ε rising b st x v ev) ≡ ev
 unfolding settled
-settled-sees y ε rising b st x v ev = branch (λ (t : Turn). seenBy t ≡ ev) (lt (magnitudeOf (sub binary64 v y)) ε) (λ _. refl) (λ _. refl)
+settled-sees y ε rising b st x v ev = branch (λ (t : Round). seenBy t ≡ ev) (lt (magnitudeOf (sub binary64 v y)) ε) (λ _. refl) (λ _. refl)
 
 module _ (g h : ℕ → Float → Float) (R : Rule) (s : ℕ) (y ε : Float) where
   -- ---- a round
-  abbrev Same : Turn → Type 0
+  abbrev Same : Round → Type 0
   Same t = Agreed g h (seenBy t)
 
   probed-agreed : (rising : Bool) (limit i : ℕ) (st : State) (ev : Evaluations) → Same (probed R (g s) s y ε rising limit i st ev)
@@ -47,45 +47,45 @@ module _ (g h : ℕ → Float → Float) (R : Rule) (s : ℕ) (y ε : Float) whe
   probed-same rising limit i st ev a = let c = R limit i y st
       in ap (λ (v : Float). settled y ε rising (c .bracket) st (c .place) v ((s, c .place) ∷ ev)) (probed-agreed rising limit i st ev a .0)
 
-  turn-grows : (rising : Bool) (limit i : ℕ) (st : State) (ev : Evaluations) → Same (turn R (g s) s y ε rising limit i st ev) → Agreed g h ev
-  unfolding turn
-  turn-grows rising limit i st ev =
-      branch (λ (t : Turn). Same t → Agreed g h ev) (narrow ε (st .bracket)) (λ _ a. a) (λ _ a. probed-agreed rising limit i st ev a .1)
+  round-grows : (rising : Bool) (limit i : ℕ) (st : State) (ev : Evaluations) → Same (roundOf R (g s) s y ε rising limit i st ev) → Agreed g h ev
+  unfolding roundOf
+  round-grows rising limit i st ev =
+      branch (λ (t : Round). Same t → Agreed g h ev) (narrow ε (st .bracket)) (λ _ a. a) (λ _ a. probed-agreed rising limit i st ev a .1)
 
-  turn-same : (rising : Bool) (limit i : ℕ) (st : State) (ev : Evaluations) → Same (turn R (g s) s y ε rising limit i st ev)
-      → turn R (g s) s y ε rising limit i st ev ≡ turn R (h s) s y ε rising limit i st ev
-  unfolding turn
-  turn-same rising limit i st ev a = alike Same (narrow ε (st .bracket)) (λ _. refl) (probed-same rising limit i st ev) a
+  round-same : (rising : Bool) (limit i : ℕ) (st : State) (ev : Evaluations) → Same (roundOf R (g s) s y ε rising limit i st ev)
+      → roundOf R (g s) s y ε rising limit i st ev ≡ roundOf R (h s) s y ε rising limit i st ev
+  unfolding roundOf
+  round-same rising limit i st ev a = alike Same (narrow ε (st .bracket)) (λ _. refl) (probed-same rising limit i st ev) a
 
   -- ---- the rounds
   module _ (rising : Bool) (limit : ℕ) where
-    rounds-grows : (n i : ℕ) (t : Turn) → Agreed g h (rounds R (g s) s y ε rising limit n i t .made) → Same t
+    rounds-grows : (n i : ℕ) (t : Round) → Agreed g h (rounds R (g s) s y ε rising limit n i t .made) → Same t
     unfolding rounds
     rounds-grows zero i (found k x b ev) a = a
     rounds-grows zero i (on st ev) a = a
     rounds-grows (suc n) i (found k x b ev) a = a
-    rounds-grows (suc n) i (on st ev) a = turn-grows rising limit i st ev (rounds-grows n (suc i) (turn R (g s) s y ε rising limit i st ev) a)
+    rounds-grows (suc n) i (on st ev) a = round-grows rising limit i st ev (rounds-grows n (suc i) (roundOf R (g s) s y ε rising limit i st ev) a)
 
-    rounds-same : (n i : ℕ) (t : Turn) → Agreed g h (rounds R (g s) s y ε rising limit n i t .made)
+    rounds-same : (n i : ℕ) (t : Round) → Agreed g h (rounds R (g s) s y ε rising limit n i t .made)
         → rounds R (g s) s y ε rising limit n i t ≡ rounds R (h s) s y ε rising limit n i t
     unfolding rounds
     rounds-same zero i (found k x b ev) a = refl
     rounds-same zero i (on st ev) a = refl
     rounds-same (suc n) i (found k x b ev) a = refl
     rounds-same (suc n) i (on st ev) a =
-        let t = turn R (g s) s y ε rising limit i st ev in
+        let t = roundOf R (g s) s y ε rising limit i st ev in
         rounds-same n (suc i) t a
-        ∙ ap (λ (z : Turn). rounds R (h s) s y ε rising limit n (suc i) z) (turn-same rising limit i st ev (rounds-grows n (suc i) t a))
+        ∙ ap (λ (z : Round). rounds R (h s) s y ε rising limit n (suc i) z) (round-same rising limit i st ev (rounds-grows n (suc i) t a))
 
   -- ---- the segment
   module _ (limit : ℕ) where
-    abbrev Alike : Placed → Type 0
+    abbrev Alike : Arrival → Type 0
     Alike p = Agreed g h (p .made)
 
     entered-grows : (v0 v1 : Float) (ev : Evaluations) → Alike (entered R (g s) s y ε limit v0 v1 ev) → Agreed g h ev
     unfolding entered
     entered-grows v0 v1 ev =
-        let P : Placed → Type 0 = λ p. Alike p → Agreed g h ev in
+        let P : Arrival → Type 0 = λ p. Alike p → Agreed g h ev in
         branch P (near y v0 ε) (λ _ a. a)
         (λ _. branch P (near y v1 ε) (λ _ a. a) (λ _ a. rounds-grows (lt v0 v1) limit limit 0 (on (start (opening v0 v1)) ev) a))
 

@@ -20,7 +20,7 @@ use Rattle.inverse_segment.specs.declared.Ground.the-variants.{End, Edge
 use Rattle.inverse_segment.specs.declared.Bracket.{Bracket}
 use Rattle.inverse_segment.specs.declared.State.{State}
 use Rattle.inverse_segment.specs.Evaluations.{Evaluations}
-use Rattle.inverse_segment.specs.Round.{greater, narrow, midpoint, Rule, moved, Turn, found, on, settled, probed, turn}
+use Rattle.inverse_segment.specs.Round.{greater, narrow, midpoint, Rule, moved, Round, found, on, settled, probed, roundOf}
 use Rattle.inverse_segment.specs.Segment.{near}
 use Rattle.inverse_segment.proofs.Rules.{Placing, Lawful, half-inside}
 
@@ -96,7 +96,7 @@ module _ (f : Float → Float) (y ε : Float) (rising : Bool) (limit base : ℕ)
 -- ---- the round
 module _ (R : Rule) (lawful : Lawful R) (f : Float → Float) (s : ℕ) (y ε : Float) (rising : Bool) (limit : ℕ) (numbers : Numbers f y) (base : ℕ) where
   -- i rounds are done
-  abbrev pub Fine : ℕ → Turn → Type 0
+  abbrev pub Fine : ℕ → Round → Type 0
   Fine i (found g x b ev) = Sound f y ε rising limit base g x (b .lower) (b .upper) (length ev)
   Fine i (on st ev) = Bracketed f y rising (st .bracket .lower) (st .bracket .upper) × (length ev ≡ base + i)
 
@@ -133,11 +133,11 @@ module _ (R : Rule) (lawful : Lawful R) (f : Float → Float) (s : ℕ) (y ε : 
   pub midpoint-inside : (b : Bracket) → Bracketed f y rising (b .lower) (b .upper) → Inside (b .lower) (b .upper) (midpoint b)
   midpoint-inside b h = half-inside b (placing b h)
 
-  pub turn-fine : (i : ℕ) (st : State) (ev : Evaluations) → suc i ≤ limit → Bracketed f y rising (st .bracket .lower) (st .bracket .upper)
+  pub round-fine : (i : ℕ) (st : State) (ev : Evaluations) → suc i ≤ limit → Bracketed f y rising (st .bracket .lower) (st .bracket .upper)
       → length ev ≡ base + i
-      → Fine (suc i) (turn R f s y ε rising limit i st ev)
-  unfolding turn probed
-  turn-fine i st ev I h c =
+      → Fine (suc i) (roundOf R f s y ε rising limit i st ev)
+  unfolding roundOf probed
+  round-fine i st ev I h c =
       branch (Fine (suc i)) (narrow ε (st .bracket))
       (λ k. record {
         bracketed = h;

@@ -7,16 +7,16 @@ use lib.Ieee.{Float}
 use Rattle.basis.specs.declared.Basis.{Basis}
 use Rattle.basis.specs.Basis.{matrixOf}
 use Rattle.doubles.specs.Numbers.{nought, one}
-use Rattle.spline.specs.declared.Weights.{Weights}
-use Rattle.spline.specs.Segment.{weightsOf, hornerOf}
+use Rattle.spline.specs.declared.RowSums.{RowSums}
+use Rattle.spline.specs.Segment.{rowSumsOf, hornerOf}
 use Rattle.inverse_segment.specs.Evaluations.{Evaluations}
 use Rattle.inverse_segment.specs.Segment.{encloses}
-use Rattle.inverse_segment.specs.Shown.{SettledIs}
+use Rattle.inverse_segment.specs.Contract.{SettledIs}
 
 abbrev pub both : ℕ → Evaluations → Evaluations
 both s ev = (s, one) ∷ ((s, nought) ∷ ev)
 
-pub settled : {y : Float} (w : Weights) {v0 v1 : Float} {h : Bool} → v0 ≡ hornerOf w nought → v1 ≡ hornerOf w one → h ≡ encloses v0 v1 y
+pub settled : {y : Float} (w : RowSums) {v0 v1 : Float} {h : Bool} → v0 ≡ hornerOf w nought → v1 ≡ hornerOf w one → h ≡ encloses v0 v1 y
     → SettledIs w y (w .w0 ∷ w .w1 ∷ w .w2 ∷ w .w3 ∷ v0 ∷ v1 ∷ []) h
 settled {y} w {v0} {v1} e0 e1 eh =
     record {
@@ -27,12 +27,12 @@ settled {y} w {v0} {v1} e0 e1 eh =
     }
 
 -- by the matrix of the basis
-pub settled-by : (b d : Basis) (m : List (List Float)) (cv : List Float) {w : Weights} {e : List Float} {y : Float} {h : Bool} → b ≡ d → m ≡ matrixOf d
-    → w ≡ weightsOf m cv → SettledIs w y e h → SettledIs (weightsOf (matrixOf b) cv) y e h
+pub settled-by : (b d : Basis) (m : List (List Float)) (cv : List Float) {w : RowSums} {e : List Float} {y : Float} {h : Bool} → b ≡ d → m ≡ matrixOf d
+    → w ≡ rowSumsOf m cv → SettledIs w y e h → SettledIs (rowSumsOf (matrixOf b) cv) y e h
 settled-by b d m cv {e = e} {y = y} {h = h} p q r i =
-    subst (λ (w : Weights). SettledIs w y e h) (r ∙ ap (λ (m : List (List Float)). weightsOf m cv) (q ∙ ap matrixOf (sym p))) i
+    subst (λ (w : RowSums). SettledIs w y e h) (r ∙ ap (λ (m : List (List Float)). rowSumsOf m cv) (q ∙ ap matrixOf (sym p))) i
 
 -- over the same knots
-pub settled-at : (b : Basis) (p q : List Float) {e : List Float} {y : Float} {h : Bool} → p ≡ q → SettledIs (weightsOf (matrixOf b) p) y e h
-    → SettledIs (weightsOf (matrixOf b) q) y e h
-settled-at b p q {e} {y} {h} r i = subst (λ (cv : List Float). SettledIs (weightsOf (matrixOf b) cv) y e h) r i
+pub settled-at : (b : Basis) (p q : List Float) {e : List Float} {y : Float} {h : Bool} → p ≡ q → SettledIs (rowSumsOf (matrixOf b) p) y e h
+    → SettledIs (rowSumsOf (matrixOf b) q) y e h
+settled-at b p q {e} {y} {h} r i = subst (λ (cv : List Float). SettledIs (rowSumsOf (matrixOf b) cv) y e h) r i

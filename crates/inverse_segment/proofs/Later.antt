@@ -11,8 +11,8 @@ use Rattle.inverse_segment.specs.declared.Ground.the-variants.{End, Edge
 use Rattle.inverse_segment.specs.declared.Bracket.{Bracket}
 use Rattle.inverse_segment.specs.declared.State.{State}
 use Rattle.inverse_segment.specs.Evaluations.{Evaluations}
-use Rattle.inverse_segment.specs.Round.{Rule, narrow, Turn, found, on, settled, probed, turn}
-use Rattle.inverse_segment.specs.Rounds.{Placed, rounds}
+use Rattle.inverse_segment.specs.Round.{Rule, narrow, Round, found, on, settled, probed, roundOf}
+use Rattle.inverse_segment.specs.Rounds.{Arrival, rounds}
 use Rattle.inverse_segment.specs.Segment.{near, opening, start, entered}
 
 abbrev pub isEnd : Ground → Bool
@@ -23,7 +23,7 @@ isEnd Width = false
 isEnd Spent = false
 
 -- q is p with n evaluations more; and the end rule did not place it
-pub record More (n : ℕ) (p q : Placed) : Type 0 where
+pub record More (n : ℕ) (p q : Arrival) : Type 0 where
   pub searched : isEnd (p .ground) ≡ false
   pub ground : q .ground ≡ p .ground
   pub segment : q .segment ≡ p .segment
@@ -32,35 +32,37 @@ pub record More (n : ℕ) (p q : Placed) : Type 0 where
   pub upper : q .upper ≡ p .upper
   pub count : length (q .made) ≡ length (p .made) + n
 
-data Turned (n : ℕ) : Turn → Turn → Type 0 where
+data MoreRound (n : ℕ) : Round → Round → Type 0 where
   founds : {g : Ground} {x : Float} {b : Bracket} {ev et : Evaluations} → isEnd g ≡ false → length et ≡ length ev + n
-      → Turned n (found g x b ev) (found g x b et)
-  ons : {st : State} {ev et : Evaluations} → length et ≡ length ev + n → Turned n (on st ev) (on st et)
+      → MoreRound n (found g x b ev) (found g x b et)
+  ons : {st : State} {ev et : Evaluations} → length et ≡ length ev + n → MoreRound n (on st ev) (on st et)
 
-either : (n : ℕ) (t : Bool) {a b c d : Turn} → Turned n a c → Turned n b d → Turned n (cond t a b) (cond t c d)
+either : (n : ℕ) (t : Bool) {a b c d : Round} → MoreRound n a c → MoreRound n b d → MoreRound n (cond t a b) (cond t c d)
 either n true p q = p
 either n false p q = q
 
-choice : (n : ℕ) (t : Bool) {a b c d : Placed} → More n a c → More n b d → More n (cond t a b) (cond t c d)
+choice : (n : ℕ) (t : Bool) {a b c d : Arrival} → More n a c → More n b d → More n (cond t a b) (cond t c d)
 choice n true p q = p
 choice n false p q = q
 
 module _ (R : Rule) (f : Float → Float) (s : ℕ) (y ε : Float) (n : ℕ) where
-  turn-more : (rising : Bool) (limit i : ℕ) (st : State) (ev et : Evaluations) → length et ≡ length ev + n
-      → Turned n (turn R f s y ε rising limit i st ev) (turn R f s y ε rising limit i st et)
-  unfolding turn probed settled
-  turn-more rising limit i st ev et e =
+  round-more : (rising : Bool) (limit i : ℕ) (st : State) (ev et : Evaluations) → length et ≡ length ev + n
+      → MoreRound n (roundOf R f s y ε rising limit i st ev) (roundOf R f s y ε rising limit i st et)
+  unfolding roundOf probed settled
+  round-more rising limit i st ev et e =
       let x = R limit i y st .place in
       either n (narrow ε (st .bracket)) (founds refl e) (either n (lt (magnitudeOf (sub binary64 (f x) y)) ε) (founds refl (omega arith)) (ons (omega arith)))
 
-  rounds-more : (rising : Bool) (limit m i : ℕ) (t u : Turn) → Turned n t u → More n (rounds R f s y ε rising limit m i t) (rounds R f s y ε rising limit m i u)
+  rounds-more : (rising : Bool) (limit m i : ℕ) (t u : Round) → MoreRound n t u
+      → More n (rounds R f s y ε rising limit m i t) (rounds R f s y ε rising limit m i u)
   unfolding rounds
   rounds-more rising limit zero i _ _ (founds h e) = record { searched = h; ground = refl; segment = refl; local = refl; lower = refl; upper = refl; count = e }
   rounds-more rising limit zero i _ _ (ons e) = record { searched = refl; ground = refl; segment = refl; local = refl; lower = refl; upper = refl; count = e }
   rounds-more rising limit (suc m) i _ _ (founds h e) =
       record { searched = h; ground = refl; segment = refl; local = refl; lower = refl; upper = refl; count = e }
   rounds-more rising limit (suc m) i _ _ (ons {st} {ev} {et} e) =
-      rounds-more rising limit m (suc i) (turn R f s y ε rising limit i st ev) (turn R f s y ε rising limit i st et) (turn-more rising limit i st ev et e)
+      rounds-more rising limit m (suc i) (roundOf R f s y ε rising limit i st ev) (roundOf R f s y ε rising limit i st et)
+      (round-more rising limit i st ev et e)
 
   pub entered-more : (limit : ℕ) (v0 v1 : Float) (ev et : Evaluations) → length et ≡ length ev + n
       → More n (entered R f s y ε limit v0 v1 ev) (entered R f s y ε limit v0 v1 et)

@@ -1,5 +1,5 @@
 pub mod Ends
-pub mod Turns
+pub mod OneRound
 pub mod Stops
 pub mod Weighting
 pub mod Rules

@@ -15,20 +15,20 @@ use Rattle.doubles.proofs.Order.{lt→le, not-lt→le, le-trans-float}
 use Rattle.doubles.proofs.Units.{nought-in, one-in}
 use Rattle.doubles.proofs.Interpolation.{Inside}
 use Rattle.inverse_segment.specs.Evaluations.{Evaluations}
-use Rattle.inverse_segment.specs.Round.{Rule, Turn, found, on, turn}
-use Rattle.inverse_segment.specs.Rounds.{Placed, rounds}
+use Rattle.inverse_segment.specs.Round.{Rule, Round, found, on, roundOf}
+use Rattle.inverse_segment.specs.Rounds.{Arrival, rounds}
 use Rattle.inverse_segment.specs.Segment.{encloses, near, opening, start, entered, Entry, outside, inside, enter}
 use Rattle.inverse_segment.proofs.Ends.{both}
 use Rattle.inverse_segment.proofs.Stops.{rounds-segment}
 use Rattle.inverse_segment.proofs.Rules.{Lawful}
-use Rattle.inverse_segment.proofs.Enclosing.{Numbers, Bracketed, Sound, Fine, midpoint-inside, turn-fine}
+use Rattle.inverse_segment.proofs.Enclosing.{Numbers, Bracketed, Sound, Fine, midpoint-inside, round-fine}
 
 -- ---- the rounds
-abbrev pub SoundAt : (Float → Float) → Float → Float → Bool → ℕ → ℕ → Placed → Type 0
+abbrev pub SoundAt : (Float → Float) → Float → Float → Bool → ℕ → ℕ → Arrival → Type 0
 SoundAt f y ε rising limit base p = Sound f y ε rising limit base (p .ground) (p .local) (p .lower) (p .upper) (length (p .made))
 
 module _ (R : Rule) (lawful : Lawful R) (f : Float → Float) (s : ℕ) (y ε : Float) (rising : Bool) (limit : ℕ) (numbers : Numbers f y) (base : ℕ) where
-  rounds-sound : (n i : ℕ) (t : Turn) → i + n ≡ limit → Fine R lawful f s y ε rising limit numbers base i t
+  rounds-sound : (n i : ℕ) (t : Round) → i + n ≡ limit → Fine R lawful f s y ε rising limit numbers base i t
       → SoundAt f y ε rising limit base (rounds R f s y ε rising limit n i t)
   unfolding rounds
   rounds-sound zero i (found g x b ev) e h = h
@@ -41,8 +41,8 @@ module _ (R : Rule) (lawful : Lawful R) (f : Float → Float) (s : ℕ) (y ε : 
       }
   rounds-sound (suc n) i (found g x b ev) e h = h
   rounds-sound (suc n) i (on st ev) e h =
-      rounds-sound n (suc i) (turn R f s y ε rising limit i st ev) (omega arith)
-      (turn-fine R lawful f s y ε rising limit numbers base i st ev (omega arith) (h .0) (h .1))
+      rounds-sound n (suc i) (roundOf R f s y ε rising limit i st ev) (omega arith)
+      (round-fine R lawful f s y ε rising limit numbers base i st ev (omega arith) (h .0) (h .1))
 
 -- ---- the ends
 split-encloses : (p : Bool) (a b c d : Bool) → T (cond p (a && b) (c && d)) → T (cond p a d) × T (cond p b c)
@@ -83,7 +83,7 @@ bracket-encloses f y rising {lower} {upper} n h =
 -- what the trial of segment s tells, ev being the evaluations before it
 pub data Tells (f : Float → Float) (s : ℕ) (y ε : Float) (limit : ℕ) (ev : Evaluations) : Entry → Type 0 where
   missed : T (not (encloses (f nought) (f one) y)) → Tells f s y ε limit ev (outside (f nought) (both s ev))
-  hit : {p : Placed} → T (encloses (f nought) (f one) y) → SoundAt f y ε (lt (f nought) (f one)) limit (length ev + 2) p → p .segment ≡ s
+  hit : {p : Arrival} → T (encloses (f nought) (f one) y) → SoundAt f y ε (lt (f nought) (f one)) limit (length ev + 2) p → p .segment ≡ s
       → Tells f s y ε limit ev (inside p)
 
 module _ (R : Rule) (lawful : Lawful R) (f : Float → Float) (s : ℕ) (y ε : Float) (limit : ℕ) (ev : Evaluations) (numbers : Numbers f y) where
@@ -94,7 +94,7 @@ module _ (R : Rule) (lawful : Lawful R) (f : Float → Float) (s : ℕ) (y ε : 
       let rising = lt (f nought) (f one) in
       let w = opening-bracketed f y h in
       let t = on (start (opening (f nought) (f one))) (both s ev) in
-      let P : Placed → Type 0 = λ p. SoundAt f y ε rising limit (length ev + 2) p × (p .segment ≡ s) in
+      let P : Arrival → Type 0 = λ p. SoundAt f y ε rising limit (length ev + 2) p × (p .segment ≡ s) in
       branch P (near y (f nought) ε) (λ k. (record { bracketed = w; inside = nought-inside; says = inl (refl, k); count = omega arith }, refl))
       (λ far. branch P (near y (f one) ε) (λ k. (record { bracketed = w; inside = one-inside; says = inr (refl, far, k); count = omega arith }, refl))
       (λ _. (

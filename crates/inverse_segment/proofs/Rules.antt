@@ -15,7 +15,21 @@ use Rattle.doubles.proofs.Interpolation.{Inside, lerp-inside}
 use Rattle.inverse_segment.specs.declared.Bracket.{Bracket}
 use Rattle.inverse_segment.specs.declared.State.{State}
 use Rattle.inverse_segment.specs.declared.Weighing.{Weighing}
-use Rattle.inverse_segment.specs.Round.{Weighting, halving, midpoint, falsi, weighed, kept, fraction, Choice, Rule, chord, asCrate, weightingOf, chordOf}
+use Rattle.inverse_segment.specs.Round.{
+  Weighting,
+  halving,
+  midpoint,
+  usesRegulaFalsi,
+  weighed,
+  kept,
+  fraction,
+  Choice,
+  Rule,
+  chord,
+  asCrate,
+  weightingOf,
+  chordOf,
+}
 use Rattle.inverse_segment.proofs.Weighting.{Keeps, halving-keeps, weighing-keeps}
 
 -- two places in 0 to 1, the lower not above the upper
@@ -43,17 +57,17 @@ clear-between (fin true m e) h k = h
 clear-between (fin false m e) h k = tt
 
 -- ---- weighing
-module _ (W : Weighting) (keeps : Keeps W) (y : Float) (regula : Bool) (st : State) where
-  pub weighed-lower : weighed W y regula st .lower ≡ st .bracket .lower
+module _ (W : Weighting) (keeps : Keeps W) (y : Float) (regula-falsi : Bool) (st : State) where
+  pub weighed-lower : weighed W y regula-falsi st .lower ≡ st .bracket .lower
   unfolding weighed
   weighed-lower =
-      branch (λ (b : Bracket). b .lower ≡ st .bracket .lower) (regula && ltb 0 (st .repeats)) (λ _. keeps .keeps-lower y (eqb (st .side) 1) (st .bracket))
+      branch (λ (b : Bracket). b .lower ≡ st .bracket .lower) (regula-falsi && ltb 0 (st .repeats)) (λ _. keeps .keeps-lower y (eqb (st .side) 1) (st .bracket))
       (λ _. refl)
 
-  pub weighed-upper : weighed W y regula st .upper ≡ st .bracket .upper
+  pub weighed-upper : weighed W y regula-falsi st .upper ≡ st .bracket .upper
   unfolding weighed
   weighed-upper =
-      branch (λ (b : Bracket). b .upper ≡ st .bracket .upper) (regula && ltb 0 (st .repeats)) (λ _. keeps .keeps-upper y (eqb (st .side) 1) (st .bracket))
+      branch (λ (b : Bracket). b .upper ≡ st .bracket .upper) (regula-falsi && ltb 0 (st .repeats)) (λ _. keeps .keeps-upper y (eqb (st .side) 1) (st .bracket))
       (λ _. refl)
 
 -- ---- the crate's rule
@@ -72,9 +86,9 @@ kept-part t =
     let b = lt t ninetyNineHundredths in
     branch Part (a && b) (λ h. record { sign = clear-between t (and-l a b h) (and-r a b h); under = and-r a b h }) (λ _. half-part)
 
-fraction-part : (y : Float) (regula : Bool) (b : Bracket) → Part (fraction y regula b)
+fraction-part : (y : Float) (regula-falsi : Bool) (b : Bracket) → Part (fraction y regula-falsi b)
 unfolding fraction
-fraction-part y regula b = branch Part regula (λ _. kept-part _) (λ _. half-part)
+fraction-part y regula-falsi b = branch Part regula-falsi (λ _. kept-part _) (λ _. half-part)
 
 part-inside : (lower upper t : Float) → InUnit lower → InUnit upper → T (le lower upper) → Part t → Inside lower upper (lerpOf lower upper t)
 part-inside lower upper t l u o p = lerp-inside lower upper t (l .held) (u .held) (l .sign) (u .sign) (p .sign) o (p .under)
@@ -83,18 +97,19 @@ chord-between : (W : Weighting) → Keeps W → (limit i : ℕ) (y : Float) (st 
     → Inside (st .bracket .lower) (st .bracket .upper) (chord W limit i y st .place)
 unfolding chord
 chord-between W keeps limit i y st p =
-    let regula = falsi limit i st in
-    let b = weighed W y regula st in
-    subst₂ (λ (l u : Float). Inside (st .bracket .lower) (st .bracket .upper) (lerpOf l u (fraction y regula b))) (sym (weighed-lower W keeps y regula st))
-    (sym (weighed-upper W keeps y regula st))
-    (part-inside (st .bracket .lower) (st .bracket .upper) (fraction y regula b) (p .lower-in) (p .upper-in) (p .order) (fraction-part y regula b))
+    let regula-falsi = usesRegulaFalsi limit i st in
+    let b = weighed W y regula-falsi st in
+    subst₂ (λ (l u : Float). Inside (st .bracket .lower) (st .bracket .upper) (lerpOf l u (fraction y regula-falsi b)))
+    (sym (weighed-lower W keeps y regula-falsi st))
+    (sym (weighed-upper W keeps y regula-falsi st))
+    (part-inside (st .bracket .lower) (st .bracket .upper) (fraction y regula-falsi b) (p .lower-in) (p .upper-in) (p .order) (fraction-part y regula-falsi b))
 
 pub chord-lawful : (W : Weighting) → Keeps W → Lawful (chord W)
 unfolding chord
 chord-lawful W keeps =
     record {
-      same-lower = λ limit i y st. weighed-lower W keeps y (falsi limit i st) st;
-      same-upper = λ limit i y st. weighed-upper W keeps y (falsi limit i st) st;
+      same-lower = λ limit i y st. weighed-lower W keeps y (usesRegulaFalsi limit i st) st;
+      same-upper = λ limit i y st. weighed-upper W keeps y (usesRegulaFalsi limit i st) st;
       between = chord-between W keeps;
     }
 

@@ -15,18 +15,18 @@ use Rattle.error.proofs.First.{stops-in, goes-past, stops, goes-on, clear}
 use Rattle.basis.specs.declared.Basis.{Basis}
 use Rattle.basis.specs.Basis.{stepOf}
 use Rattle.doubles.specs.Numbers.{nought, one}
-use Rattle.spline.specs.declared.Weights.{Weights}
+use Rattle.spline.specs.declared.RowSums.{RowSums}
 use Rattle.spline.specs.Segment.{hornerOf, segmentOf}
 use Rattle.checks.specs.Checks.{segmentLength, allInRange, badKnot, precise, asked}
 use Rattle.checks.proofs.Verdicts.{askedRows, lastRows}
-use Rattle.inverse_segment.specs.declared.Inverted.{Inverted}
-use Rattle.inverse_segment.specs.declared.Inverted.the-variants.{Refused, OffCurve as OffSegment, At}
+use Rattle.inverse_segment.specs.declared.Inversion.{Inversion}
+use Rattle.inverse_segment.specs.declared.Inversion.the-variants.{Refused, OffCurve as OffSegment, At}
 use Rattle.inverse_segment.specs.Evaluations.{Evaluations}
 use Rattle.inverse_segment.specs.declared.Place.{Place}
 use Rattle.inverse_segment.specs.declared.Stop.{Stop}
 use Rattle.inverse_segment.specs.Round.{Rule}
 use Rattle.inverse_segment.specs.Segment.{Outcome, off, placed, encloses, entered, enter, outcomeOf}
-use Rattle.inverse_segment.specs.Shown.{stopOf, placeAt, sumsOf, weightsAt, TestedIs}
+use Rattle.inverse_segment.specs.Contract.{stopOf, placeAt, sumsOf, rowSumsAt, TestedIs}
 use Rattle.inverse_segment.proofs.Ends.{both}
 use Rattle.inverse_segment.proofs.Stops.{entered-segment, place-at, stop-kept}
 use Rattle.inverse_segment.specs.Answer.{placeOf, answered, alone, inverted, inverseSegmentUses, inverseSegmentBy}
@@ -69,7 +69,7 @@ passes y cv limit ε e =
 
 -- ---- a refusal by a row
 -- an answer past the rows refuses by none of them
-abbrev pub Past : Inverted → Type 0
+abbrev pub Past : Inversion → Type 0
 Past (At p) = Unit
 Past (OffSegment n) = Unit
 Past (Refused r) = ⊥
@@ -79,7 +79,7 @@ answered-past P (off ev) = tt
 answered-past P (placed p) = tt
 
 -- so it is the verdict that refuses
-pub refused-by : (v : Verdict) (a : Inverted) (r : Refusal) → Past a → inverted v a ≡ Refused r → v ≡ Failed r
+pub refused-by : (v : Verdict) (a : Inversion) (r : Refusal) → Past a → inverted v a ≡ Refused r → v ≡ Failed r
 refused-by Passed a r p e = absurd (subst Past e p)
 refused-by (Failed q) a r p e = let s : q ≡ r = cc in ap Failed s
 
@@ -102,14 +102,14 @@ module _ (R : Rule) (b : Basis) (y : Float) (cv : List Float) (limit : ℕ) (ε 
     abbrev f : Float → Float
     f = segmentOf b cv 0
 
-    pub place-is : {w : Weights} {a : Stop} {p : Place} → h ≡ true → w ≡ sumsOf k
+    pub place-is : {w : RowSums} {a : Stop} {p : Place} → h ≡ true → w ≡ sumsOf k
         → ((s : ℕ) (ev : Evaluations) → length ev ≡ 2 → a ≡ stopOf (entered R (hornerOf w) s y ε limit (getD k 4 nan) (getD k 5 nan) ev))
         → p ≡ placeAt (a .local) 0 a → At p ≡ inverseSegmentBy R b y cv limit ε
     unfolding enter
     place-is {w} {a} i q u z =
         let held : encloses (f nought) (f one) y ≡ true = sym (t .holds-is) ∙ i in
         let o = entered R f 0 y ε limit (f nought) (f one) (both 0 []) in
-        let stop : a ≡ stopOf o = u 0 (both 0 []) refl ∙ stop-kept R 0 y ε limit (both 0 []) w (weightsAt b cv 0) k q (t .kept-is) in
+        let stop : a ≡ stopOf o = u 0 (both 0 []) refl ∙ stop-kept R 0 y ε limit (both 0 []) w (rowSumsAt b cv 0) k q (t .kept-is) in
         let tried : At (placeOf alone o) ≡ answered alone (outcomeOf (enter R f 0 y ε limit [])) = simp held in
         ap At (z ∙ place-at alone o (entered-segment R f 0 y ε limit (f nought) (f one) (both 0 [])) stop refl) ∙ tried ∙ told d
 

@@ -11,28 +11,28 @@ use Rattle.basis.specs.declared.Basis.{Basis}
 use Rattle.spline.specs.Segment.{segmentOf}
 use Rattle.checks.specs.Checks.{segmentLength, asked, badKnot}
 use Rattle.inverse_segment.specs.declared.Place.{Place}
-use Rattle.inverse_segment.specs.declared.Inverted.{Inverted}
-use Rattle.inverse_segment.specs.declared.Inverted.the-variants.{Refused, OffCurve, At}
+use Rattle.inverse_segment.specs.declared.Inversion.{Inversion}
+use Rattle.inverse_segment.specs.declared.Inversion.the-variants.{Refused, OffCurve, At}
 use Rattle.inverse_segment.specs.Evaluations.{Evaluations}
 use Rattle.inverse_segment.specs.Round.{Rule, asCrate}
-use Rattle.inverse_segment.specs.Rounds.{Placed}
+use Rattle.inverse_segment.specs.Rounds.{Arrival}
 use Rattle.inverse_segment.specs.Segment.{Outcome, off, placed, evaluationsOf, enter, outcomeOf}
 
 -- ---- what an answer tells
 -- the refusal's number; 0 for a place
-abbrev pub numberTold : Inverted → ℕ
+abbrev pub numberTold : Inversion → ℕ
 numberTold (Refused r) = numberOf r
 numberTold (OffCurve n) = numberOf OffCurveRow
 numberTold (At p) = 0
 
 -- the count, which a place and refusal 11 have; 0 for the other refusals
-abbrev pub countTold : Inverted → ℕ
+abbrev pub countTold : Inversion → ℕ
 countTold (Refused r) = 0
 countTold (OffCurve n) = n
 countTold (At p) = p .count
 
 -- the count is the length of the list of evaluations; the parameter is found from the segment and the local place
-abbrev pub placeOf : (ℕ → Float → Float) → Placed → Place
+abbrev pub placeOf : (ℕ → Float → Float) → Arrival → Place
 placeOf parameter p =
     record {
       parameter = parameter (p .segment) (p .local);
@@ -44,7 +44,7 @@ placeOf parameter p =
       count = length (p .made);
     }
 
-abbrev pub answered : (ℕ → Float → Float) → Outcome → Inverted
+abbrev pub answered : (ℕ → Float → Float) → Outcome → Inversion
 answered parameter (off ev) = OffCurve (length ev)
 answered parameter (placed p) = At (placeOf parameter p)
 
@@ -52,7 +52,7 @@ answered parameter (placed p) = At (placeOf parameter p)
 abbrev pub alone : ℕ → Float → Float
 alone s x = x
 
-abbrev pub inverted : Verdict → Inverted → Inverted
+abbrev pub inverted : Verdict → Inversion → Inversion
 inverted Passed a = a
 inverted (Failed r) a = Refused r
 
@@ -68,7 +68,7 @@ defaultLimit = 32
 abbrev pub defaultPrecision : Float
 defaultPrecision = ofBits binary64 0x3ddb_7cdf_d9d7_bdbb
 
-unfoldable pub inverseSegmentBy : Rule → Basis → Float → List Float → ℕ → Float → Inverted
+unfoldable pub inverseSegmentBy : Rule → Basis → Float → List Float → ℕ → Float → Inversion
 inverseSegmentBy R b y cv limit ε =
     inverted (first (inverseSegmentUses y cv limit ε)) (answered alone (outcomeOf (enter R (segmentOf b cv 0) 0 y ε limit [])))
 
@@ -82,5 +82,5 @@ segmentEvaluationsBy R b y cv limit ε =
     unlessRefused (first (inverseSegmentUses y cv limit ε)) (evaluationsOf (outcomeOf (enter R (segmentOf b cv 0) 0 y ε limit [])))
 
 -- as the crate inverts
-abbrev pub inverseSegmentOf : Basis → Float → List Float → ℕ → Float → Inverted
+abbrev pub inverseSegmentOf : Basis → Float → List Float → ℕ → Float → Inversion
 inverseSegmentOf = inverseSegmentBy asCrate

@@ -4,4 +4,4 @@ pub mod Round
 pub mod Rounds
 pub mod Segment
 pub mod Answer
-pub mod Shown
+pub mod Contract

@@ -51,12 +51,12 @@ weightingOf Distance = toward
 
 -- ---- the fraction
 -- whether a round goes by regula falsi: its number, from 0, is below 3·limit/4 rounded down, and the same-side count below 3
-abbrev pub falsi : ℕ → ℕ → State → Bool
-falsi limit i st = ltb i (3 * limit / 4) && ltb (st .repeats) 3
+abbrev pub usesRegulaFalsi : ℕ → ℕ → State → Bool
+usesRegulaFalsi limit i st = ltb i (3 * limit / 4) && ltb (st .repeats) 3
 
 -- in such a round, with a count above 0, the weighting comes first. Side 1 is the lower end
 unfoldable pub weighed : Weighting → Float → Bool → State → Bracket
-weighed W y regula st = cond (regula && ltb 0 (st .repeats)) (W y (eqb (st .side) 1) (st .bracket)) (st .bracket)
+weighed W y regula-falsi st = cond (regula-falsi && ltb 0 (st .repeats)) (W y (eqb (st .side) 1) (st .bracket)) (st .bracket)
 
 -- strictly between 0.01 and 0.99; a half stands for any other, and for NaN
 unfoldable pub kept : Float → Float
@@ -64,7 +64,7 @@ kept t = cond (lt hundredth t && lt t ninetyNineHundredths) t half
 
 -- (y − v0)/(v1 − v0) in a round by regula falsi; a half in any other
 unfoldable pub fraction : Float → Bool → Bracket → Float
-fraction y regula b = cond regula (kept (div binary64 (sub binary64 y (b .v0)) (sub binary64 (b .v1) (b .v0)))) half
+fraction y regula-falsi b = cond regula-falsi (kept (div binary64 (sub binary64 y (b .v0)) (sub binary64 (b .v1) (b .v0)))) half
 
 -- ---- the rule
 -- what a round goes by: the bracket as weighed, and the place that is evaluated
@@ -79,9 +79,9 @@ Rule = ℕ → ℕ → Float → State → Choice
 -- the weighted chord's place, over the weighting
 unfoldable pub chord : Weighting → Rule
 chord W limit i y st =
-    let regula = falsi limit i st in
-    let b = weighed W y regula st in
-    record { bracket = b; place = lerpOf (b .lower) (b .upper) (fraction y regula b) }
+    let regula-falsi = usesRegulaFalsi limit i st in
+    let b = weighed W y regula-falsi st in
+    record { bracket = b; place = lerpOf (b .lower) (b .upper) (fraction y regula-falsi b) }
 
 -- by the weighting that halves: the crate's rule
 abbrev pub asCrate : Rule
@@ -108,25 +108,25 @@ moved false b st x v =
 
 -- ---- the round
 -- what it leaves: a ground, a local place and the bracket; or the next round's state
-pub data Turn : Type 0 where
-  found : Ground → Float → Bracket → Evaluations → Turn
-  on : State → Evaluations → Turn
+pub data Round : Type 0 where
+  found : Ground → Float → Bracket → Evaluations → Round
+  on : State → Evaluations → Round
 
 -- the lower end moves when (value < y) agrees with rising; then the value test
-unfoldable pub settled : Float → Float → Bool → Bracket → State → Float → Float → Evaluations → Turn
+unfoldable pub settled : Float → Float → Bool → Bracket → State → Float → Float → Evaluations → Round
 settled y ε rising b st x v ev =
     let next = moved (Bool·beq (lt v y) rising) b st x v in
     cond (lt (magnitudeOf (sub binary64 v y)) ε) (found Value x (next .bracket) ev) (on next ev)
 
 -- the segment is evaluated at the place that the rule chooses
-unfoldable pub probed : Rule → (Float → Float) → ℕ → Float → Float → Bool → ℕ → ℕ → State → Evaluations → Turn
+unfoldable pub probed : Rule → (Float → Float) → ℕ → Float → Float → Bool → ℕ → ℕ → State → Evaluations → Round
 probed R f s y ε rising limit i st ev =
     let c = R limit i y st in
     let seen = see f s (c .place) ev in
     settled y ε rising (c .bracket) st (c .place) (seen .value) (seen .made)
 
 -- the width test comes first, and the midpoint is its answer
-unfoldable pub turn : Rule → (Float → Float) → ℕ → Float → Float → Bool → ℕ → ℕ → State → Evaluations → Turn
-turn R f s y ε rising limit i st ev =
+unfoldable pub roundOf : Rule → (Float → Float) → ℕ → Float → Float → Bool → ℕ → ℕ → State → Evaluations → Round
+roundOf R f s y ε rising limit i st ev =
     let r = probed R f s y ε rising limit i st ev in
     cond (narrow ε (st .bracket)) (found Width (midpoint (st .bracket)) (st .bracket) ev) r

@@ -8,7 +8,7 @@ use Rattle.inverse_segment.specs.declared.Bracket.{Bracket}
 use Rattle.inverse_segment.specs.declared.State.{State}
 use Rattle.inverse_segment.specs.Evaluations.{Evaluations, see}
 use Rattle.inverse_segment.specs.Round.{Rule, on}
-use Rattle.inverse_segment.specs.Rounds.{Placed, stopped, rounds}
+use Rattle.inverse_segment.specs.Rounds.{Arrival, stopped, rounds}
 
 -- the target is in the closed range of the two end values
 abbrev pub encloses : Float → Float → Float → Bool
@@ -27,7 +27,7 @@ abbrev pub start : Bracket → State
 start b = record { bracket = b; side = 0; repeats = 0 }
 
 -- a segment whose end values v0 and v1 enclose y: local 0, or else local 1, or else the rounds. Rising means v0 < v1
-unfoldable pub entered : Rule → (Float → Float) → ℕ → Float → Float → ℕ → Float → Float → Evaluations → Placed
+unfoldable pub entered : Rule → (Float → Float) → ℕ → Float → Float → ℕ → Float → Float → Evaluations → Arrival
 entered R f s y ε limit v0 v1 ev =
     let r = rounds R f s y ε (lt v0 v1) limit limit 0 (on (start (opening v0 v1)) ev) in
     cond (near y v0 ε) (stopped s Edge nought (opening v0 v1) ev) (cond (near y v1 ε) (stopped s Edge one (opening v0 v1) ev) r)
@@ -35,7 +35,7 @@ entered R f s y ε limit v0 v1 ev =
 -- what trying a segment comes to: its ends do not enclose y, and the value of its start; or a place in it
 pub data Entry : Type 0 where
   outside : Float → Evaluations → Entry
-  inside : Placed → Entry
+  inside : Arrival → Entry
 
 -- both ends are evaluated, 0 and then 1, and only once; the segment is entered where they enclose y
 unfoldable pub enter : Rule → (Float → Float) → ℕ → Float → Float → ℕ → Evaluations → Entry
@@ -48,7 +48,7 @@ enter R f s y ε limit ev =
 -- what an inversion comes to: not on the segment or the curve, or a place
 pub data Outcome : Type 0 where
   off : Evaluations → Outcome
-  placed : Placed → Outcome
+  placed : Arrival → Outcome
 
 abbrev pub evaluationsOf : Outcome → Evaluations
 evaluationsOf (off ev) = ev

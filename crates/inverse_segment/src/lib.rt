@@ -3,12 +3,12 @@ ghost use mathlib.Core.Path.{_≡_};
 ghost use Prim.Native.Nat.{_≤_, _<_, _+_, _*_};
 ghost use lib.ListN.{length};
 ghost use Rattle.basis.specs.Basis.{stepOf, matrixOf};
-ghost use Rattle.spline.specs.Segment.{weightsOf};
+ghost use Rattle.spline.specs.Segment.{rowSumsOf};
 ghost use Rattle.inverse_segment.specs.Segment.{encloses, near};
-ghost use Rattle.inverse_segment.specs.Shown.{stopAt, placeAt, sumsOf, SettledIs, TestedIs, RoundsIs, EnteredIs};
+ghost use Rattle.inverse_segment.specs.Contract.{stopAt, placeAt, sumsOf, SettledIs, TestedIs, RoundsIs, EnteredIs};
 use basis::Basis;
 use error::Refusal;
-use spline::Weights;
+use spline::RowSums;
 
 pub mod refusals;
 pub mod round;
@@ -46,7 +46,7 @@ pub struct State {
 }
 
 // What a round leaves: an answer, or the next round's state; with the count of evaluations.
-pub enum Turned {
+pub enum RoundResult {
     Done(Ground, f64, Bracket, u32),
     Next(State, u32),
 }
@@ -72,7 +72,7 @@ pub struct Place {
 }
 
 // An answer: refused by a row of the table, not on the curve after so many evaluations, or a place.
-pub enum Inverted {
+pub enum Inversion {
     Refused(Refusal),
     OffCurve(usize),
     At(Place),
@@ -109,7 +109,7 @@ pub fn place_of(parameter: f64, s: usize, e: Stop) -> Place
 // The rounds by either weighting, from the bracket that is given; n evaluations have been made before them.
 fn rounds(
     m: Weighing,
-    w: Weights,
+    w: RowSums,
     y: f64,
     precision: f64,
     rising: bool,
@@ -130,14 +130,14 @@ fn rounds(
     let mut i: u32 = 0;
     let mut count = n;
     while i < most {
-        let regula = round::is_falsi(i, early, st.repeats);
-        let t = round::turn(m, w, y, precision, rising, regula, st, count);
+        let regula_falsi = round::uses_regula_falsi(i, early, st.repeats);
+        let t = round::round(m, w, y, precision, rising, regula_falsi, st, count);
         match t {
-            Turned::Next(next, k) => {
+            RoundResult::Next(next, k) => {
                 st = next;
                 count = k;
             }
-            Turned::Done(ground, x, b, k) => {
+            RoundResult::Done(ground, x, b, k) => {
                 return stopped(ground, x, b, k);
             }
         }
@@ -163,7 +163,7 @@ pub fn encloses(v0: f64, v1: f64, y: f64) -> bool
 }
 
 // Both ends of the segment with these row sums are evaluated, once, and kept behind them: do they enclose y?
-fn settle(w: Weights, y: f64, ends: &mut [f64; 6]) -> bool
+fn settle(w: RowSums, y: f64, ends: &mut [f64; 6]) -> bool
     ensures { λ r. ⌜ SettledIs w y (now (ends .exit)) r ⌝ }
 {
     let v0 = spline::segment::horner(w, 0.0);
@@ -175,7 +175,7 @@ fn settle(w: Weights, y: f64, ends: &mut [f64; 6]) -> bool
 // A match on the basis, so that each matrix is known where it is used, and no row sum is computed through memory.
 fn settle_by(b: Basis, cv: &[f64], y: f64, ends: &mut [f64; 6]) -> bool
     requires { ⌜ 4 ≤ length (now cv) ⌝ }
-    ensures { λ r. ⌜ SettledIs (weightsOf (matrixOf b) (now (cv .entry))) y (now (ends .exit)) r ⌝ }
+    ensures { λ r. ⌜ SettledIs (rowSumsOf (matrixOf b) (now (cv .entry))) y (now (ends .exit)) r ⌝ }
 {
     match b {
         Basis::Bspline => settle(
@@ -221,10 +221,10 @@ pub fn probe(b: Basis, knots: &[f64], s: usize, y: f64, ends: &mut [f64; 6]) -> 
 }
 
 // The row sums, read back from what is kept of a segment.
-pub fn kept_sums(ends: &[f64; 6]) -> Weights
+pub fn kept_sums(ends: &[f64; 6]) -> RowSums
     ensures { λ r. ⌜ r ≡ sumsOf (now (ends .entry)) ⌝ }
 {
-    Weights {
+    RowSums {
         w0: ends[0],
         w1: ends[1],
         w2: ends[2],
@@ -241,7 +241,7 @@ pub fn is_near(y: f64, v: f64, precision: f64) -> bool
 // A segment whose end values v0 and v1 enclose y is entered; n evaluations have been made, those of its ends among them.
 pub fn entered(
     m: Weighing,
-    w: Weights,
+    w: RowSums,
     y: f64,
     precision: f64,
     limit: u16,

@@ -4,13 +4,13 @@ ghost use Prim.Native.Nat.{_≤_, _<_, _+_};
 ghost use lib.Dec.{ltb};
 ghost use mathlib.Core.Bool.{_&&_};
 ghost use Rattle.inverse_segment.specs.Round.{narrow, halving, toward, weightingOf, weighed, fraction, moved};
-ghost use Rattle.inverse_segment.specs.Shown.{TurnIs, repeatsAfter, countAfter};
+ghost use Rattle.inverse_segment.specs.Contract.{RoundIs, repeatsAfter, countAfter};
 use crate::Bracket;
 use crate::Ground;
+use crate::RoundResult;
 use crate::State;
-use crate::Turned;
 use crate::Weighing;
-use spline::Weights;
+use spline::RowSums;
 
 pub fn is_narrow(precision: f64, b: Bracket) -> bool
     ensures { λ r. ⌜ r ≡ narrow precision b ⌝ }
@@ -24,11 +24,11 @@ pub fn is_narrow(precision: f64, b: Bracket) -> bool
     }
 }
 
-// The weighed value of the end that moved last is halved; the target y plays no part in it.
-pub fn halved(y: f64, lower: bool, b: Bracket) -> Bracket
-    ensures { λ r. ⌜ r ≡ halving y lower b ⌝ }
+// The weighting as in the crate: the stored value of the end that moved last is halved. `y` is unused here; the other weighting needs it.
+pub fn halved(y: f64, lower_moved_last: bool, b: Bracket) -> Bracket
+    ensures { λ r. ⌜ r ≡ halving y «lower_moved_last» b ⌝ }
 {
-    if lower {
+    if lower_moved_last {
         Bracket {
             lower: b.lower,
             upper: b.upper,
@@ -46,10 +46,10 @@ pub fn halved(y: f64, lower: bool, b: Bracket) -> Bracket
 }
 
 // The distance to the target is halved at the end that did not move last.
-pub fn toward(y: f64, lower: bool, b: Bracket) -> Bracket
-    ensures { λ r. ⌜ r ≡ toward y lower b ⌝ }
+pub fn toward(y: f64, lower_moved_last: bool, b: Bracket) -> Bracket
+    ensures { λ r. ⌜ r ≡ toward y «lower_moved_last» b ⌝ }
 {
-    if lower {
+    if lower_moved_last {
         Bracket {
             lower: b.lower,
             upper: b.upper,
@@ -66,20 +66,20 @@ pub fn toward(y: f64, lower: bool, b: Bracket) -> Bracket
     }
 }
 
-fn reweighed(m: Weighing, y: f64, lower: bool, b: Bracket) -> Bracket
-    ensures { λ r. ⌜ r ≡ weightingOf m y lower b ⌝ }
+fn reweighed(m: Weighing, y: f64, lower_moved_last: bool, b: Bracket) -> Bracket
+    ensures { λ r. ⌜ r ≡ weightingOf m y «lower_moved_last» b ⌝ }
 {
     match m {
-        Weighing::Value => halved(y, lower, b),
-        Weighing::Distance => toward(y, lower, b),
+        Weighing::Value => halved(y, lower_moved_last, b),
+        Weighing::Distance => toward(y, lower_moved_last, b),
     }
 }
 
-pub fn weighed(m: Weighing, y: f64, regula: bool, st: State) -> Bracket
-    ensures { λ r. ⌜ r ≡ weighed (weightingOf m) y regula st ⌝ }
+pub fn weighed(m: Weighing, y: f64, regula_falsi: bool, st: State) -> Bracket
+    ensures { λ r. ⌜ r ≡ weighed (weightingOf m) y «regula_falsi» st ⌝ }
 {
     let b = st.bracket;
-    if regula {
+    if regula_falsi {
         if 0 < st.repeats {
             return reweighed(m, y, st.side == 1, b);
         }
@@ -90,10 +90,10 @@ pub fn weighed(m: Weighing, y: f64, regula: bool, st: State) -> Bracket
 
 // Where in the bracket the next place lies, from 0 to 1. All halves go through one return, so that the compiler keeps the tests as branches
 // and divides only where the quotient is wanted.
-pub fn fraction(y: f64, regula: bool, b: Bracket) -> f64
-    ensures { λ r. ⌜ r ≡ fraction y regula b ⌝ }
+pub fn fraction(y: f64, regula_falsi: bool, b: Bracket) -> f64
+    ensures { λ r. ⌜ r ≡ fraction y «regula_falsi» b ⌝ }
 {
-    if regula {
+    if regula_falsi {
         let t = (y - b.v0) / (b.v1 - b.v0);
         if 0.01 < t {
             if t < 0.99 {
@@ -104,11 +104,11 @@ pub fn fraction(y: f64, regula: bool, b: Bracket) -> f64
     0.5
 }
 
-pub fn moved(lower: bool, b: Bracket, st: State, x: f64, v: f64) -> State
+pub fn moved(lower_moves: bool, b: Bracket, st: State, x: f64, v: f64) -> State
     requires { ⌜ st .repeats < 65536 ⌝ }
-    ensures { λ r. ⌜ (r ≡ moved lower b st x v) × (r .repeats ≤ st .repeats + 1) ⌝ }
+    ensures { λ r. ⌜ (r ≡ moved «lower_moves» b st x v) × (r .repeats ≤ st .repeats + 1) ⌝ }
 {
-    if lower {
+    if lower_moves {
         let n = Bracket {
             lower: x,
             upper: b.upper,
@@ -151,37 +151,38 @@ pub fn moved(lower: bool, b: Bracket, st: State, x: f64, v: f64) -> State
     }
 }
 
-pub fn is_falsi(i: u32, early: u32, repeats: u32) -> bool
+pub fn uses_regula_falsi(i: u32, early: u32, repeats: u32) -> bool
     ensures { λ r. ⌜ r ≡ (ltb i early && ltb repeats 3) ⌝ }
 {
     i < early && repeats < 3
 }
 
 // One round: the width test, the place chosen and evaluated, the move, the value test. n evaluations have been made before it.
-pub fn turn(
+pub fn round(
     m: Weighing,
-    w: Weights,
+    w: RowSums,
     y: f64,
     precision: f64,
     rising: bool,
-    regula: bool,
+    regula_falsi: bool,
     st: State,
     n: u32,
-) -> Turned
+) -> RoundResult
     requires { ⌜ (st .repeats < 65536) × (n < 2000000) ⌝ }
-    ensures { λ r. ⌜ (TurnIs m w y precision rising regula st n r) × (repeatsAfter r ≤ st .repeats + 1) × (countAfter r ≤ n + 1) ⌝ }
+    ensures { λ r. ⌜ (RoundIs m w y precision rising «regula_falsi» st n r) × (repeatsAfter r ≤ st .repeats + 1)
+        × (countAfter r ≤ n + 1) ⌝ }
 {
     let b = st.bracket;
     if is_narrow(precision, b) {
-        return Turned::Done(Ground::Width, doubles::lerp(b.lower, b.upper, 0.5), b, n);
+        return RoundResult::Done(Ground::Width, doubles::lerp(b.lower, b.upper, 0.5), b, n);
     }
-    let a = weighed(m, y, regula, st);
-    let x = doubles::lerp(a.lower, a.upper, fraction(y, regula, a));
+    let a = weighed(m, y, regula_falsi, st);
+    let x = doubles::lerp(a.lower, a.upper, fraction(y, regula_falsi, a));
     let v = spline::segment::horner(w, x);
     let next = moved((v < y) == rising, a, st, x, v);
     if doubles::magnitude(v - y) < precision {
         let e = next.bracket;
-        return Turned::Done(Ground::Value, x, e, n + 1);
+        return RoundResult::Done(Ground::Value, x, e, n + 1);
     }
-    Turned::Next(next, n + 1)
+    RoundResult::Next(next, n + 1)
 }

@@ -6,17 +6,17 @@ use native.Mathlib.Omega.{arith}
 use borrow.Author.Tests.{le-leb, lt-leb}
 use lib.ListN.{take}
 use lib.Ieee.{Float}
-use Rattle.lines_answer.specs.declared.Answered.{Answered}
+use Rattle.lines_answer.specs.declared.SessionReply.{SessionReply}
 use Rattle.lines_answer.specs.Answer.{Curve, replyTo, afterOf}
-use Rattle.lines_answer.specs.Held.{curveOf, Answers}
+use Rattle.lines_answer.specs.Contract.{curveOf, Answers}
 use Rattle.lines_record.specs.declared.Record.{Record}
 use Rattle.lines_record.specs.declared.Record.the-variants.{Bad}
 use Rattle.lines_record.specs.Record.{recordOf}
 use Rattle.lines_reply.specs.Reply.{Reply, textOf}
-use Rattle.lines_reply.specs.Told.{replyOf}
+use Rattle.lines_reply.specs.Contract.{replyOf}
 use Rattle.text.specs.Wrote.{Wrote}
 use Rattle.lines_machine.specs.Program.{widest, Line}
-use Rattle.lines_machine.specs.Held.{openOf}
+use Rattle.lines_machine.specs.Contract.{openOf}
 use Rattle.lines.specs.Lines.{says, lineProgram}
 
 pub said-so : (n : ℕ) (line : List ℕ) → n ≤ widest → recordOf (take (n - 0) line) ≡ says (openOf n line)
@@ -28,9 +28,9 @@ unfolding says
 said-over n line h = rw (lt-leb n widest h) refl
 
 -- ---- a record's answer: what is written is its reply
-pub reply-wrote : {c : Curve} {r : Record} {a : Answered} {table turned : List Float} → Answers c r a table turned
+pub reply-wrote : {c : Curve} {r : Record} {a : SessionReply} {table converted : List Float} → Answers c r a table converted
     → {out : List ℕ} {at : ℕ} {out′ : List ℕ} {next : ℕ}
-    → Wrote out at (textOf (replyOf (a .told) turned)) out′ next → Wrote out at (textOf (replyTo c r)) out′ next
+    → Wrote out at (textOf (replyOf (a .told) converted)) out′ next → Wrote out at (textOf (replyTo c r)) out′ next
 reply-wrote h {out} {at} {out′} {next} w = subst (λ (t : Reply). Wrote out at (textOf t) out′ next) (h .told) w
 
 -- ---- a line is answered as its record

@@ -3,19 +3,19 @@ ghost use mathlib.Core.Path.{_≡_};
 ghost use Prim.Native.Nat.{_+_, _≤_};
 ghost use lib.ListN.{length};
 ghost use Rattle.lines_answer.specs.Answer.{places, replyTo, afterOf};
-ghost use Rattle.lines_answer.specs.Held.{curveOf, countOf};
+ghost use Rattle.lines_answer.specs.Contract.{curveOf, countOf};
 ghost use Rattle.lines_reply.specs.Reply.{textOf};
-ghost use Rattle.lines_reply.specs.Told.{longest};
+ghost use Rattle.lines_reply.specs.Contract.{longest};
 ghost use Rattle.text.specs.Wrote.{Wrote};
 ghost use Rattle.lines_machine.specs.Program.{widest};
-ghost use Rattle.lines_machine.specs.Held.{openOf};
+ghost use Rattle.lines_machine.specs.Contract.{openOf};
 ghost use Rattle.lines.specs.Lines.{says, lineProgram};
-use lines_answer::Held;
+use lines_answer::Session;
 use lines_record::Record;
 
 // What is held after a line, and the place behind its reply.
-pub struct Lined {
-    pub held: Held,
+pub struct LineResult {
+    pub held: Session,
     pub at: usize,
 }
 
@@ -32,14 +32,14 @@ pub fn said(len: usize, line: &[u8]) -> Record
 
 // A record: its reply is written from place `at` of `out` on.
 pub fn answered(
-    held: Held,
+    held: Session,
     said: Record,
     table: &mut [f64],
-    turned: &mut [f64],
+    converted: &mut [f64],
     out: &mut [u8],
     at: usize,
-) -> Lined
-    requires table { ⌜ (countOf held ≤ places) × (length (now table) ≡ places) × (length (now turned) ≡ places) ⌝ }
+) -> LineResult
+    requires table { ⌜ (countOf held ≤ places) × (length (now table) ≡ places) × (length (now converted) ≡ places) ⌝ }
     requires room { ⌜ at + longest ≤ length (now out) ⌝ }
     ensures state { λ r. ⌜ curveOf (r .held) (now (table .exit)) ≡ afterOf (curveOf held (now (table .entry))) said ⌝ }
     ensures few { λ r. ⌜ countOf (r .held) ≤ places ⌝ }
@@ -47,11 +47,11 @@ pub fn answered(
         (r .at) ⌝ }
     ensures short { λ r. ⌜ r .at ≤ at + longest ⌝ }
 {
-    let a = lines_answer::answer(held, said, table, &mut *turned);
+    let a = lines_answer::answer(held, said, table, &mut *converted);
     let after = a.held;
     let told = a.told;
-    let next = lines_reply::put_reply(told, &turned[..], out, at);
-    Lined {
+    let next = lines_reply::put_reply(told, &converted[..], out, at);
+    LineResult {
         held: after,
         at: next,
     }
@@ -59,16 +59,16 @@ pub fn answered(
 
 // A line of len bytes, the first ones of the lent 64; 65 for one that is too long. Its reply is written from place `at` of `out` on.
 pub fn line(
-    held: Held,
+    held: Session,
     len: usize,
     line: &[u8],
     table: &mut [f64],
-    turned: &mut [f64],
+    converted: &mut [f64],
     out: &mut [u8],
     at: usize,
-) -> Lined
+) -> LineResult
     requires line { ⌜ length (now line) ≡ widest ⌝ }
-    requires table { ⌜ (countOf held ≤ places) × (length (now table) ≡ places) × (length (now turned) ≡ places) ⌝ }
+    requires table { ⌜ (countOf held ≤ places) × (length (now table) ≡ places) × (length (now converted) ≡ places) ⌝ }
     requires room { ⌜ at + longest ≤ length (now out) ⌝ }
     ensures state { λ r. ⌜ curveOf (r .held) (now (table .exit)) ≡ lineProgram .after (curveOf held (now (table .entry)))
         (openOf len (now (line .entry))) ⌝ }
@@ -78,5 +78,5 @@ pub fn line(
     ensures short { λ r. ⌜ r .at ≤ at + longest ⌝ }
 {
     let r = said(len, line);
-    answered(held, r, table, turned, out, at)
+    answered(held, r, table, converted, out, at)
 }

@@ -8,7 +8,7 @@ use lib.ListN.{length, take, drop, set, length-append}
 use lib.Seq.{take-append-seam, take-suc-set, length-take-le}
 use lib.Ieee.{Float}
 use Rattle.basis.specs.declared.Basis.{Basis}
-use Rattle.convert.specs.declared.Converted.the-variants.{Written, Refused}
+use Rattle.convert.specs.declared.ConversionAnswer.the-variants.{Written, Refused}
 use Rattle.convert.specs.Conversion.{Conversion, gives, refuses}
 use Rattle.convert.specs.Buffer.{answerOf, bufferOf}
 use Rattle.error.specs.declared.Refusal.{Refusal}

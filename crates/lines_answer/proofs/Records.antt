@@ -16,14 +16,14 @@ use Rattle.error.specs.declared.Refusal.the-variants.{TooMany, BadSpan}
 use Rattle.error.proofs.First.{never}
 use Rattle.inverse.specs.declared.EndsBy.{EndsBy}
 use Rattle.inverse.specs.declared.EndsBy.the-variants.{Knots}
-use Rattle.inverse_segment.specs.declared.Inverted.{Inverted}
-use Rattle.inverse_segment.specs.declared.Inverted.the-variants as I
+use Rattle.inverse_segment.specs.declared.Inversion.{Inversion}
+use Rattle.inverse_segment.specs.declared.Inversion.the-variants as I
 use Rattle.lines_record.specs.declared.Record.{Record}
 use Rattle.lines_record.specs.declared.Record.the-variants.{Curve as CurveOf, Span, Knot, Ends, At, Find, Turn, Bad}
 use Rattle.lines_reply.specs.Reply.{silence, refused, value}
 use Rattle.spline.specs.Evaluation.{splineOf}
-use Rattle.spline.specs.declared.Evaluated.{Evaluated}
-use Rattle.spline.specs.declared.Evaluated.the-variants as E
+use Rattle.spline.specs.declared.Evaluation.{Evaluation}
+use Rattle.spline.specs.declared.Evaluation.the-variants as E
 use Rattle.spline.proofs.Values.{spline-finite}
 use Rattle.table.specs.declared.Table.{Table}
 use Rattle.table.specs.Second.{day, goodSpan}
@@ -138,11 +138,11 @@ held-after (on t m ks) (Turn c) h = h
 held-after (on t m ks) Bad h = h
 
 -- ---- what is told is finite, so its bits are told exactly
-value-of : (e : Evaluated) (v : Float) → valueReply e ≡ value v → e ≡ E.Value v
+value-of : (e : Evaluation) (v : Float) → valueReply e ≡ value v → e ≡ E.Value v
 value-of (E.Value x) v h = let k : x ≡ v = cc in ap (λ (z : Float). E.Value z) k
 value-of (E.Refused r) v h = never (cc)
 
-place-no-value : (s : ℕ) (i : Inverted) (v : Float) → placeReply s i ≡ value v → ⊥
+place-no-value : (s : ℕ) (i : Inversion) (v : Float) → placeReply s i ≡ value v → ⊥
 place-no-value s (I.Refused r) v h = never (cc)
 place-no-value s (I.OffCurve n) v h = never (cc)
 place-no-value s (I.At p) v h = never (cc)

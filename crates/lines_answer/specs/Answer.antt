@@ -12,15 +12,15 @@ use Rattle.inverse.specs.declared.EndsBy.{EndsBy}
 use Rattle.inverse.specs.declared.EndsBy.the-variants.{Knots}
 use Rattle.inverse.specs.Inverse.{inverseBy}
 use Rattle.inverse_segment.specs.Answer.{defaultLimit, defaultPrecision}
-use Rattle.inverse_segment.specs.declared.Inverted.{Inverted}
-use Rattle.inverse_segment.specs.declared.Inverted.the-variants as I
+use Rattle.inverse_segment.specs.declared.Inversion.{Inversion}
+use Rattle.inverse_segment.specs.declared.Inversion.the-variants as I
 use Rattle.inverse_methods.specs.declared.Method.the-variants.{AsCrate}
 use Rattle.lines_record.specs.declared.Record.{Record}
 use Rattle.lines_record.specs.declared.Record.the-variants.{Curve as CurveOf, Span, Knot, Ends, At, Find, Turn, Bad}
 use Rattle.lines_reply.specs.Reply.{Reply, silence, refused, value, place, curve}
 use Rattle.spline.specs.Evaluation.{splineOf}
-use Rattle.spline.specs.declared.Evaluated.{Evaluated}
-use Rattle.spline.specs.declared.Evaluated.the-variants as E
+use Rattle.spline.specs.declared.Evaluation.{Evaluation}
+use Rattle.spline.specs.declared.Evaluation.the-variants as E
 use Rattle.table.specs.declared.Table.{Table}
 use Rattle.table.specs.Second.{goodSpan, spansOf, secondsOf}
 
@@ -39,16 +39,16 @@ bare b = record { basis = b; span = 0 }
 
 -- ---- the replies of the three calls
 
-abbrev pub valueReply : Evaluated → Reply
+abbrev pub valueReply : Evaluation → Reply
 valueReply (E.Value x) = value x
 valueReply (E.Refused r) = refused r
 
 -- the default limit and precision, the order check on
-abbrev pub foundOf : EndsBy → Basis → Float → List Float → Inverted
+abbrev pub foundOf : EndsBy → Basis → Float → List Float → Inversion
 foundOf m b y ks = inverseBy m AsCrate b y ks true defaultLimit defaultPrecision
 
 -- with the second of the place, where there is a span
-abbrev pub placeReply : ℕ → Inverted → Reply
+abbrev pub placeReply : ℕ → Inversion → Reply
 placeReply span (I.Refused r) = refused r
 placeReply span (I.OffCurve n) = refused OffCurve
 placeReply span (I.At p) = place (p .parameter) (p .ground) (p .count) (secondsOf span (p .parameter))

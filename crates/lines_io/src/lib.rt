@@ -4,18 +4,18 @@ ghost use mathlib.Core.Path.{_≡_};
 ghost use Prim.Native.Nat.{_+_, _≤_};
 ghost use lib.ListN.{length};
 ghost use Rattle.lines_answer.specs.Answer.{places};
-ghost use Rattle.lines_programs.specs.Held.{lastRoom, countOf, stateOf, Good};
+ghost use Rattle.lines_programs.specs.Contract.{lastRoom, countOf, stateOf, Good};
 ghost use Rattle.lines_machine.specs.Program.{widest};
 ghost use Rattle.lines_programs.specs.Programs.{running};
 ghost use Rattle.lines_machine.specs.Bytes.{ranOf};
-ghost use Rattle.lines_reply.specs.Told.{longest};
+ghost use Rattle.lines_reply.specs.Contract.{longest};
 use libc::STDERR_FILENO;
 use libc::STDIN_FILENO;
 use libc::STDOUT_FILENO;
 use lines_programs::Reader;
 
 // Where the program stands; whether nothing has failed, and whether to read on.
-pub struct Ran {
+pub struct RunResult {
     pub st: Reader,
     pub fine: bool,
     pub more: bool,
@@ -39,18 +39,18 @@ fn is_end(got: isize) -> bool {
     false
 }
 
-// The bytes of a chunk. Each turn of the loop writes what `out` has room for; after a failed write nothing is written.
+// The bytes of a chunk. Each pass of the loop writes what `out` has room for; after a failed write nothing is written.
 fn feed_all(
     st: Reader,
     chunk: &[u8],
     line: &mut [u8],
     table: &mut [f64],
-    turned: &mut [f64],
+    converted: &mut [f64],
     old: &mut [u64],
     new: &mut [u64],
     out: &mut [u8],
-) -> Ran
-    requires { ⌜ Good st (now line) (now table) (now old) (now new) × (length (now turned) ≡ places)
+) -> RunResult
+    requires { ⌜ Good st (now line) (now table) (now old) (now new) × (length (now converted) ≡ places)
         × (longest + lastRoom ≤ length (now out)) ⌝ }
     ensures { λ r. ⌜ Good (r .st) (now (line .exit)) (now (table .exit)) (now (old .exit)) (now (new .exit))
         × (stateOf (r .st) (now (line .exit)) (now (table .exit)) (now (old .exit)) (now (new .exit)) ≡ ranOf running
@@ -65,7 +65,7 @@ fn feed_all(
             &chunk[from..],
             &mut *line,
             &mut *table,
-            &mut *turned,
+            &mut *converted,
             &mut *old,
             &mut *new,
             &mut *out,
@@ -78,7 +78,7 @@ fn feed_all(
             fine = written(&out[0..at]);
         }
     }
-    Ran {
+    RunResult {
         st: s,
         fine: fine,
         more: fine,
@@ -91,25 +91,25 @@ fn read_once(
     chunk: &mut [u8],
     line: &mut [u8],
     table: &mut [f64],
-    turned: &mut [f64],
+    converted: &mut [f64],
     old: &mut [u64],
     new: &mut [u64],
     out: &mut [u8],
-) -> Ran
-    requires { ⌜ Good st (now line) (now table) (now old) (now new) × (length (now turned) ≡ places)
+) -> RunResult
+    requires { ⌜ Good st (now line) (now table) (now old) (now new) × (length (now converted) ≡ places)
         × (longest + lastRoom ≤ length (now out)) ⌝ }
     ensures { λ r. ⌜ Good (r .st) (now (line .exit)) (now (table .exit)) (now (old .exit)) (now (new .exit)) ⌝ }
 {
     let got = libc::read(STDIN_FILENO, &mut *chunk);
     let n = io::count(got, &chunk[..]);
     if n == 0 {
-        return Ran {
+        return RunResult {
             st: st,
             fine: is_end(got),
             more: false,
         };
     }
-    feed_all(st, &chunk[0..n], line, table, turned, old, new, out)
+    feed_all(st, &chunk[0..n], line, table, converted, old, new, out)
 }
 
 // The whole input; `left` counts more reads than any run makes.
@@ -118,13 +118,13 @@ fn read_all(
     chunk: &mut [u8],
     line: &mut [u8],
     table: &mut [f64],
-    turned: &mut [f64],
+    converted: &mut [f64],
     old: &mut [u64],
     new: &mut [u64],
     out: &mut [u8],
-) -> Ran
+) -> RunResult
     requires { ⌜ (countOf (first .job) ≡ 0) × (length (now line) ≡ widest) × (length (now table) ≡ places)
-        × (length (now turned) ≡ places) × (length (now old) ≡ places) × (length (now new) ≡ places)
+        × (length (now converted) ≡ places) × (length (now old) ≡ places) × (length (now new) ≡ places)
         × (longest + lastRoom ≤ length (now out)) ⌝ }
     ensures { λ r. ⌜ Good (r .st) (now (line .exit)) (now (table .exit)) (now (old .exit)) (now (new .exit)) ⌝ }
 {
@@ -137,7 +137,7 @@ fn read_all(
             &mut *chunk,
             &mut *line,
             &mut *table,
-            &mut *turned,
+            &mut *converted,
             &mut *old,
             &mut *new,
             &mut *out,
@@ -146,7 +146,7 @@ fn read_all(
         fine = r.fine;
         left = if r.more { left - 1 } else { 0 };
     }
-    Ran {
+    RunResult {
         st: st,
         fine: fine,
         more: false,
@@ -158,15 +158,15 @@ pub fn close(
     st: Reader,
     line: &[u8],
     table: &mut [f64],
-    turned: &mut [f64],
+    converted: &mut [f64],
     old: &mut [u64],
     new: &mut [u64],
     out: &mut [u8],
 )
-    requires { ⌜ Good st (now line) (now table) (now old) (now new) × (length (now turned) ≡ places)
+    requires { ⌜ Good st (now line) (now table) (now old) (now new) × (length (now converted) ≡ places)
         × (longest + lastRoom ≤ length (now out)) ⌝ }
 {
-    let at = lines_programs::finish(st, line, table, turned, old, new, &mut *out, 0);
+    let at = lines_programs::finish(st, line, table, converted, old, new, &mut *out, 0);
     written(&out[0..at]);
 }
 
@@ -176,13 +176,13 @@ fn whole(
     chunk: &mut [u8],
     line: &mut [u8],
     table: &mut [f64],
-    turned: &mut [f64],
+    converted: &mut [f64],
     old: &mut [u64],
     new: &mut [u64],
     out: &mut [u8],
 )
     requires { ⌜ (countOf (first .job) ≡ 0) × (length (now line) ≡ widest) × (length (now table) ≡ places)
-        × (length (now turned) ≡ places) × (length (now old) ≡ places) × (length (now new) ≡ places)
+        × (length (now converted) ≡ places) × (length (now old) ≡ places) × (length (now new) ≡ places)
         × (longest + lastRoom ≤ length (now out)) ⌝ }
 {
     let r = read_all(
@@ -190,14 +190,14 @@ fn whole(
         chunk,
         &mut *line,
         &mut *table,
-        &mut *turned,
+        &mut *converted,
         &mut *old,
         &mut *new,
         &mut *out,
     );
     if r.fine {
         let st = r.st;
-        close(st, &line[..], table, turned, old, new, out);
+        close(st, &line[..], table, converted, old, new, out);
     }
 }
 
@@ -205,7 +205,7 @@ pub fn run(first: Reader)
     requires { ⌜ countOf (first .job) ≡ 0 ⌝ }
 {
     let mut table = [0.0; 4096];
-    let mut turned = [0.0; 4096];
+    let mut converted = [0.0; 4096];
     let mut old = [0u64; 4096];
     let mut new = [0u64; 4096];
     let mut line = [0u8; 64];
@@ -216,7 +216,7 @@ pub fn run(first: Reader)
         &mut chunk,
         &mut line,
         &mut table,
-        &mut turned,
+        &mut converted,
         &mut old,
         &mut new,
         &mut out,

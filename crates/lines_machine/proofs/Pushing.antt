@@ -11,7 +11,7 @@ use lib.ListN.{length, take, set}
 use lib.Seq.{take-suc-set, length-take-le}
 use Rattle.lines_machine.specs.Program.{widest, so, over}
 use Rattle.lines_machine.specs.Bytes.{push}
-use Rattle.lines_machine.specs.Held.{openOf}
+use Rattle.lines_machine.specs.Contract.{openOf}
 
 pub push-room : (n b : ℕ) (line : List ℕ) → n < widest → length line ≡ widest → openOf (n + 1) (set line n b) ≡ push (openOf n line) b
 unfolding push

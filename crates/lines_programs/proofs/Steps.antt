@@ -22,12 +22,12 @@ use Rattle.text.specs.Wrote.{Wrote}
 use Rattle.text.proofs.Writing.{nothing, then}
 use Rattle.lines_machine.specs.Program.{widest, Line, so, Program}
 use Rattle.lines_machine.specs.Bytes.{State, stateAt, push, closeText, closed, nextOf, tellOf, toldOf, ranOf, lastText, endOf}
-use Rattle.lines_machine.specs.Held.{openOf}
+use Rattle.lines_machine.specs.Contract.{openOf}
 use Rattle.lines_machine.proofs.Whole.{Within, ran-append, told-append}
 use Rattle.lines_programs.specs.declared.Reader.{Reader}
 use Rattle.lines_programs.specs.declared.Job.{Job}
 use Rattle.lines_programs.specs.Programs.{Running, asking, reading, claiming, showing, comparing, drawing, tellsOf, afterOf, endsOf, running}
-use Rattle.lines_programs.specs.Held.{runningOf, countOf, stateOf, Good, Went}
+use Rattle.lines_programs.specs.Contract.{runningOf, countOf, stateOf, Good, Went}
 
 -- ---- each program does within the whole what it does alone
 pub line-within : Within lineProgram running asking

@@ -3,7 +3,7 @@ ghost use mathlib.Core.Path.{_≡_};
 ghost use Prim.Native.Nat.{_+_, _≤_, _<_};
 ghost use lib.ListN.{length, take};
 ghost use Rattle.lines_answer.specs.Answer.{places, none};
-ghost use Rattle.lines_reply.specs.Told.{longest};
+ghost use Rattle.lines_reply.specs.Contract.{longest};
 ghost use Rattle.compare_lines.specs.Listings.{before};
 ghost use Rattle.compare_lines.specs.Listings.{none as noListing};
 ghost use Rattle.picture.specs.Program.{nothingDrawn};
@@ -11,16 +11,16 @@ ghost use Rattle.sheet.specs.Sheet.{unbegun};
 ghost use Rattle.text.specs.Wrote.{Wrote};
 ghost use Rattle.lines_machine.specs.Bytes.{closed, closeText, nextOf, tellOf, endOf, ranOf, toldOf};
 ghost use Rattle.lines_programs.specs.Programs.{asking, reading, claiming, showing, comparing, drawing, running, endsOf};
-ghost use Rattle.lines_programs.specs.Held.{lastRoom, runningOf, countOf, stateOf, Fresh, Good, Went};
+ghost use Rattle.lines_programs.specs.Contract.{lastRoom, runningOf, countOf, stateOf, Fresh, Good, Went};
 
 // Which program, and what it holds.
 pub enum Job {
-    Asking(lines_answer::Held),
-    Reading(sheet::Held),
-    Claiming(lines_answer::Held),
+    Asking(lines_answer::Session),
+    Reading(sheet::SheetState),
+    Claiming(lines_answer::Session),
     Showing,
-    Comparing(compare_lines::Held),
-    Drawing(picture::Held),
+    Comparing(compare_lines::Comparison),
+    Drawing(picture::PictureState),
 }
 
 // `len`: bytes of the current line in the lent 64; 65 means that the line is too long.
@@ -29,7 +29,7 @@ pub struct Reader {
     pub job: Job,
 }
 
-pub struct Stepped {
+pub struct StepResult {
     pub st: Reader,
     pub at: usize,
 }
@@ -40,7 +40,7 @@ pub fn line_program() -> Reader
 {
     Reader {
         len: 0,
-        job: Job::Asking(lines_answer::Held::Nothing),
+        job: Job::Asking(lines_answer::Session::Nothing),
     }
 }
 
@@ -50,7 +50,7 @@ pub fn sheet_program() -> Reader
 {
     Reader {
         len: 0,
-        job: Job::Reading(sheet::Held::Unbegun),
+        job: Job::Reading(sheet::SheetState::Unbegun),
     }
 }
 
@@ -60,7 +60,7 @@ pub fn claims_program() -> Reader
 {
     Reader {
         len: 0,
-        job: Job::Claiming(lines_answer::Held::Nothing),
+        job: Job::Claiming(lines_answer::Session::Nothing),
     }
 }
 
@@ -78,7 +78,7 @@ pub fn compare_program() -> Reader
 {
     Reader {
         len: 0,
-        job: Job::Comparing(compare_lines::Held::Before(compare_lines::Listing::Nothing)),
+        job: Job::Comparing(compare_lines::Comparison::Before(compare_lines::Listing::Nothing)),
     }
 }
 
@@ -98,13 +98,14 @@ fn ended(
     st: Reader,
     line: &[u8],
     table: &mut [f64],
-    turned: &mut [f64],
+    converted: &mut [f64],
     old: &mut [u64],
     new: &mut [u64],
     out: &mut [u8],
     at: usize,
-) -> Stepped
-    requires { ⌜ Good st (now line) (now table) (now old) (now new) × (length (now turned) ≡ places) × (at + longest ≤ length (now out)) ⌝ }
+) -> StepResult
+    requires { ⌜ Good st (now line) (now table) (now old) (now new) × (length (now converted) ≡ places)
+        × (at + longest ≤ length (now out)) ⌝ }
     ensures { λ s. ⌜ Went (closed running (stateOf st (now (line .entry)) (now (table .entry)) (now (old .entry)) (now (new .entry))))
         (closeText running (stateOf st (now (line .entry)) (now (table .entry)) (now (old .entry)) (now (new .entry)))) (s .st)
         (now (line .entry)) (now (table .exit)) (now (old .exit)) (now (new .exit)) (now (out .entry)) at (now (out .exit)) (s .at)
@@ -114,9 +115,9 @@ fn ended(
     let job = st.job;
     match job {
         Job::Asking(held) => {
-            let l = lines::line(held, len, line, table, turned, out, at);
+            let l = lines::line(held, len, line, table, converted, out, at);
             let after = l.held;
-            Stepped {
+            StepResult {
                 st: Reader {
                     len: 0,
                     job: Job::Asking(after),
@@ -126,7 +127,7 @@ fn ended(
         }
         Job::Reading(held) => {
             let after = sheet::line(held, len, line, table);
-            Stepped {
+            StepResult {
                 st: Reader {
                     len: 0,
                     job: Job::Reading(after),
@@ -135,9 +136,9 @@ fn ended(
             }
         }
         Job::Claiming(held) => {
-            let l = claims::line(held, len, line, table, turned, out, at);
+            let l = claims::line(held, len, line, table, converted, out, at);
             let after = l.held;
-            Stepped {
+            StepResult {
                 st: Reader {
                     len: 0,
                     job: Job::Claiming(after),
@@ -147,7 +148,7 @@ fn ended(
         }
         Job::Showing => {
             let next = decimals::line(len, line, out, at);
-            Stepped {
+            StepResult {
                 st: Reader {
                     len: 0,
                     job: Job::Showing,
@@ -158,7 +159,7 @@ fn ended(
         Job::Comparing(held) => {
             let l = compare_lines::line(held, len, line, old, new, out, at);
             let after = l.held;
-            Stepped {
+            StepResult {
                 st: Reader {
                     len: 0,
                     job: Job::Comparing(after),
@@ -167,8 +168,8 @@ fn ended(
             }
         }
         Job::Drawing(held) => {
-            let after = picture::line(held, len, line, table, turned);
-            Stepped {
+            let after = picture::line(held, len, line, table, converted);
+            StepResult {
                 st: Reader {
                     len: 0,
                     job: Job::Drawing(after),
@@ -202,25 +203,26 @@ pub fn step(
     byte: u8,
     line: &mut [u8],
     table: &mut [f64],
-    turned: &mut [f64],
+    converted: &mut [f64],
     old: &mut [u64],
     new: &mut [u64],
     out: &mut [u8],
     at: usize,
-) -> Stepped
-    requires { ⌜ Good st (now line) (now table) (now old) (now new) × (length (now turned) ≡ places) × (at + longest ≤ length (now out)) ⌝ }
+) -> StepResult
+    requires { ⌜ Good st (now line) (now table) (now old) (now new) × (length (now converted) ≡ places)
+        × (at + longest ≤ length (now out)) ⌝ }
     ensures { λ s. ⌜ Went (nextOf running (stateOf st (now (line .entry)) (now (table .entry)) (now (old .entry)) (now (new .entry)))
         byte) (tellOf running (stateOf st (now (line .entry)) (now (table .entry)) (now (old .entry)) (now (new .entry))) byte) (s .st)
         (now (line .exit)) (now (table .exit)) (now (old .exit)) (now (new .exit)) (now (out .entry)) at (now (out .exit)) (s .at)
         × (s .at ≤ at + longest) ⌝ }
 {
     if byte == b'\n' {
-        return ended(st, &line[..], table, turned, old, new, out, at);
+        return ended(st, &line[..], table, converted, old, new, out, at);
     }
     let len = st.len;
     let job = st.job;
     let next = lines_machine::pushed(len, byte, line);
-    Stepped {
+    StepResult {
         st: Reader {
             len: next,
             job: job,
@@ -234,13 +236,13 @@ pub fn finish(
     st: Reader,
     line: &[u8],
     table: &mut [f64],
-    turned: &mut [f64],
+    converted: &mut [f64],
     old: &mut [u64],
     new: &mut [u64],
     out: &mut [u8],
     at: usize,
 ) -> usize
-    requires { ⌜ Good st (now line) (now table) (now old) (now new) × (length (now turned) ≡ places)
+    requires { ⌜ Good st (now line) (now table) (now old) (now new) × (length (now converted) ≡ places)
         × (at + longest + lastRoom ≤ length (now out)) ⌝ }
     ensures { λ r. ⌜ Wrote (now (out .entry)) at
         (endOf running (stateOf st (now (line .entry)) (now (table .entry)) (now (old .entry)) (now (new .entry)))) (now (out .exit)) r
@@ -255,7 +257,7 @@ pub fn finish(
         st,
         line,
         &mut *table,
-        turned,
+        converted,
         &mut *old,
         &mut *new,
         &mut *out,
@@ -267,7 +269,7 @@ pub fn finish(
     ends(job, &table[..], &old[..], &new[..], out, from)
 }
 
-pub struct Fed {
+pub struct FeedResult {
     pub st: Reader,
     pub at: usize,
     pub next: usize,
@@ -279,12 +281,12 @@ pub fn feed(
     chunk: &[u8],
     line: &mut [u8],
     table: &mut [f64],
-    turned: &mut [f64],
+    converted: &mut [f64],
     old: &mut [u64],
     new: &mut [u64],
     out: &mut [u8],
-) -> Fed
-    requires { ⌜ Good st (now line) (now table) (now old) (now new) × (length (now turned) ≡ places) ⌝ }
+) -> FeedResult
+    requires { ⌜ Good st (now line) (now table) (now old) (now new) × (length (now converted) ≡ places) ⌝ }
     ensures { λ r. ⌜ Went (ranOf running (stateOf st (now (line .entry)) (now (table .entry)) (now (old .entry)) (now (new .entry)))
         (take (r .next) (now (chunk .entry))))
         (toldOf running (stateOf st (now (line .entry)) (now (table .entry)) (now (old .entry)) (now (new .entry)))
@@ -298,7 +300,7 @@ pub fn feed(
     let mut i = 0;
     while i < chunk.len() {
         if out.len() - at < lines_reply::LONGEST {
-            return Fed {
+            return FeedResult {
                 st: s,
                 at: at,
                 next: i,
@@ -309,7 +311,7 @@ pub fn feed(
             chunk[i],
             &mut *line,
             &mut *table,
-            &mut *turned,
+            &mut *converted,
             &mut *old,
             &mut *new,
             &mut *out,
@@ -319,7 +321,7 @@ pub fn feed(
         at = r.at;
         i += 1;
     }
-    Fed {
+    FeedResult {
         st: s,
         at: at,
         next: i,

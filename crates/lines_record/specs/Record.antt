@@ -9,13 +9,13 @@ use Rattle.basis.specs.declared.Basis.the-variants.{Bspline, Bezier, CatmullRom
 use Rattle.text_decimals.specs.Decimals.{numberIn}
 use Rattle.inverse.specs.declared.EndsBy.{EndsBy}
 use Rattle.inverse.specs.declared.EndsBy.the-variants as M
-use Rattle.text.specs.declared.Hexed.{Hexed}
-use Rattle.text.specs.declared.Hexed.the-variants as H
+use Rattle.text.specs.declared.HexNumber.{HexNumber}
+use Rattle.text.specs.declared.HexNumber.the-variants as H
 use Rattle.text.specs.Text.{bytes, same, fieldsOf, hexOf, doubleOf}
-use Rattle.lines_record.specs.declared.EndsNamed.{EndsNamed}
-use Rattle.lines_record.specs.declared.EndsNamed.the-variants as E
-use Rattle.lines_record.specs.declared.Named.{Named}
-use Rattle.lines_record.specs.declared.Named.the-variants as N
+use Rattle.lines_record.specs.declared.EndsName.{EndsName}
+use Rattle.lines_record.specs.declared.EndsName.the-variants as E
+use Rattle.lines_record.specs.declared.BasisName.{BasisName}
+use Rattle.lines_record.specs.declared.BasisName.the-variants as N
 use Rattle.lines_record.specs.declared.Record.{Record}
 use Rattle.lines_record.specs.declared.Record.the-variants.{Curve, Span, Knot, Ends, At, Find, Turn, Bad}
 use Rattle.lines_record.specs.declared.Word.{Word}
@@ -43,32 +43,32 @@ nameOf Linear = bytes "Linear"
 nameOf Power = bytes "Power"
 
 -- the one of some bases that s names
-abbrev pub namedAmong : List Basis → List ℕ → Named
+abbrev pub namedAmong : List Basis → List ℕ → BasisName
 namedAmong [] s = N.Nothing
 namedAmong (b ∷ bs) s = cond (same s (nameOf b)) (N.Is b) (namedAmong bs s)
 
 -- the basis that s names
-unfoldable pub namedOf : List ℕ → Named
+unfoldable pub namedOf : List ℕ → BasisName
 namedOf s = namedAmong (Bspline ∷ Bezier ∷ CatmullRom ∷ Hermite ∷ Linear ∷ Power ∷ []) s
 
 -- the ends that s names
-unfoldable pub endsOf : List ℕ → EndsNamed
+unfoldable pub endsOf : List ℕ → EndsName
 endsOf s = cond (same s (bytes "knots")) (E.Is M.Knots) (cond (same s (bytes "curve")) (E.Is M.Curve) E.Nothing)
 
 -- a record that tells a basis, ends, a whole number, or a double
-abbrev pub withBasis : (Basis → Record) → Named → Record
+abbrev pub withBasis : (Basis → Record) → BasisName → Record
 withBasis f (N.Is b) = f b
 withBasis f N.Nothing = Bad
 
-abbrev pub withEnds : (EndsBy → Record) → EndsNamed → Record
+abbrev pub withEnds : (EndsBy → Record) → EndsName → Record
 withEnds f (E.Is m) = f m
 withEnds f E.Nothing = Bad
 
-abbrev pub withNumber : (ℕ → Record) → Hexed → Record
+abbrev pub withNumber : (ℕ → Record) → HexNumber → Record
 withNumber f (H.Is n) = f n
 withNumber f H.Nothing = Bad
 
-abbrev pub withDouble : (Float → Record) → Hexed → Record
+abbrev pub withDouble : (Float → Record) → HexNumber → Record
 withDouble f (H.Is n) = f (doubleOf n)
 withDouble f H.Nothing = Bad
 

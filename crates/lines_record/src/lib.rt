@@ -7,7 +7,7 @@ ghost use Rattle.lines_record.specs.declared.Record.the-variants.{Span, 
 ghost use Rattle.lines_record.specs.Record.{wordOf, namedOf, endsOf, withNumber, withEnds, meaningOf, ofFields, recordOf};
 use basis::Basis;
 use inverse::EndsBy;
-use text::Hexed;
+use text::HexNumber;
 
 pub enum Record {
     Curve(Basis),
@@ -32,13 +32,13 @@ pub enum Word {
     Other,
 }
 
-pub enum Named {
+pub enum BasisName {
     Is(Basis),
     Nothing,
 }
 
 // By which ends the curve is inverted, if a field names one.
-pub enum EndsNamed {
+pub enum EndsName {
     Is(EndsBy),
     Nothing,
 }
@@ -70,47 +70,47 @@ pub fn word_of(s: &[u8]) -> Word
     Word::Other
 }
 
-pub fn basis_named(s: &[u8]) -> Named
+pub fn basis_named(s: &[u8]) -> BasisName
     ensures { λ r. ⌜ r ≡ namedOf (now (s .entry)) ⌝ }
 {
     if text::is_word(s, b"Bspline") {
-        return Named::Is(Basis::Bspline);
+        return BasisName::Is(Basis::Bspline);
     }
     if text::is_word(s, b"Bezier") {
-        return Named::Is(Basis::Bezier);
+        return BasisName::Is(Basis::Bezier);
     }
     if text::is_word(s, b"CatmullRom") {
-        return Named::Is(Basis::CatmullRom);
+        return BasisName::Is(Basis::CatmullRom);
     }
     if text::is_word(s, b"Hermite") {
-        return Named::Is(Basis::Hermite);
+        return BasisName::Is(Basis::Hermite);
     }
     if text::is_word(s, b"Linear") {
-        return Named::Is(Basis::Linear);
+        return BasisName::Is(Basis::Linear);
     }
     if text::is_word(s, b"Power") {
-        return Named::Is(Basis::Power);
+        return BasisName::Is(Basis::Power);
     }
-    Named::Nothing
+    BasisName::Nothing
 }
 
-pub fn ends_named(s: &[u8]) -> EndsNamed
+pub fn ends_named(s: &[u8]) -> EndsName
     ensures { λ r. ⌜ r ≡ endsOf (now (s .entry)) ⌝ }
 {
     if text::is_word(s, b"knots") {
-        return EndsNamed::Is(EndsBy::Knots);
+        return EndsName::Is(EndsBy::Knots);
     }
     if text::is_word(s, b"curve") {
-        return EndsNamed::Is(EndsBy::Curve);
+        return EndsName::Is(EndsBy::Curve);
     }
-    EndsNamed::Nothing
+    EndsName::Nothing
 }
 
 // A span of 1 to 5 digits; whether it is in range is for the answer to say.
 fn span_of(s: &[u8]) -> Record
     ensures { λ r. ⌜ r ≡ withNumber (λ n. Span n) (numberIn 5 (now (s .entry))) ⌝ }
 {
-    let Hexed::Is(n) = text_decimals::number_in(s, 5) else {
+    let HexNumber::Is(n) = text_decimals::number_in(s, 5) else {
         return Record::Bad;
     };
     Record::Span(n as u32)
@@ -119,7 +119,7 @@ fn span_of(s: &[u8]) -> Record
 fn ends_of(s: &[u8]) -> Record
     ensures { λ r. ⌜ r ≡ withEnds (λ m. Ends m) (endsOf (now (s .entry))) ⌝ }
 {
-    let EndsNamed::Is(m) = ends_named(s) else {
+    let EndsName::Is(m) = ends_named(s) else {
         return Record::Bad;
     };
     Record::Ends(m)
@@ -131,33 +131,33 @@ fn meaning(w: Word, s: &[u8]) -> Record
 {
     match w {
         Word::Curve => {
-            let Named::Is(b) = basis_named(s) else {
+            let BasisName::Is(b) = basis_named(s) else {
                 return Record::Bad;
             };
             Record::Curve(b)
         }
         Word::Span => span_of(s),
         Word::Knot => {
-            let Hexed::Is(n) = text::hex(s) else {
+            let HexNumber::Is(n) = text::hex(s) else {
                 return Record::Bad;
             };
             Record::Knot(text::of_bits(n))
         }
         Word::Ends => ends_of(s),
         Word::At => {
-            let Hexed::Is(n) = text::hex(s) else {
+            let HexNumber::Is(n) = text::hex(s) else {
                 return Record::Bad;
             };
             Record::At(text::of_bits(n))
         }
         Word::Find => {
-            let Hexed::Is(n) = text::hex(s) else {
+            let HexNumber::Is(n) = text::hex(s) else {
                 return Record::Bad;
             };
             Record::Find(text::of_bits(n))
         }
         Word::Turn => {
-            let Named::Is(b) = basis_named(s) else {
+            let BasisName::Is(b) = basis_named(s) else {
                 return Record::Bad;
             };
             Record::Turn(b)

@@ -1,2 +1,2 @@
 pub mod Reply
-pub mod Told
+pub mod Contract

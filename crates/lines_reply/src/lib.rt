@@ -19,7 +19,7 @@ ghost use Rattle.lines_reply.specs.Reply.{
   curveText,
   textOf,
 };
-ghost use Rattle.lines_reply.specs.Told.{longest, lentOf, replyOf, placesIn};
+ghost use Rattle.lines_reply.specs.Contract.{longest, lentOf, replyOf, placesIn};
 use basis::Basis;
 use error::Refusal;
 use inverse_segment::Ground;
@@ -30,7 +30,7 @@ use table::Table;
 pub const LONGEST: usize = 90145;
 
 // A reply to one line. The knots of a curve are the first ones, as many as it says, of a lent slice.
-pub enum Told {
+pub enum LineReply {
     Nothing,
     Refused(Refusal),
     Value(f64),
@@ -213,15 +213,15 @@ fn put_curve(out: &mut [u8], at: usize, t: Table, knots: &[f64]) -> usize
 }
 
 // The text of a reply, from place `at` on.
-pub fn put_reply(t: Told, turned: &[f64], out: &mut [u8], at: usize) -> usize
-    requires { ⌜ (lentOf t ≤ length (now turned)) × (length (now turned) ≡ 4096) × (at + longest ≤ length (now out)) ⌝ }
-    ensures { λ r. ⌜ Wrote (now (out .entry)) at (textOf (replyOf t (now (turned .entry)))) (now (out .exit)) r × (r ≤ at + longest) ⌝ }
+pub fn put_reply(t: LineReply, converted: &[f64], out: &mut [u8], at: usize) -> usize
+    requires { ⌜ (lentOf t ≤ length (now converted)) × (length (now converted) ≡ 4096) × (at + longest ≤ length (now out)) ⌝ }
+    ensures { λ r. ⌜ Wrote (now (out .entry)) at (textOf (replyOf t (now (converted .entry)))) (now (out .exit)) r × (r ≤ at + longest) ⌝ }
 {
     match t {
-        Told::Nothing => at,
-        Told::Refused(r) => put_refused(out, at, r),
-        Told::Value(x) => put_line(out, at, b"value\t", x),
-        Told::Place(x, g, n, s) => put_place(out, at, x, g, n, s),
-        Told::Curve(c, n) => put_curve(out, at, c, &turned[0..n]),
+        LineReply::Nothing => at,
+        LineReply::Refused(r) => put_refused(out, at, r),
+        LineReply::Value(x) => put_line(out, at, b"value\t", x),
+        LineReply::Place(x, g, n, s) => put_place(out, at, x, g, n, s),
+        LineReply::Curve(c, n) => put_curve(out, at, c, &converted[0..n]),
     }
 }

@@ -1,4 +1,4 @@
--- The loops over points and knots, a turn at a time. Assumes nothing.
+-- The loops over points and knots, a pass at a time. Assumes nothing.
 use mathlib.Core.Path.{_≡_, refl, sym, ap, _∙_}
 use mathlib.Core.List.{List, []}
 use Prim.Native.Nat.{ℕ, zero, suc, _+_}
@@ -11,10 +11,10 @@ use Rattle.text.proofs.Writing.{nothing, then}
 use Rattle.picture_scale.specs.declared.Extent.{Extent}
 use Rattle.picture_scale.specs.Scale.{curveHeight, columnOf}
 use Rattle.lines_answer.specs.Answer.{Curve}
-use Rattle.lines_answer.specs.Held.{curveOf, Answers}
-use Rattle.lines_answer.specs.declared.Answered.{Answered}
+use Rattle.lines_answer.specs.Contract.{curveOf, Answers}
+use Rattle.lines_answer.specs.declared.SessionReply.{SessionReply}
 use Rattle.lines_machine.specs.Program.{Line}
-use Rattle.lines_reply.specs.Told.{replyOf}
+use Rattle.lines_reply.specs.Contract.{replyOf}
 use Rattle.lines.specs.Lines.{says}
 use Rattle.lines_record.specs.declared.Record.{Record}
 use Rattle.picture.specs.declared.Finds.{Finds}
@@ -42,7 +42,7 @@ module _ (b : Basis) (ks : List Float) (e : Extent) {o o₁ o₂ : List ℕ} {at
   knots-go-on j s t = rw (add-one j) (then s t)
 
 -- what is drawn after a line, part by part
-pub drawn-so : (o : Line) (f₀ : Finds) (g₀ : Fault) {r : Record} {c : Curve} {f : Finds} {g : Fault} {a : Answered} {table turned : List Float}
-    → r ≡ says o → Answers c r a table turned → f ≡ findsAfter f₀ r → ((l : List Float) → g ≡ faultAfter g₀ r (replyOf (a .told) l))
+pub drawn-so : (o : Line) (f₀ : Finds) (g₀ : Fault) {r : Record} {c : Curve} {f : Finds} {g : Fault} {a : SessionReply} {table converted : List Float}
+    → r ≡ says o → Answers c r a table converted → f ≡ findsAfter f₀ r → ((l : List Float) → g ≡ faultAfter g₀ r (replyOf (a .told) l))
     → record { curve = curveOf (a .held) table; finds = f; fault = g } ≡ drawn (record { curve = c; finds = f₀; fault = g₀ }) (says o)
-drawn-so o f₀ g₀ {r} {c} {f} {g} {a} {table} {turned} e w v u = rw (← e, w .held, v, u turned, w .told) refl
+drawn-so o f₀ g₀ {r} {c} {f} {g} {a} {table} {converted} e w v u = rw (← e, w .held, v, u converted, w .told) refl

@@ -1,3 +1,3 @@
 pub mod Picture
 pub mod Program
-pub mod Held
+pub mod Contract

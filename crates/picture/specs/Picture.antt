@@ -13,13 +13,13 @@ use Rattle.error.specs.declared.Refusal.{Refusal}
 use Rattle.error.specs.declared.Refusal.the-variants.{OffCurve}
 use Rattle.error.specs.Refusals.{numberOf, placeOf}
 use Rattle.inverse.specs.declared.EndsBy.{EndsBy}
-use Rattle.inverse_segment.specs.declared.Inverted.{Inverted}
+use Rattle.inverse_segment.specs.declared.Inversion.{Inversion}
 use Rattle.inverse_segment.specs.declared.Place.{Place}
-use Rattle.inverse_segment.specs.declared.Inverted.the-variants as I
+use Rattle.inverse_segment.specs.declared.Inversion.the-variants as I
 use Rattle.lines_answer.specs.Answer.{foundOf}
 use Rattle.spline.specs.Evaluation.{splineOf}
-use Rattle.spline.specs.declared.Evaluated.{Evaluated}
-use Rattle.spline.specs.declared.Evaluated.the-variants as E
+use Rattle.spline.specs.declared.Evaluation.{Evaluation}
+use Rattle.spline.specs.declared.Evaluation.the-variants as E
 use Rattle.table.specs.declared.Table.{Table}
 use Rattle.table.specs.Second.{secondOf}
 use Rattle.text.specs.Text.{bytes, decText}
@@ -139,7 +139,7 @@ placeText k e y p =
     markText (placeColumn (p .parameter)) (rowOf e (heightOf y)) (localColumn k (p .segment) (p .lower))
     (localColumn k (p .segment) (p .upper))
 
-abbrev pub findIn : Basis → ℕ → Extent → ℕ → Float → Inverted → List ℕ
+abbrev pub findIn : Basis → ℕ → Extent → ℕ → Float → Inversion → List ℕ
 findIn b n e slot y (I.Refused r) = noteText b n slot (bytes "find") r
 findIn b n e slot y (I.OffCurve c) = noteText b n slot (bytes "find") OffCurve
 findIn b n e slot y (I.At p) = placeText (segmentsOf b n) e y p
@@ -166,7 +166,7 @@ curveText m b ks f =
     ++ findsText m b ks e f
 
 -- the curve, unless the table is refused
-abbrev pub bodyIn : EndsBy → Basis → List Float → Finds → Evaluated → List ℕ
+abbrev pub bodyIn : EndsBy → Basis → List Float → Finds → Evaluation → List ℕ
 bodyIn m b ks f (E.Value v) = curveText m b ks f
 bodyIn m b ks f (E.Refused r) = noteText b (length ks) 0 (bytes "table") r
 

@@ -3,7 +3,7 @@ ghost use mathlib.Core.Path.{_≡_};
 ghost use Prim.Native.Nat.{_≤_, _<_, _+_, _*_};
 ghost use lib.ListN.{length};
 ghost use Rattle.text.specs.Wrote.{Wrote};
-ghost use Rattle.lines_reply.specs.Told.{longest};
+ghost use Rattle.lines_reply.specs.Contract.{longest};
 ghost use Rattle.picture_scale.specs.Bounds.{Open};
 ghost use Rattle.picture.specs.Picture.{pointsText, knotText, knotsText, curveText, bodyIn, headText, pictureText};
 use crate::Fault;
@@ -11,7 +11,7 @@ use crate::Finds;
 use basis::Basis;
 use inverse::EndsBy;
 use picture_scale::Extent;
-use spline::Evaluated;
+use spline::Evaluation;
 use table::Table;
 
 // The points of the curve, at the parameters 0/p to p/p.
@@ -88,14 +88,14 @@ fn put_body(
     b: Basis,
     knots: &[f64],
     f: Finds,
-    v: Evaluated,
+    v: Evaluation,
 ) -> usize
     requires { ⌜ (length (now knots) ≤ 4096) × (at + 75000 ≤ length (now out)) ⌝ }
     ensures { λ r. ⌜ Wrote (now (out .entry)) at (bodyIn m b (now (knots .entry)) f v) (now (out .exit)) r × (r ≤ at + 75000) ⌝ }
 {
     match v {
-        Evaluated::Value(_) => put_curve(out, at, m, b, knots, f),
-        Evaluated::Refused(r) => crate::notes::put_note(
+        Evaluation::Value(_) => put_curve(out, at, m, b, knots, f),
+        Evaluation::Refused(r) => crate::notes::put_note(
             out,
             at,
             b,

@@ -7,15 +7,15 @@ ghost use lib.ListN.{length};
 ghost use Rattle.text.specs.Wrote.{Wrote};
 ghost use Rattle.lines_answer.specs.Answer.{places};
 ghost use Rattle.lines_machine.specs.Program.{widest};
-ghost use Rattle.lines_machine.specs.Held.{openOf};
-ghost use Rattle.lines_reply.specs.Told.{replyOf, longest};
+ghost use Rattle.lines_machine.specs.Contract.{openOf};
+ghost use Rattle.lines_reply.specs.Contract.{replyOf, longest};
 ghost use Rattle.picture.specs.Program.{nothingDrawn, cleared, asked, findsAfter, faultIn, faultAfter, pictureProgram};
-ghost use Rattle.picture.specs.Held.{drawingOf, countOf};
+ghost use Rattle.picture.specs.Contract.{drawingOf, countOf};
 use basis::Basis;
 use error::Refusal;
 use inverse::EndsBy;
 use lines_record::Record;
-use lines_reply::Told;
+use lines_reply::LineReply;
 use table::Table;
 
 pub mod axes;
@@ -44,14 +44,14 @@ pub enum Fault {
 }
 
 // What the line program holds, the targets and the fault.
-pub struct Held {
-    pub curve: lines_answer::Held,
+pub struct PictureState {
+    pub curve: lines_answer::Session,
     pub finds: Finds,
     pub fault: Fault,
 }
 
 // Before the first line.
-pub fn blank() -> Held
+pub fn blank() -> PictureState
     ensures { λ h. ⌜ ((t : List Float) → drawingOf h t ≡ nothingDrawn) × (countOf h ≡ 0) ⌝ }
 {
     let none = Finds {
@@ -65,8 +65,8 @@ pub fn blank() -> Held
         g: 0.0,
         h: 0.0,
     };
-    Held {
-        curve: lines_answer::Held::Nothing,
+    PictureState {
+        curve: lines_answer::Session::Nothing,
         finds: none,
         fault: Fault::Nothing,
     }
@@ -125,19 +125,19 @@ fn finds_after(f: Finds, r: Record) -> Finds
     }
 }
 
-fn fault_in(f: Fault, t: Told) -> Fault
+fn fault_in(f: Fault, t: LineReply) -> Fault
     ensures { λ s. ⌜ ((l : List Float) → s ≡ faultIn f (replyOf t l)) ⌝ }
 {
     match t {
-        Told::Nothing => f,
-        Told::Refused(r) => Fault::Is(r),
-        Told::Value(_) => f,
-        Told::Place(_, _, _, _) => f,
-        Told::Curve(_, _) => f,
+        LineReply::Nothing => f,
+        LineReply::Refused(r) => Fault::Is(r),
+        LineReply::Value(_) => f,
+        LineReply::Place(_, _, _, _) => f,
+        LineReply::Curve(_, _) => f,
     }
 }
 
-fn fault_after(f: Fault, r: Record, t: Told) -> Fault
+fn fault_after(f: Fault, r: Record, t: LineReply) -> Fault
     ensures { λ s. ⌜ ((l : List Float) → s ≡ faultAfter f r (replyOf t l)) ⌝ }
 {
     match r {
@@ -153,9 +153,15 @@ fn fault_after(f: Fault, r: Record, t: Told) -> Fault
 }
 
 // A line of len bytes, the first ones of the lent 64; 65 for one that is too long.
-pub fn line(h: Held, len: usize, line: &[u8], table: &mut [f64], turned: &mut [f64]) -> Held
+pub fn line(
+    h: PictureState,
+    len: usize,
+    line: &[u8],
+    table: &mut [f64],
+    converted: &mut [f64],
+) -> PictureState
     requires line { ⌜ length (now line) ≡ widest ⌝ }
-    requires table { ⌜ (countOf h ≤ places) × (length (now table) ≡ places) × (length (now turned) ≡ places) ⌝ }
+    requires table { ⌜ (countOf h ≤ places) × (length (now table) ≡ places) × (length (now converted) ≡ places) ⌝ }
     ensures state { λ r. ⌜ drawingOf r (now (table .exit)) ≡ pictureProgram .after (drawingOf h (now (table .entry)))
         (openOf len (now (line .entry))) ⌝ }
     ensures few { λ r. ⌜ countOf r ≤ places ⌝ }
@@ -164,10 +170,10 @@ pub fn line(h: Held, len: usize, line: &[u8], table: &mut [f64], turned: &mut [f
     let finds = h.finds;
     let fault = h.fault;
     let r = lines::said(len, line);
-    let a = lines_answer::answer(c, r, table, turned);
+    let a = lines_answer::answer(c, r, table, converted);
     let after = a.held;
     let told = a.told;
-    Held {
+    PictureState {
         curve: after,
         finds: finds_after(finds, r),
         fault: fault_after(fault, r, told),
@@ -175,7 +181,7 @@ pub fn line(h: Held, len: usize, line: &[u8], table: &mut [f64], turned: &mut [f
 }
 
 // The end of the listing: the picture.
-pub fn end(h: Held, table: &[f64], out: &mut [u8], at: usize) -> usize
+pub fn end(h: PictureState, table: &[f64], out: &mut [u8], at: usize) -> usize
     requires { ⌜ (countOf h ≤ places) × (length (now table) ≡ places) × (at + longest ≤ length (now out)) ⌝ }
     ensures { λ r. ⌜ Wrote (now (out .entry)) at (pictureProgram .ends (drawingOf h (now (table .entry)))) (now (out .exit)) r
         × (r ≤ at + longest) ⌝ }
@@ -184,14 +190,14 @@ pub fn end(h: Held, table: &[f64], out: &mut [u8], at: usize) -> usize
     let finds = h.finds;
     let fault = h.fault;
     match c {
-        lines_answer::Held::Nothing => {
+        lines_answer::Session::Nothing => {
             let bare = Table {
                 basis: Basis::Linear,
                 span: 0,
             };
             draw::put_picture(bare, EndsBy::Knots, &table[0..0], finds, fault, out, at)
         }
-        lines_answer::Held::Curve(t, m, n) => {
+        lines_answer::Session::Curve(t, m, n) => {
             draw::put_picture(t, m, &table[0..n], finds, fault, out, at)
         }
     }

@@ -13,7 +13,7 @@ use error::Refusal;
 use inverse::EndsBy;
 use inverse::Options;
 use inverse_methods::Method;
-use inverse_segment::Inverted;
+use inverse_segment::Inversion;
 use inverse_segment::Place;
 use picture_scale::Extent;
 
@@ -66,7 +66,7 @@ fn put_found(
     e: Extent,
     slot: u64,
     y: f64,
-    i: Inverted,
+    i: Inversion,
 ) -> usize
     requires { ⌜ (length (now knots) ≤ 4096) × Open e × (slot ≤ 9) × (at + 160 ≤ length (now out)) ⌝ }
     ensures { λ r. ⌜ Wrote (now (out .entry)) at (findIn b (length (now (knots .entry))) e slot y i) (now (out .exit)) r
@@ -74,8 +74,8 @@ fn put_found(
 {
     let n = knots.len();
     match i {
-        Inverted::Refused(r) => crate::notes::put_note(out, at, b, n as u64, slot, b"find", r),
-        Inverted::OffCurve(_) => crate::notes::put_note(
+        Inversion::Refused(r) => crate::notes::put_note(out, at, b, n as u64, slot, b"find", r),
+        Inversion::OffCurve(_) => crate::notes::put_note(
             out,
             at,
             b,
@@ -84,7 +84,7 @@ fn put_found(
             b"find",
             Refusal::OffCurve,
         ),
-        Inverted::At(p) => put_place(out, at, picture_scale::segments(b, n), e, y, p),
+        Inversion::At(p) => put_place(out, at, picture_scale::segments(b, n), e, y, p),
     }
 }
 

@@ -11,8 +11,8 @@ use Rattle.basis.specs.declared.Basis.the-variants.{Bspline, Bezier, CatmullRom
 use Rattle.basis.specs.Basis.{segmentsOf}
 use Rattle.doubles.specs.Whole.{double}
 use Rattle.spline.specs.Evaluation.{splineOf}
-use Rattle.spline.specs.declared.Evaluated.{Evaluated}
-use Rattle.spline.specs.declared.Evaluated.the-variants as E
+use Rattle.spline.specs.declared.Evaluation.{Evaluation}
+use Rattle.spline.specs.declared.Evaluation.the-variants as E
 use Rattle.text_rounded.specs.Rounded.{minusIn, sizeIn, largest, unitsOf}
 use Rattle.picture_scale.specs.declared.Extent.{Extent}
 
@@ -29,7 +29,7 @@ thousandths n = min 1099511627776000 (unitsOf 3 (min (sizeIn n) largest))
 unfoldable pub heightOf : Float → ℕ
 heightOf x = let n = toBits binary64 x in cond (minusIn n) (level - thousandths n) (level + thousandths n)
 
-abbrev pub heightIn : Evaluated → ℕ
+abbrev pub heightIn : Evaluation → ℕ
 heightIn (E.Value v) = heightOf v
 heightIn (E.Refused r) = level
 

@@ -24,7 +24,7 @@ ghost use Rattle.picture_scale.specs.Scale.{
 };
 ghost use Rattle.picture_scale.specs.Bounds.{lowest, highest, Between, Narrow, Open};
 use basis::Basis;
-use spline::Evaluated;
+use spline::Evaluation;
 
 // The least and the greatest height of what is drawn.
 pub struct Extent {
@@ -72,8 +72,8 @@ pub fn curve_height(b: Basis, knots: &[f64], p: usize, i: usize) -> u64
     let x = doubles::whole::double_of(i) / doubles::whole::double_of(p);
     let e = spline::spline(b, x, knots);
     match e {
-        Evaluated::Value(v) => height(v),
-        Evaluated::Refused(_) => 2000000000000000,
+        Evaluation::Value(v) => height(v),
+        Evaluation::Refused(_) => 2000000000000000,
     }
 }
 

@@ -16,8 +16,8 @@ use Rattle.error.specs.Refusals.{rows, first}
 use Rattle.error.proofs.First.{never, First, first-sound, first-complete}
 use Rattle.basis.specs.declared.Basis.{Basis}
 use Rattle.inverse_segment.specs.declared.Place.{Place}
-use Rattle.inverse_segment.specs.declared.Inverted.{Inverted}
-use Rattle.inverse_segment.specs.declared.Inverted.the-variants as I
+use Rattle.inverse_segment.specs.declared.Inversion.{Inversion}
+use Rattle.inverse_segment.specs.declared.Inversion.the-variants as I
 use Rattle.inverse_segment.specs.Answer.{inverseSegmentBy, defaultLimit, defaultPrecision}
 use Rattle.inverse_methods.proofs.spline_inverse_segment_with.Reads as spline_inverse_segment_with
 use Rattle.inverse_methods.proofs.spline_inverse_segment.Reads as spline_inverse_segment
@@ -32,8 +32,8 @@ use Rattle.inverse.proofs.Facts.{AtPlace}
 use Rattle.inverse.proofs.spline_inverse_by.Reads as spline_inverse_by
 use Rattle.inverse.proofs.spline_inverse_with.Reads as spline_inverse_with
 use Rattle.inverse.proofs.spline_inverse.Reads as spline_inverse
-use Rattle.claim.specs.declared.Claimed.{Claimed}
-use Rattle.claim.specs.declared.Claimed.the-variants.{Refused, Holds, Differs}
+use Rattle.claim.specs.declared.ClaimAnswer.{ClaimAnswer}
+use Rattle.claim.specs.declared.ClaimAnswer.the-variants.{Refused, Holds, Differs}
 use Rattle.claim.specs.Claim.{claimUses, claimed, claimOf}
 use Rattle.claim.proofs.Own.{Accepted, holds-only, holds-where, differs-only, differs-where, Settled, own-accepted, own-segment-accepted}
 use Rattle.claim.proofs.check_claim.Reads as check_claim
@@ -42,10 +42,10 @@ use Rattle.text.specs.Text.{bytes}
 use Rattle.lines_reply.specs.Reply.{refusedText}
 use Rattle.lines_answer.specs.Answer.{on}
 use Rattle.lines_machine.specs.Program.{Line}
-use Rattle.claims.specs.declared.Said.the-variants.{Claim}
+use Rattle.claims.specs.declared.ClaimRecord.the-variants.{Claim}
 use Rattle.claims.specs.Claims.{says, claimText, checkText, tellsOf, claimsProgram}
-use Rattle.exports_reply.specs.declared.Chosen.{Chosen}
-use Rattle.exports_reply.specs.declared.Chosen.the-variants.{Known, Unknown}
+use Rattle.exports_reply.specs.declared.BasisChoice.{BasisChoice}
+use Rattle.exports_reply.specs.declared.BasisChoice.the-variants.{Known, Unknown}
 use Rattle.exports_reply.specs.Replies.{chosenOf, noBasis, chosen}
 use Rattle.exports_value.specs.Claims.{claimedReply, holdsLeft}
 use Rattle.simmerstoat.proofs.claims.simmerstoat_check_claim.Reads as c_check_claim
@@ -77,7 +77,7 @@ module _ (b : Basis) (y : Float) (s : ℕ) (x ε : Float) (ks : List Float) wher
   unfolding claimOf
   refused-where r f = rw (first-complete rows (claimUses b y s x ε ks) r f)
 
-  pub record Checked (z : Claimed) : Type 0 where
+  pub record Checked (z : ClaimAnswer) : Type 0 where
     -- it is refused exactly where a row applies, by the first
     pub refused : (r : Refusal) → Exactly (z ≡ Refused r) (First (claimUses b y s x ε ks) rows r)
     -- it holds exactly where no row applies, the local place is in 0 to 1, and the value there differs from the target by less than twice the precision
@@ -85,7 +85,7 @@ module _ (b : Basis) (y : Float) (s : ℕ) (x ε : Float) (ks : List Float) wher
     -- it differs exactly where no row applies and it does not hold
     pub differs : Exactly (z ≡ Differs) ((first (claimUses b y s x ε ks) ≡ Passed) × (Accepted b y s x ε ks → ⊥))
 
-  checked : (z : Claimed) → z ≡ claimOf b y s x ε ks → Checked z
+  checked : (z : ClaimAnswer) → z ≡ claimOf b y s x ε ks → Checked z
   checked z e =
       record {
         refused = λ r. (λ h. refused-only r (sym e ∙ h), λ f. e ∙ refused-where r f);
@@ -107,10 +107,10 @@ accepting : (b : Basis) (y : Float) (s : ℕ) (x ε : Float) (ks : List Float) �
 accepting b y s x ε ks h κs a z e p q0 q1 q2 q3 q4 q5 = p ∙ rw (q0, q1, q2, q3, q4, q5) h
 
 -- a place by `value` or `edge`, claimed with its own segment, local place and precision
-abbrev pub OwnHolds : Basis → Float → Float → List Float → Inverted → Type 0
+abbrev pub OwnHolds : Basis → Float → Float → List Float → Inversion → Type 0
 OwnHolds b y ε ks r = AtPlace (λ (p : Place). Settled (p .ground) → Accepts b y (p .segment) (p .local) ε ks) r
 
-own-holds : (b : Basis) (y ε : Float) (ks : List Float) (r : Inverted)
+own-holds : (b : Basis) (y ε : Float) (ks : List Float) (r : Inversion)
     → ((p : Place) → r ≡ I.At p → Settled (p .ground) → claimOf b y (p .segment) (p .local) ε ks ≡ Holds)
     → OwnHolds b y ε ks r
 own-holds b y ε ks (I.At p) h = λ t. accepting b y (p .segment) (p .local) ε ks (h p refl t)
@@ -118,12 +118,13 @@ own-holds b y ε ks (I.OffCurve n) h = tt
 own-holds b y ε ks (I.Refused r) h = tt
 
 -- the precision is a double, as every caller's is
-curve-own : (m : EndsBy) (how : Method) (b : Basis) (y : Float) (ks : List Float) (check : Bool) (limit : ℕ) (ε : Float) (r : Inverted)
+curve-own : (m : EndsBy) (how : Method) (b : Basis) (y : Float) (ks : List Float) (check : Bool) (limit : ℕ) (ε : Float) (r : Inversion)
     → r ≡ inverseBy m how b y ks check limit ε
     → T (fits binary64 ε) → OwnHolds b y ε ks r
 curve-own m how b y ks check limit ε r e f = own-holds b y ε ks r (λ p h t. own-accepted m how b y ks check limit ε f p (sym e ∙ h) t)
 
-segment-own : (how : Method) (b : Basis) (y : Float) (cv : List Float) (limit : ℕ) (ε : Float) (r : Inverted) → r ≡ inverseSegmentBy (ruleOf how) b y cv limit ε
+segment-own : (how : Method) (b : Basis) (y : Float) (cv : List Float) (limit : ℕ) (ε : Float) (r : Inversion)
+    → r ≡ inverseSegmentBy (ruleOf how) b y cv limit ε
     → T (fits binary64 ε) → OwnHolds b y ε cv r
 segment-own how b y cv limit ε r e f = own-holds b y ε cv r (λ p h t. own-segment-accepted how b y cv limit ε f p (sym e ∙ h) t)
 
@@ -158,7 +159,7 @@ spline-inverse-segment-own κs a z e p = segment-own AsCrate (a .0) (a .1 .0) (n
 
 -- ---- what the checker prints for a claim
 -- told apart by the first byte
-holds-text : (c : Claimed) → claimText c ≡ bytes "holds\n" → c ≡ Holds
+holds-text : (c : ClaimAnswer) → claimText c ≡ bytes "holds\n" → c ≡ Holds
 holds-text (Refused r) e = let h : getD (refusedText r) 0 0 ≡ 104 = ap (λ (l : List ℕ). getD l 0 0) e in absurd (omega (arith, h))
 holds-text Holds e = refl
 holds-text Differs e = let h : getD (bytes "differs\n") 0 0 ≡ 104 = ap (λ (l : List ℕ). getD l 0 0) e in absurd (omega (arith, h))
@@ -181,12 +182,12 @@ c-check-claim-asks-nothing κs a = tt
 pub c-check-claim-one-reply : OneReply c_check_claim.Learnt (λ κs z e z′ e′. (z ≡ z′) × (now (e .1 .1 .1 .1 .1 .1 .0) ≡ now (e′ .1 .1 .1 .1 .1 .1 .0)))
 c-check-claim-one-reply κs a z z′ e e′ p q = (p .0 ∙ sym (q .0), p .1 ∙ sym (q .1))
 
-holds-kept : (c : Chosen) (f : Basis → Claimed) (old : Bool) → NotZero (chosen c noBasis (λ b. claimedReply (f b)))
+holds-kept : (c : BasisChoice) (f : Basis → ClaimAnswer) (old : Bool) → NotZero (chosen c noBasis (λ b. claimedReply (f b)))
     → chosen c old (λ b. holdsLeft (f b) old) ≡ old
 holds-kept Unknown f old h = refl
 holds-kept (Known b) f old h = go (f b) h
   where
-    go : (v : Claimed) → NotZero (claimedReply v) → holdsLeft v old ≡ old
+    go : (v : ClaimAnswer) → NotZero (claimedReply v) → holdsLeft v old ≡ old
     go Holds h = absurd (h refl)
     go Differs h = absurd (h refl)
     go (Refused r) h = refl

@@ -8,7 +8,7 @@ use Prim.Native.Nat.{ℕ}
 use denote.Ref.{now}
 use lib.Ieee.{Float}
 use Rattle.basis.specs.declared.Basis.{Basis}
-use Rattle.inverse_segment.specs.declared.Inverted.{Inverted}
+use Rattle.inverse_segment.specs.declared.Inversion.{Inversion}
 use Rattle.inverse_segment.specs.Answer.{numberTold, defaultLimit, defaultPrecision}
 use Rattle.inverse_methods.specs.declared.Method.{Method}
 use Rattle.inverse_methods.specs.declared.Method.the-variants.{AsCrate}
@@ -25,12 +25,12 @@ use Rattle.promises.proofs.Inverting.{spline-inverse-by-promised, splin
 use Rattle.promises.proofs.Numbers.{InverseNumber, spline-inverse-by-number, spline-inverse-with-number, spline-inverse-number}
 
 module _ (m : EndsBy) (how : Method) (b : Basis) (y : Float) (ks : List Float) (check : Bool) (limit : ℕ) (ε : Float) where
-  pub record Eleven (z : Inverted) : Type 0 where
+  pub record Eleven (z : Inversion) : Type 0 where
     pub only : numberTold z ≡ 11
         → Pass m how b y ks check limit ε × Quiet m how b y ks check limit ε × (Premise m how b y ks check limit ε → Nowhere m how b y ks check limit ε)
     pub where-off : Pass m how b y ks check limit ε → Quiet m how b y ks check limit ε → Nowhere m how b y ks check limit ε → numberTold z ≡ 11
 
-  pub by-eleven : (z : Inverted) → InverseNumber (inverseUses b y ks check limit ε) z → Promised m how b y ks check limit ε z → Eleven z
+  pub by-eleven : (z : Inversion) → InverseNumber (inverseUses b y ks check limit ε) z → Promised m how b y ks check limit ε z → Eleven z
   by-eleven z n p =
       record {
         only = λ h. subst (IfOff _) (n .eleven h .1) (p .off-only);

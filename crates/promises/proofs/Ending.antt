@@ -9,7 +9,7 @@ use denote.Ref.{now}
 use lib.Dec.{T}
 use lib.Ieee.{Float, le}
 use Rattle.basis.specs.declared.Basis.{Basis}
-use Rattle.inverse_segment.specs.declared.Inverted.{Inverted}
+use Rattle.inverse_segment.specs.declared.Inversion.{Inversion}
 use Rattle.inverse_segment.specs.Answer.{inverseSegmentBy, defaultPrecision}
 use Rattle.inverse_methods.specs.declared.Method.{Method}
 use Rattle.inverse_methods.specs.declared.Method.the-variants.{Steady}
@@ -26,7 +26,7 @@ use Rattle.inverse.proofs.spline_inverse_by.Reads as spline_inverse_by
 use Rattle.promises.specs.Calls.{Keeps}
 
 -- ---- a curve
-in-time : (m : EndsBy) (how : Method) (b : Basis) (y : Float) (ks : List Float) (check : Bool) (limit : ℕ) (ε : Float) (N : ℕ) (r : Inverted)
+in-time : (m : EndsBy) (how : Method) (b : Basis) (y : Float) (ks : List Float) (check : Bool) (limit : ℕ) (ε : Float) (N : ℕ) (r : Inversion)
     → r ≡ inverseBy m how b y ks check limit ε → how ≡ Steady → Enough ε N → Within m b ks limit N r
 in-time m how b y ks check limit ε N r p s E =
     subst (Within m b ks limit N) (sym (p ∙ ap (λ (h : Method). inverseBy m h b y ks check limit ε) s)) (timely m b ks limit y check ε N E)
@@ -54,7 +54,7 @@ spline-inverse-by-any-timely κs a z e p s o =
     (any-enough (a .0 .precision) o)
 
 -- ---- one segment
-segment-in-time : (how : Method) (b : Basis) (y : Float) (cv : List Float) (limit : ℕ) (ε : Float) (N : ℕ) (r : Inverted)
+segment-in-time : (how : Method) (b : Basis) (y : Float) (cv : List Float) (limit : ℕ) (ε : Float) (N : ℕ) (r : Inversion)
     → r ≡ inverseSegmentBy (ruleOf how) b y cv limit ε → how ≡ Steady → Enough ε N → SegmentWithin limit N r
 segment-in-time how b y cv limit ε N r p s E =
     subst (SegmentWithin limit N) (sym (p ∙ ap (λ (h : Method). inverseSegmentBy (ruleOf h) b y cv limit ε) s)) (segment-timely limit b y cv ε N E)

@@ -14,15 +14,15 @@ use Rattle.basis.specs.declared.Basis.the-variants.{Bspline}
 use Rattle.basis.specs.Basis.{stepOf, segmentsOf}
 use Rattle.doubles.specs.Numbers.{nought}
 use Rattle.doubles.specs.Number.{Number}
-use Rattle.spline.specs.declared.Evaluated.{Evaluated}
-use Rattle.spline.specs.declared.Evaluated.the-variants.{Value}
+use Rattle.spline.specs.declared.Evaluation.{Evaluation}
+use Rattle.spline.specs.declared.Evaluation.the-variants.{Value}
 use Rattle.checks.specs.Checks.{curveLength}
 use Rattle.spline.specs.Curve.{segmentAt, localAt}
 use Rattle.spline.specs.Evaluation.{splineSegmentOf}
 use Rattle.spline.proofs.spline.Reads as spline
 use Rattle.spline.proofs.spline_segment.Reads as spline_segment
 use Rattle.spline_exact.specs.Exact.{isExact, exactOf, WholeKnots, Answers}
-use Rattle.spline_exact.proofs.Calls.{segment-answers, curve-answers}
+use Rattle.spline_exact.proofs.Call.{segment-answers, curve-answers}
 use Rattle.spline_exact.proofs.Bspline.{ones, belowOne, bspline-answers}
 use Rattle.promises.specs.Calls.{Keeps}
 
@@ -32,7 +32,7 @@ pub spline-segment-exact : Keeps spline_segment.Learnt
     → Number (a .1 .0) (pos j) 8 → j ≤ 256
     → Answers z (exactOf (a .0) whole j))
 spline-segment-exact κs a z e p w whole j l k u h =
-    subst (λ (r : Evaluated). Answers r (exactOf (a .0) whole j)) (sym p) (segment-answers (a .0) w (a .1 .0) (now (a .1 .1 .0)) whole j l k u h)
+    subst (λ (r : Evaluation). Answers r (exactOf (a .0) whole j)) (sym p) (segment-answers (a .0) w (a .1 .0) (now (a .1 .1 .0)) whole j l k u h)
 
 -- a curve of whole knots and good length, at a parameter whose local place is j/256: the same of the segment where it lies
 pub spline-exact : Keeps spline.Learnt
@@ -41,7 +41,7 @@ pub spline-exact : Keeps spline.Learnt
     → Number (localAt (segmentsOf (a .0) (length (now (a .1 .1 .0)))) (a .1 .0)) (pos j) 8 → j ≤ 256
     → Answers z (exactOf (a .0) (drop (segmentAt (segmentsOf (a .0) (length (now (a .1 .1 .0)))) (a .1 .0) * stepOf (a .0)) whole) j))
 spline-exact κs a z e p w whole j l k u h =
-    subst (λ (r : Evaluated). Answers r
+    subst (λ (r : Evaluation). Answers r
     (exactOf (a .0) (drop (segmentAt (segmentsOf (a .0) (length (now (a .1 .1 .0)))) (a .1 .0) * stepOf (a .0)) whole) j)) (sym p)
     (curve-answers (a .0) w (a .1 .0) (now (a .1 .1 .0)) whole j l k u h)
 

@@ -6,17 +6,17 @@ use denote.Ref.{now}
 use lib.ListN.{length}
 use lib.Ieee.{Float}
 use Rattle.basis.specs.declared.Basis.{Basis}
-use Rattle.spline.specs.declared.Evaluated.{Evaluated}
-use Rattle.spline.specs.declared.Evaluated.the-variants as E
+use Rattle.spline.specs.declared.Evaluation.{Evaluation}
+use Rattle.spline.specs.declared.Evaluation.the-variants as E
 use Rattle.spline.specs.Evaluation.{splineOf, splineSegmentOf}
-use Rattle.inverse_segment.specs.declared.Inverted.{Inverted}
-use Rattle.inverse_segment.specs.declared.Inverted.the-variants as I
+use Rattle.inverse_segment.specs.declared.Inversion.{Inversion}
+use Rattle.inverse_segment.specs.declared.Inversion.the-variants as I
 use Rattle.inverse_segment.specs.Answer.{inverseSegmentOf, defaultLimit, defaultPrecision}
 use Rattle.inverse.specs.Inverse.{inverseOf}
 use Rattle.convert.specs.Conversion.{Conversion, gives, refuses, convertedOf, convertedSegmentOf}
 use Rattle.convert.specs.Buffer.{answerOf, bufferOf}
-use Rattle.exports_reply.specs.declared.Chosen.{Chosen}
-use Rattle.exports_reply.specs.declared.Chosen.the-variants.{Known, Unknown}
+use Rattle.exports_reply.specs.declared.BasisChoice.{BasisChoice}
+use Rattle.exports_reply.specs.declared.BasisChoice.the-variants.{Known, Unknown}
 use Rattle.exports_reply.specs.Replies.{chosenOf, noBasis, chosen, evaluatedReply, valueLeft, invertedReply, placeLeft, wholeLeft, convertedReply, lengthLeft}
 use Rattle.simmerstoat.proofs.simmerstoat_is_len_ok.Reads as is_len_ok
 use Rattle.simmerstoat.proofs.simmerstoat_spline.Reads as spline
@@ -61,12 +61,12 @@ convert-spline-asks-nothing κs a = tt
 abbrev pub NotZero : ℕ → Type 0
 NotZero n = n ≡ 0 → ⊥
 
-value-kept : (c : Chosen) (f : Basis → Evaluated) (old : Float) → NotZero (chosen c noBasis (λ b. evaluatedReply (f b)))
+value-kept : (c : BasisChoice) (f : Basis → Evaluation) (old : Float) → NotZero (chosen c noBasis (λ b. evaluatedReply (f b)))
     → chosen c old (λ b. valueLeft (f b) old) ≡ old
 value-kept Unknown f old h = refl
 value-kept (Known b) f old h = go (f b) h
   where
-    go : (v : Evaluated) → NotZero (evaluatedReply v) → valueLeft v old ≡ old
+    go : (v : Evaluation) → NotZero (evaluatedReply v) → valueLeft v old ≡ old
     go (E.Value x) h = absurd (h refl)
     go (E.Refused r) h = refl
 
@@ -79,22 +79,22 @@ spline-segment-writes-nothing κs a z e p h =
     p .1 ∙ value-kept (chosenOf (a .0)) (λ b. splineSegmentOf b (a .1 .0) (now (a .1 .1 .0))) (now (a .1 .1 .1 .0)) (λ w. h (p .0 ∙ w))
 
 -- of an inversion: the four doubles, and but for 11 the three whole numbers
-pub place-kept : (c : Chosen) (f : Basis → Inverted) (old : List Float) → NotZero (chosen c noBasis (λ b. invertedReply (f b)))
+pub place-kept : (c : BasisChoice) (f : Basis → Inversion) (old : List Float) → NotZero (chosen c noBasis (λ b. invertedReply (f b)))
     → chosen c old (λ b. placeLeft (f b) old) ≡ old
 place-kept Unknown f old h = refl
 place-kept (Known b) f old h = go (f b) h
   where
-    go : (i : Inverted) → NotZero (invertedReply i) → placeLeft i old ≡ old
+    go : (i : Inversion) → NotZero (invertedReply i) → placeLeft i old ≡ old
     go (I.At p) h = absurd (h refl)
     go (I.OffCurve n) h = refl
     go (I.Refused r) h = refl
 
-pub whole-kept : (c : Chosen) (f : Basis → Inverted) (old : List ℕ) → NotZero (chosen c noBasis (λ b. invertedReply (f b)))
+pub whole-kept : (c : BasisChoice) (f : Basis → Inversion) (old : List ℕ) → NotZero (chosen c noBasis (λ b. invertedReply (f b)))
     → (chosen c noBasis (λ b. invertedReply (f b)) ≡ 11 → ⊥) → chosen c old (λ b. wholeLeft (f b) old) ≡ old
 whole-kept Unknown f old h g = refl
 whole-kept (Known b) f old h g = go (f b) h g
   where
-    go : (i : Inverted) → NotZero (invertedReply i) → (invertedReply i ≡ 11 → ⊥) → wholeLeft i old ≡ old
+    go : (i : Inversion) → NotZero (invertedReply i) → (invertedReply i ≡ 11 → ⊥) → wholeLeft i old ≡ old
     go (I.At p) h g = absurd (h refl)
     go (I.OffCurve n) h g = absurd (g refl)
     go (I.Refused r) h g = refl
@@ -102,7 +102,7 @@ whole-kept (Known b) f old h g = go (f b) h g
 pub spline-inverse-writes-nothing : Keeps spline_inverse.Learnt
     (λ κs a z e. NotZero z → (now (e .1 .1 .1 .1 .0) ≡ now (a .1 .1 .1 .1 .0)) × ((z ≡ 11 → ⊥) → now (e .1 .1 .1 .1 .1 .0) ≡ now (a .1 .1 .1 .1 .1 .0)))
 spline-inverse-writes-nothing κs a z e p h =
-    let f : Basis → Inverted = λ b. inverseOf b (a .1 .0) (now (a .1 .1 .0)) (a .1 .1 .1 .0) defaultLimit defaultPrecision in
+    let f : Basis → Inversion = λ b. inverseOf b (a .1 .0) (now (a .1 .1 .0)) (a .1 .1 .1 .0) defaultLimit defaultPrecision in
     let c = chosenOf (a .0) in (
       p .1 .0 ∙ place-kept c f (now (a .1 .1 .1 .1 .0)) (λ w. h (p .0 ∙ w)),
       λ g. p .1 .1
@@ -114,7 +114,7 @@ pub spline-inverse-with-writes-nothing : Keeps spline_inverse_with.Learnt
     → (now (e .1 .1 .1 .1 .1 .1 .0) ≡ now (a .1 .1 .1 .1 .1 .1 .0))
     × ((z ≡ 11 → ⊥) → now (e .1 .1 .1 .1 .1 .1 .1 .0) ≡ now (a .1 .1 .1 .1 .1 .1 .1 .0)))
 spline-inverse-with-writes-nothing κs a z e p h =
-    let f : Basis → Inverted = λ b. inverseOf b (a .1 .0) (now (a .1 .1 .0)) (a .1 .1 .1 .0) (a .1 .1 .1 .1 .0) (a .1 .1 .1 .1 .1 .0) in
+    let f : Basis → Inversion = λ b. inverseOf b (a .1 .0) (now (a .1 .1 .0)) (a .1 .1 .1 .0) (a .1 .1 .1 .1 .0) (a .1 .1 .1 .1 .1 .0) in
     let c = chosenOf (a .0) in (
       p .1 .0 ∙ place-kept c f (now (a .1 .1 .1 .1 .1 .1 .0)) (λ w. h (p .0 ∙ w)),
       λ g. p .1 .1
@@ -124,7 +124,7 @@ spline-inverse-with-writes-nothing κs a z e p h =
 pub spline-inverse-segment-writes-nothing : Keeps spline_inverse_segment.Learnt
     (λ κs a z e. NotZero z → (now (e .1 .1 .1 .0) ≡ now (a .1 .1 .1 .0)) × ((z ≡ 11 → ⊥) → now (e .1 .1 .1 .1 .0) ≡ now (a .1 .1 .1 .1 .0)))
 spline-inverse-segment-writes-nothing κs a z e p h =
-    let f : Basis → Inverted = λ b. inverseSegmentOf b (a .1 .0) (now (a .1 .1 .0)) defaultLimit defaultPrecision in
+    let f : Basis → Inversion = λ b. inverseSegmentOf b (a .1 .0) (now (a .1 .1 .0)) defaultLimit defaultPrecision in
     let c = chosenOf (a .0) in (
       p .1 .0 ∙ place-kept c f (now (a .1 .1 .1 .0)) (λ w. h (p .0 ∙ w)),
       λ g. p .1 .1
@@ -135,7 +135,7 @@ pub spline-inverse-segment-with-writes-nothing : Keeps spline_inverse_segment_wi
     (λ κs a z e. NotZero z
     → (now (e .1 .1 .1 .1 .1 .0) ≡ now (a .1 .1 .1 .1 .1 .0)) × ((z ≡ 11 → ⊥) → now (e .1 .1 .1 .1 .1 .1 .0) ≡ now (a .1 .1 .1 .1 .1 .1 .0)))
 spline-inverse-segment-with-writes-nothing κs a z e p h =
-    let f : Basis → Inverted = λ b. inverseSegmentOf b (a .1 .0) (now (a .1 .1 .0)) (a .1 .1 .1 .0) (a .1 .1 .1 .1 .0) in
+    let f : Basis → Inversion = λ b. inverseSegmentOf b (a .1 .0) (now (a .1 .1 .0)) (a .1 .1 .1 .0) (a .1 .1 .1 .1 .0) in
     let c = chosenOf (a .0) in (
       p .1 .0 ∙ place-kept c f (now (a .1 .1 .1 .1 .1 .0)) (λ w. h (p .0 ∙ w)),
       λ g. p .1 .1
@@ -143,7 +143,7 @@ spline-inverse-segment-with-writes-nothing κs a z e p h =
     )
 
 -- of a conversion: the buffer, and the length
-pub out-kept : (f t : Chosen) (g : Basis → Basis → Conversion) (out : List Float)
+pub out-kept : (f t : BasisChoice) (g : Basis → Basis → Conversion) (out : List Float)
     → NotZero (chosen f noBasis (λ b. chosen t noBasis (λ c. convertedReply (answerOf (g b c)))))
     → chosen f out (λ b. chosen t out (λ c. bufferOf (g b c) out)) ≡ out
 out-kept Unknown t g out h = refl
@@ -154,7 +154,7 @@ out-kept (Known b) (Known c) g out h = go (g b c) h
     go (gives l) h = absurd (h refl)
     go (refuses r) h = refl
 
-pub length-kept : (f t : Chosen) (g : Basis → Basis → Conversion) (old : ℕ)
+pub length-kept : (f t : BasisChoice) (g : Basis → Basis → Conversion) (old : ℕ)
     → NotZero (chosen f noBasis (λ b. chosen t noBasis (λ c. convertedReply (answerOf (g b c)))))
     → chosen f old (λ b. chosen t old (λ c. lengthLeft (answerOf (g b c)) old)) ≡ old
 length-kept Unknown t g old h = refl

@@ -7,7 +7,7 @@ use Prim.Native.Nat.{ℕ}
 use denote.Ref.{now}
 use lib.Ieee.{Float}
 use Rattle.basis.specs.declared.Basis.{Basis}
-use Rattle.inverse_segment.specs.declared.Inverted.{Inverted}
+use Rattle.inverse_segment.specs.declared.Inversion.{Inversion}
 use Rattle.inverse_segment.specs.Answer.{defaultLimit, defaultPrecision}
 use Rattle.inverse_methods.specs.declared.Method.{Method}
 use Rattle.inverse_methods.specs.declared.Method.the-variants.{AsCrate}
@@ -20,10 +20,10 @@ use Rattle.inverse.proofs.spline_inverse_with.Reads as spline_inverse_with
 use Rattle.inverse.proofs.spline_inverse.Reads as spline_inverse
 use Rattle.promises.specs.Calls.{Keeps}
 
-pub reply-fewer : (m : EndsBy) (how : Method) (b : Basis) (y : Float) (ks : List Float) (check : Bool) (limit : ℕ) (ε : Float) (r : Inverted)
+pub reply-fewer : (m : EndsBy) (how : Method) (b : Basis) (y : Float) (ks : List Float) (check : Bool) (limit : ℕ) (ε : Float) (r : Inversion)
     → r ≡ inverseBy m how b y ks check limit ε → Fewer 2 r (twice m how b y ks check limit ε)
 reply-fewer m how b y ks check limit ε r e =
-    subst (λ (z : Inverted). Fewer 2 z (twice m how b y ks check limit ε)) (sym e) (inverse-fewer m how b y ks check limit ε)
+    subst (λ (z : Inversion). Fewer 2 z (twice m how b y ks check limit ε)) (sym e) (inverse-fewer m how b y ks check limit ε)
 
 -- by either rule of the ends and any method
 pub spline-inverse-by-fewer : Keeps spline_inverse_by.Learnt

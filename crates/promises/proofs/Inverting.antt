@@ -10,7 +10,7 @@ use Rattle.error.specs.declared.Verdict.the-variants.{Passed}
 use Rattle.error.specs.Refusals.{first}
 use Rattle.basis.specs.declared.Basis.{Basis}
 use Rattle.spline.specs.Segment.{segmentOf}
-use Rattle.inverse_segment.specs.declared.Inverted.{Inverted}
+use Rattle.inverse_segment.specs.declared.Inversion.{Inversion}
 use Rattle.inverse_segment.specs.Agreed.{Agreed}
 use Rattle.inverse_segment.specs.Segment.{enter, outcomeOf}
 use Rattle.inverse_segment.specs.Answer.{
@@ -58,14 +58,14 @@ spline-inverse-promised κs a z e p = reply-promised Knots AsCrate (a .0) (a .1 
 -- ---- one segment
 module _ (how : Method) (b : Basis) (y : Float) (cv : List Float) (limit : ℕ) (ε : Float) where
   -- the count is the length of the list of evaluations, which misses none, and at most limit + 2; and where no row applies, what the answer owes
-  pub record SegmentPromised (r : Inverted) : Type 0 where
+  pub record SegmentPromised (r : Inversion) : Type 0 where
     pub count : countTold r ≡ length (segmentEvaluationsBy (ruleOf how) b y cv limit ε)
     pub unlisted : (h : ℕ → Float → Float) → Agreed (segmentOf b cv) h (segmentEvaluationsBy (ruleOf how) b y cv limit ε)
         → r ≡ inverted (first (inverseSegmentUses y cv limit ε)) (answered alone (outcomeOf (enter (ruleOf how) (h 0) 0 y ε limit [])))
     pub few : countTold r ≤ limit + 2
     pub owed : first (inverseSegmentUses y cv limit ε) ≡ Passed → Owed (segmentOf b cv 0) y ε limit r
 
-  pub segment-promised : (r : Inverted) → r ≡ inverseSegmentBy (ruleOf how) b y cv limit ε → SegmentPromised r
+  pub segment-promised : (r : Inversion) → r ≡ inverseSegmentBy (ruleOf how) b y cv limit ε → SegmentPromised r
   segment-promised r e =
       subst SegmentPromised (sym e)
       (record {

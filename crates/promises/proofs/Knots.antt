@@ -12,17 +12,17 @@ use lib.Ieee.{Float, nan}
 use Rattle.error.specs.declared.Refusal.the-variants.{BadKnot, TurnsBack}
 use Rattle.error.specs.Refusals.{Uses, rows, applies, refusalBy}
 use Rattle.error.proofs.First.{First, first-applies}
-use Rattle.spline.specs.declared.Evaluated.the-variants as E
+use Rattle.spline.specs.declared.Evaluation.the-variants as E
 use Rattle.checks.specs.Checks.{inRange, allInRange, firstBad}
 use Rattle.spline.specs.Evaluation.{splineUses, splineSegmentUses}
-use Rattle.inverse_segment.specs.declared.Inverted.the-variants as I
+use Rattle.inverse_segment.specs.declared.Inversion.the-variants as I
 use Rattle.inverse_segment.specs.Answer.{inverseSegmentUses, defaultLimit, defaultPrecision}
 use Rattle.inverse_methods.specs.declared.Method.the-variants.{AsCrate}
 use Rattle.inverse.specs.declared.EndsBy.the-variants.{Knots}
 use Rattle.inverse.specs.Inverse.{inverseUses}
 use Rattle.inverse.proofs.TurnsBack.{AgainstAt}
 use Rattle.inverse.proofs.Refusing.{inverse-turns-back}
-use Rattle.convert.specs.declared.Converted.the-variants as C
+use Rattle.convert.specs.declared.ConversionAnswer.the-variants as C
 use Rattle.convert.specs.Conversion.{convertSegmentUses, convertUses}
 use Rattle.spline.proofs.spline.Reads as spline
 use Rattle.spline.proofs.spline_segment.Reads as spline_segment

@@ -14,13 +14,13 @@ use Rattle.error.specs.declared.Verdict.{Verdict}
 use Rattle.error.specs.declared.Verdict.the-variants.{Passed, Failed}
 use Rattle.error.specs.Refusals.{numberOf, Uses, applies, rows, first}
 use Rattle.error.proofs.First.{never, First, first-sound, first-complete, first-applies}
-use Rattle.spline.specs.declared.Evaluated.{Evaluated}
-use Rattle.spline.specs.declared.Evaluated.the-variants as E
+use Rattle.spline.specs.declared.Evaluation.{Evaluation}
+use Rattle.spline.specs.declared.Evaluation.the-variants as E
 use Rattle.spline.specs.Evaluation.{evaluatedNumber, splineUses, splineSegmentUses}
 use Rattle.spline.proofs.spline.Reads as spline
 use Rattle.spline.proofs.spline_segment.Reads as spline_segment
-use Rattle.inverse_segment.specs.declared.Inverted.{Inverted}
-use Rattle.inverse_segment.specs.declared.Inverted.the-variants as I
+use Rattle.inverse_segment.specs.declared.Inversion.{Inversion}
+use Rattle.inverse_segment.specs.declared.Inversion.the-variants as I
 use Rattle.inverse_segment.specs.Answer.{numberTold, inverseSegmentUses, defaultLimit, defaultPrecision}
 use Rattle.inverse_methods.proofs.spline_inverse_segment_with.Reads as spline_inverse_segment_with
 use Rattle.inverse_methods.proofs.spline_inverse_segment.Reads as spline_inverse_segment
@@ -29,8 +29,8 @@ use Rattle.inverse.specs.Inverse.{inverseUses}
 use Rattle.inverse.proofs.spline_inverse_by.Reads as spline_inverse_by
 use Rattle.inverse.proofs.spline_inverse_with.Reads as spline_inverse_with
 use Rattle.inverse.proofs.spline_inverse.Reads as spline_inverse
-use Rattle.convert.specs.declared.Converted.{Converted}
-use Rattle.convert.specs.declared.Converted.the-variants as C
+use Rattle.convert.specs.declared.ConversionAnswer.{ConversionAnswer}
+use Rattle.convert.specs.declared.ConversionAnswer.the-variants as C
 use Rattle.convert.specs.Conversion.{convertSegmentUses, convertUses}
 use Rattle.convert.specs.Buffer.{convertedNumber}
 use Rattle.convert.proofs.convert_segment.Reads as convert_segment
@@ -116,36 +116,36 @@ module _ {Z : Type 0} (number : Z → ℕ) (R : Refusal → Z) where
   by-places off f us z e t d = owed-place (numberBy us) (number z) (Counts off z) (unused us 11 (lit≤ tt) e) (unused us 12 (lit≤ tt) t) (f us z d)
 
 -- ---- the kinds
-value-owed : (us : Uses) (z : Evaluated) → Refuses E.Refused us z → evaluatedNumber z ≡ numberBy us
+value-owed : (us : Uses) (z : Evaluation) → Refuses E.Refused us z → evaluatedNumber z ≡ numberBy us
 value-owed us (E.Value v) d = none-first us (λ r f. let h : E.Value v ≡ E.Refused r = d r .1 f in never (cc))
 value-owed us (E.Refused r) d = row-first us r (d r .0 refl)
 
-written-owed : (us : Uses) (z : Converted) → Refuses C.Refused us z → convertedNumber z ≡ numberBy us
+written-owed : (us : Uses) (z : ConversionAnswer) → Refuses C.Refused us z → convertedNumber z ≡ numberBy us
 written-owed us (C.Written n) d = none-first us (λ r f. let h : C.Written n ≡ C.Refused r = d r .1 f in never (cc))
 written-owed us (C.Refused r) d = row-first us r (d r .0 refl)
 
-place-owed : (us : Uses) (z : Inverted) → Refuses I.Refused us z → Owes (numberBy us) (numberTold z) (Counts I.OffCurve z)
+place-owed : (us : Uses) (z : Inversion) → Refuses I.Refused us z → Owes (numberBy us) (numberTold z) (Counts I.OffCurve z)
 place-owed us (I.Refused r) d = inl (row-first us r (d r .0 refl))
 place-owed us (I.OffCurve n) d = inr (sym (none-first us (λ r f. let h : I.OffCurve n ≡ I.Refused r = d r .1 f in never (cc))), refl, (n, refl))
 place-owed us (I.At q) d = inl (none-first us (λ r f. let h : I.At q ≡ I.Refused r = d r .1 f in never (cc)))
 
 -- of a value, a conversion and an inversion
-abbrev pub ValueNumber : Uses → Evaluated → Type 0
+abbrev pub ValueNumber : Uses → Evaluation → Type 0
 ValueNumber us z = RowNumber (numberBy us) (evaluatedNumber z)
 
-abbrev pub WrittenNumber : Uses → Converted → Type 0
+abbrev pub WrittenNumber : Uses → ConversionAnswer → Type 0
 WrittenNumber us z = RowNumber (numberBy us) (convertedNumber z)
 
-abbrev pub InverseNumber : Uses → Inverted → Type 0
+abbrev pub InverseNumber : Uses → Inversion → Type 0
 InverseNumber us z = PlaceNumber (numberBy us) (numberTold z) (Counts I.OffCurve z)
 
-pub values : (us : Uses) (z : Evaluated) → applies 11 us ≡ false → applies 12 us ≡ false → Refuses E.Refused us z → ValueNumber us z
+pub values : (us : Uses) (z : Evaluation) → applies 11 us ≡ false → applies 12 us ≡ false → Refuses E.Refused us z → ValueNumber us z
 values = by-rows evaluatedNumber E.Refused value-owed
 
-pub writes : (us : Uses) (z : Converted) → applies 11 us ≡ false → applies 12 us ≡ false → Refuses C.Refused us z → WrittenNumber us z
+pub writes : (us : Uses) (z : ConversionAnswer) → applies 11 us ≡ false → applies 12 us ≡ false → Refuses C.Refused us z → WrittenNumber us z
 writes = by-rows convertedNumber C.Refused written-owed
 
-pub inverts : (us : Uses) (z : Inverted) → applies 11 us ≡ false → applies 12 us ≡ false → Refuses I.Refused us z → InverseNumber us z
+pub inverts : (us : Uses) (z : Inversion) → applies 11 us ≡ false → applies 12 us ≡ false → Refuses I.Refused us z → InverseNumber us z
 inverts = by-places numberTold I.Refused I.OffCurve place-owed
 
 -- ---- the calls

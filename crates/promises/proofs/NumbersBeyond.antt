@@ -17,26 +17,26 @@ use Rattle.basis.specs.declared.Basis.{Basis}
 use Rattle.spline.specs.Evaluation.{splineUses}
 use Rattle.inverse_segment.specs.Answer.{defaultLimit, defaultPrecision}
 use Rattle.inverse.specs.Inverse.{inverseUses}
-use Rattle.claim.specs.declared.Claimed.{Claimed}
-use Rattle.claim.specs.declared.Claimed.the-variants as C
+use Rattle.claim.specs.declared.ClaimAnswer.{ClaimAnswer}
+use Rattle.claim.specs.declared.ClaimAnswer.the-variants as C
 use Rattle.claim.specs.Claim.{claimUses}
 use Rattle.claim.proofs.check_claim.Reads as check_claim
 use Rattle.convert.specs.Conversion.{convertUses}
 use Rattle.convert_strict.specs.Strict.{strictUses}
 use Rattle.convert_strict.proofs.convert_spline_strict.Reads as convert_spline_strict
-use Rattle.table.specs.declared.Timed.{Timed}
-use Rattle.table.specs.declared.Timed.the-variants as T
-use Rattle.table.specs.declared.Handed.{Handed}
-use Rattle.table.specs.declared.Handed.the-variants as H
+use Rattle.table.specs.declared.TableInversion.{TableInversion}
+use Rattle.table.specs.declared.TableInversion.the-variants as T
+use Rattle.table.specs.declared.TableConversion.{TableConversion}
+use Rattle.table.specs.declared.TableConversion.the-variants as H
 use Rattle.table.specs.Second.{badSpan}
 use Rattle.table.proofs.table_spline.Reads as table_spline
 use Rattle.table.proofs.table_spline_inverse_by.Reads as table_spline_inverse_by
 use Rattle.table.proofs.table_spline_inverse.Reads as table_spline_inverse
 use Rattle.table.proofs.table_convert_spline.Reads as table_convert_spline
 use Rattle.table.proofs.table_convert_spline_strict.Reads as table_convert_spline_strict
-use Rattle.uneven.specs.declared.Sounded.{Sounded}
-use Rattle.uneven.specs.declared.Sounded.the-variants as S
-use Rattle.uneven.specs.declared.Named.the-variants.{Times, Depths}
+use Rattle.uneven.specs.declared.DepthAnswer.{DepthAnswer}
+use Rattle.uneven.specs.declared.DepthAnswer.the-variants as S
+use Rattle.uneven.specs.declared.WhichTable.the-variants.{Times, Depths}
 use Rattle.uneven.specs.Uneven.{depthUses}
 use Rattle.uneven.proofs.depth_at.Reads as depth_at
 use Rattle.valve.specs.declared.Mixture.{Mixture}
@@ -81,29 +81,30 @@ use Rattle.promises.proofs.Valve.{mix-refuses}
 use Rattle.promises.proofs.Claims.{check-claim-checked}
 
 -- ---- a table with a span
-pub timed-owed : (us : Uses) (z : Timed) → Refuses T.Refused us z → Owes (numberBy us) (timedNumber z) (Counts T.OffCurve z)
+pub timed-owed : (us : Uses) (z : TableInversion) → Refuses T.Refused us z → Owes (numberBy us) (timedNumber z) (Counts T.OffCurve z)
 timed-owed us (T.Refused r) d = inl (row-first us r (d r .0 refl))
 timed-owed us (T.OffCurve n) d = inr (sym (none-first us (λ r f. let h : T.OffCurve n ≡ T.Refused r = d r .1 f in never (cc))), refl, (n, refl))
 timed-owed us (T.At q s) d = inl (none-first us (λ r f. let h : T.At q s ≡ T.Refused r = d r .1 f in never (cc)))
 
-handed-owed : (us : Uses) (z : Handed) → Refuses H.Refused us z → handedNumber z ≡ numberBy us
+handed-owed : (us : Uses) (z : TableConversion) → Refuses H.Refused us z → handedNumber z ≡ numberBy us
 handed-owed us (H.On t n) d = none-first us (λ r f. let h : H.On t n ≡ H.Refused r = d r .1 f in never (cc))
 handed-owed us (H.Refused r) d = row-first us r (d r .0 refl)
 
-abbrev pub TimedNumber : Uses → Timed → Type 0
-TimedNumber us z = PlaceNumber (numberBy us) (timedNumber z) (Counts T.OffCurve z)
+abbrev pub TableInversionNumber : Uses → TableInversion → Type 0
+TableInversionNumber us z = PlaceNumber (numberBy us) (timedNumber z) (Counts T.OffCurve z)
 
 pub table-spline-number : Keeps table_spline.Learnt (λ κs a z e. ValueNumber (badSpan (a .0 .span) ∷ splineUses (a .0 .basis) (a .1 .0) (now (a .1 .1 .0))) z)
 table-spline-number κs a z e p = values _ z refl refl (table-spline-refuses κs a z e p)
 
 pub table-spline-inverse-by-number : Keeps table_spline_inverse_by.Learnt
-    (λ κs a z e. TimedNumber
+    (λ κs a z e. TableInversionNumber
     (badSpan (a .1 .0 .span) ∷ inverseUses (a .1 .0 .basis) (a .1 .1 .0) (now (a .1 .1 .1 .0)) (a .0 .check) (a .0 .limit) (a .0 .precision))
     z)
 table-spline-inverse-by-number κs a z e p = by-places timedNumber T.Refused T.OffCurve timed-owed _ z refl refl (table-spline-inverse-by-refuses κs a z e p)
 
 pub table-spline-inverse-number : Keeps table_spline_inverse.Learnt
-    (λ κs a z e. TimedNumber (badSpan (a .0 .span) ∷ inverseUses (a .0 .basis) (a .1 .0) (now (a .1 .1 .0)) (a .1 .1 .1 .0) defaultLimit defaultPrecision) z)
+    (λ κs a z e. TableInversionNumber
+    (badSpan (a .0 .span) ∷ inverseUses (a .0 .basis) (a .1 .0) (now (a .1 .1 .0)) (a .1 .1 .1 .0) defaultLimit defaultPrecision) z)
 table-spline-inverse-number κs a z e p = by-places timedNumber T.Refused T.OffCurve timed-owed _ z refl refl (table-spline-inverse-refuses κs a z e p)
 
 pub table-convert-spline-number : Keeps table_convert_spline.Learnt
@@ -132,7 +133,7 @@ pub mix-number : Keeps mix.Learnt (λ κs a z e. RowNumber (numberBy (mixUses (a
 mix-number κs a z e p = by-rows mixtureNumber M.Refused mixture-owed _ z refl refl (mix-refuses κs a z e p)
 
 -- ---- a claim
-claimed-owed : (us : Uses) (z : Claimed) → Refuses C.Refused us z → claimedNumber z ≡ numberBy us
+claimed-owed : (us : Uses) (z : ClaimAnswer) → Refuses C.Refused us z → claimedNumber z ≡ numberBy us
 claimed-owed us C.Holds d = none-first us (λ r f. let h : C.Holds ≡ C.Refused r = d r .1 f in never (cc))
 claimed-owed us C.Differs d = none-first us (λ r f. let h : C.Differs ≡ C.Refused r = d r .1 f in never (cc))
 claimed-owed us (C.Refused r) d = row-first us r (d r .0 refl)
@@ -161,7 +162,7 @@ module _ (tb : Basis) (ts : List Float) (db : Basis) (ds : List Float) (y : Floa
   abbrev depths : Uses
   depths = depthUses tb (length ts) db ds
 
-  sounded-owed : (z : Sounded) → Sounds tb ts db ds y limit ε z → Owes (numberByBoth times depths) (soundedNumber z) (Counts S.OffCurve z)
+  sounded-owed : (z : DepthAnswer) → Sounds tb ts db ds y limit ε z → Owes (numberByBoth times depths) (soundedNumber z) (Counts S.OffCurve z)
   sounded-owed (S.Refused Times r) s = inl (ap (λ (x : Verdict). numberIn (eitherOf x (first depths))) (sym (first-complete rows times r (s .times r .0 refl))))
   sounded-owed (S.Refused Depths r) s = let f = s .depths r .0 refl in inl (both times depths (f .0) (first-complete rows depths r (f .1)))
   sounded-owed (S.OffCurve n) s =
@@ -173,10 +174,10 @@ module _ (tb : Basis) (ts : List Float) (db : Basis) (ds : List Float) (y : Floa
       inl (both times depths e g)
 
   -- the first row of the times, else of the depths; where none applies 0, or 11 with its count; never 12
-  abbrev pub DepthNumber : Sounded → Type 0
+  abbrev pub DepthNumber : DepthAnswer → Type 0
   DepthNumber z = PlaceNumber (numberByBoth times depths) (soundedNumber z) (Counts S.OffCurve z)
 
-  sounds : (z : Sounded) → Sounds tb ts db ds y limit ε z → DepthNumber z
+  sounds : (z : DepthAnswer) → Sounds tb ts db ds y limit ε z → DepthNumber z
   sounds z s =
       owed-place (numberByBoth times depths) (soundedNumber z) (Counts S.OffCurve z) (unused-in-both times depths 11 (lit≤ tt) refl refl)
       (unused-in-both times depths 12 (lit≤ tt) refl refl) (sounded-owed z s)

@@ -6,15 +6,15 @@ use Prim.Native.Nat.{ℕ}
 use denote.Ref.{now}
 use lib.Ieee.{Float}
 use Rattle.basis.specs.declared.Basis.{Basis}
-use Rattle.inverse_segment.specs.declared.Inverted.{Inverted}
-use Rattle.inverse_segment.specs.declared.Inverted.the-variants as I
+use Rattle.inverse_segment.specs.declared.Inversion.{Inversion}
+use Rattle.inverse_segment.specs.declared.Inversion.the-variants as I
 use Rattle.inverse_segment.specs.Answer.{inverseSegmentBy}
 use Rattle.inverse_methods.specs.declared.Method.{Method}
 use Rattle.inverse_methods.specs.Method.{ruleOf}
 use Rattle.inverse.specs.declared.EndsBy.{EndsBy}
 use Rattle.inverse.specs.Inverse.{inverseBy}
-use Rattle.exports_reply.specs.declared.Chosen.{Chosen}
-use Rattle.exports_reply.specs.declared.Chosen.the-variants.{Known, Unknown}
+use Rattle.exports_reply.specs.declared.BasisChoice.{BasisChoice}
+use Rattle.exports_reply.specs.declared.BasisChoice.the-variants.{Known, Unknown}
 use Rattle.exports_reply.specs.declared.options.Way.{Way}
 use Rattle.exports_reply.specs.declared.options.Way.the-variants as W
 use Rattle.exports_reply.specs.Replies.{chosenOf, noBasis, chosen, invertedReply, placeLeft, wholeLeft}
@@ -46,27 +46,27 @@ pub c-spline-inverse-segment-by-one-reply : OneReply spline_inverse_segment_by.L
 c-spline-inverse-segment-by-one-reply κs a z z′ e e′ p q = (one (p .0) (q .0), one (p .1 .0) (q .1 .0), one (p .1 .1) (q .1 .1))
 
 -- ---- what is left where the reply is not 0: the four doubles, and but for 11 the three whole numbers
-abbrev reply : Chosen → Way → (Basis → EndsBy → Method → Inverted) → ℕ
+abbrev reply : BasisChoice → Way → (Basis → EndsBy → Method → Inversion) → ℕ
 reply c w f = chosen c noBasis (λ b. way w noBasis (λ e m. invertedReply (f b e m)))
 
-place-kept : (c : Chosen) (w : Way) (f : Basis → EndsBy → Method → Inverted) (old : List Float) → NotZero (reply c w f)
+place-kept : (c : BasisChoice) (w : Way) (f : Basis → EndsBy → Method → Inversion) (old : List Float) → NotZero (reply c w f)
     → chosen c old (λ b. way w old (λ e m. placeLeft (f b e m) old)) ≡ old
 place-kept Unknown w f old h = refl
 place-kept (Known b) W.Unknown f old h = refl
 place-kept (Known b) (W.Known e m) f old h = go (f b e m) h
   where
-    go : (i : Inverted) → NotZero (invertedReply i) → placeLeft i old ≡ old
+    go : (i : Inversion) → NotZero (invertedReply i) → placeLeft i old ≡ old
     go (I.At p) h = absurd (h refl)
     go (I.OffCurve n) h = refl
     go (I.Refused r) h = refl
 
-whole-kept : (c : Chosen) (w : Way) (f : Basis → EndsBy → Method → Inverted) (old : List ℕ) → NotZero (reply c w f) → (reply c w f ≡ 11 → ⊥)
+whole-kept : (c : BasisChoice) (w : Way) (f : Basis → EndsBy → Method → Inversion) (old : List ℕ) → NotZero (reply c w f) → (reply c w f ≡ 11 → ⊥)
     → chosen c old (λ b. way w old (λ e m. wholeLeft (f b e m) old)) ≡ old
 whole-kept Unknown w f old h g = refl
 whole-kept (Known b) W.Unknown f old h g = refl
 whole-kept (Known b) (W.Known e m) f old h g = go (f b e m) h g
   where
-    go : (i : Inverted) → NotZero (invertedReply i) → (invertedReply i ≡ 11 → ⊥) → wholeLeft i old ≡ old
+    go : (i : Inversion) → NotZero (invertedReply i) → (invertedReply i ≡ 11 → ⊥) → wholeLeft i old ≡ old
     go (I.At p) h g = absurd (h refl)
     go (I.OffCurve n) h g = absurd (g refl)
     go (I.Refused r) h g = refl
@@ -76,7 +76,7 @@ pub c-spline-inverse-by-writes-nothing : Keeps spline_inverse_by.Learnt
     → (now (e .1 .1 .1 .1 .1 .1 .1 .1 .0) ≡ now (a .1 .1 .1 .1 .1 .1 .1 .1 .0))
     × ((z ≡ 11 → ⊥) → now (e .1 .1 .1 .1 .1 .1 .1 .1 .1 .0) ≡ now (a .1 .1 .1 .1 .1 .1 .1 .1 .1 .0)))
 c-spline-inverse-by-writes-nothing κs a z e p h =
-    let f : Basis → EndsBy → Method → Inverted =
+    let f : Basis → EndsBy → Method → Inversion =
     λ b n m. inverseBy n m b (a .1 .0) (now (a .1 .1 .0)) (a .1 .1 .1 .0) (a .1 .1 .1 .1 .0) (a .1 .1 .1 .1 .1 .0) in
     let c = chosenOf (a .0) in
     let w = wayOf (a .1 .1 .1 .1 .1 .1 .0) (a .1 .1 .1 .1 .1 .1 .1 .0) in (
@@ -90,7 +90,7 @@ pub c-spline-inverse-segment-by-writes-nothing : Keeps spline_inverse_segment_by
     → (now (e .1 .1 .1 .1 .1 .1 .0) ≡ now (a .1 .1 .1 .1 .1 .1 .0))
     × ((z ≡ 11 → ⊥) → now (e .1 .1 .1 .1 .1 .1 .1 .0) ≡ now (a .1 .1 .1 .1 .1 .1 .1 .0)))
 c-spline-inverse-segment-by-writes-nothing κs a z e p h =
-    let f : Basis → EndsBy → Method → Inverted = λ b n m. inverseSegmentBy (ruleOf m) b (a .1 .0) (now (a .1 .1 .0)) (a .1 .1 .1 .0) (a .1 .1 .1 .1 .0) in
+    let f : Basis → EndsBy → Method → Inversion = λ b n m. inverseSegmentBy (ruleOf m) b (a .1 .0) (now (a .1 .1 .0)) (a .1 .1 .1 .0) (a .1 .1 .1 .1 .0) in
     let c = chosenOf (a .0) in
     let w = wayOf 0 (a .1 .1 .1 .1 .1 .0) in (
       p .1 .0 ∙ place-kept c w f (now (a .1 .1 .1 .1 .1 .1 .0)) (λ q. h (p .0 ∙ q)),

@@ -16,7 +16,7 @@ use Rattle.compare_lines.specs.Listings.{before}
 use Rattle.compare_lines.specs.Listings.{none as noListing}
 use Rattle.lines_programs.specs.declared.Reader.{Reader}
 use Rattle.lines_programs.specs.Programs.{Running, asking, reading, claiming, showing, comparing, drawing, running}
-use Rattle.lines_programs.specs.Held.{stateOf}
+use Rattle.lines_programs.specs.Contract.{stateOf}
 use Rattle.lines_programs.proofs.line_program.Reads as line_program
 use Rattle.lines_programs.proofs.sheet_program.Reads as sheet_program
 use Rattle.lines_programs.proofs.decimals_program.Reads as decimals_program

@@ -18,13 +18,13 @@ use Rattle.error.proofs.reply.Reads as reply
 use Rattle.basis.specs.declared.Basis.{Basis}
 use Rattle.basis.specs.Basis.{matrixOf}
 use Rattle.basis.proofs.is_len_ok.Reads as is_len_ok
-use Rattle.spline.specs.declared.Evaluated.the-variants as E
+use Rattle.spline.specs.declared.Evaluation.the-variants as E
 use Rattle.spline.specs.Segment.{segmentValue, segmentOf}
 use Rattle.spline.specs.Curve.{curveValue}
 use Rattle.spline.specs.Evaluation.{evaluated, splineUses, splineOf, splineSegmentUses, splineSegmentOf}
 use Rattle.spline.proofs.spline.Reads as spline
 use Rattle.spline.proofs.spline_segment.Reads as spline_segment
-use Rattle.inverse_segment.specs.declared.Inverted.the-variants as I
+use Rattle.inverse_segment.specs.declared.Inversion.the-variants as I
 use Rattle.inverse_methods.specs.declared.Method.the-variants.{AsCrate}
 use Rattle.inverse_segment.specs.Round.{Rule, asCrate}
 use Rattle.inverse_segment.specs.Segment.{Outcome, enter, outcomeOf}
@@ -40,7 +40,7 @@ use Rattle.inverse_methods.proofs.spline_inverse_segment_by.Reads as spline_inv
 use Rattle.inverse.proofs.spline_inverse_by.Reads as spline_inverse_by
 use Rattle.inverse.proofs.spline_inverse_with.Reads as spline_inverse_with
 use Rattle.inverse.proofs.spline_inverse.Reads as spline_inverse
-use Rattle.convert.specs.declared.Converted.the-variants as C
+use Rattle.convert.specs.declared.ConversionAnswer.the-variants as C
 use Rattle.convert.specs.Output.{segmentOutput, splineOutput}
 use Rattle.convert.specs.Conversion.{Conversion, gives, refuses, unless, convertSegmentUses, convertedSegmentOf, convertUses, convertedOf}
 use Rattle.convert.specs.Buffer.{answerOf, bufferOf}

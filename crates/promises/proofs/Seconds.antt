@@ -14,11 +14,11 @@ use Rattle.error.specs.declared.Verdict.the-variants.{Passed, Failed}
 use Rattle.error.specs.Refusals.{Uses, rows, applies, first}
 use Rattle.error.proofs.First.{never, First, clear, first-sound, first-complete}
 use Rattle.basis.specs.declared.Basis.{Basis}
-use Rattle.spline.specs.declared.Evaluated.{Evaluated}
-use Rattle.spline.specs.declared.Evaluated.the-variants as E
+use Rattle.spline.specs.declared.Evaluation.{Evaluation}
+use Rattle.spline.specs.declared.Evaluation.the-variants as E
 use Rattle.spline.specs.Evaluation.{splineUses, splineOf}
-use Rattle.inverse_segment.specs.declared.Inverted.{Inverted}
-use Rattle.inverse_segment.specs.declared.Inverted.the-variants as I
+use Rattle.inverse_segment.specs.declared.Inversion.{Inversion}
+use Rattle.inverse_segment.specs.declared.Inversion.the-variants as I
 use Rattle.inverse_segment.specs.declared.Place.{Place}
 use Rattle.inverse_segment.specs.Answer.{defaultLimit, defaultPrecision}
 use Rattle.inverse_methods.specs.declared.Method.{Method}
@@ -29,16 +29,16 @@ use Rattle.inverse.specs.Inverse.{inverseUses, inverseBy}
 use Rattle.inverse.proofs.Facts.{AtPlace, Proper}
 use Rattle.inverse.proofs.Promises.{inverse-proper}
 use Rattle.inverse.proofs.Refusing.{inverse-refused-only, inverse-refused-where}
-use Rattle.convert.specs.declared.Converted.{Converted}
-use Rattle.convert.specs.declared.Converted.the-variants as C
+use Rattle.convert.specs.declared.ConversionAnswer.{ConversionAnswer}
+use Rattle.convert.specs.declared.ConversionAnswer.the-variants as C
 use Rattle.convert.specs.Conversion.{Conversion, gives, refuses, unless, convertUses, convertedOf}
 use Rattle.convert.specs.Buffer.{answerOf, bufferOf}
 use Rattle.convert_strict.specs.Strict.{strictUses, strictOf}
 use Rattle.table.specs.declared.Table.{Table}
-use Rattle.table.specs.declared.Timed.{Timed}
-use Rattle.table.specs.declared.Timed.the-variants as T
-use Rattle.table.specs.declared.Handed.{Handed}
-use Rattle.table.specs.declared.Handed.the-variants as H
+use Rattle.table.specs.declared.TableInversion.{TableInversion}
+use Rattle.table.specs.declared.TableInversion.the-variants as T
+use Rattle.table.specs.declared.TableConversion.{TableConversion}
+use Rattle.table.specs.declared.TableConversion.the-variants as H
 use Rattle.table.specs.Second.{goodSpan, badSpan, elapsed, secondOf}
 use Rattle.table.specs.Calls.{
   verdictOf,
@@ -129,11 +129,11 @@ carried e x = (λ p. x .0 (sym e ∙ p), λ q. e ∙ x .1 q)
 passes : (t : Table) (us : Uses) → verdictOf t us ≡ Passed → goodSpan (t .span) ≡ true
 passes t us e = not-false (goodSpan (t .span)) (clear (badSpan (t .span) ∷ us) e 14)
 
-by-value : (v : Verdict) (a : Evaluated) (r : Refusal) → (v ≡ Passed → a ≡ E.Refused r → ⊥) → Exactly (valueUnless v a ≡ E.Refused r) (v ≡ Failed r)
+by-value : (v : Verdict) (a : Evaluation) (r : Refusal) → (v ≡ Passed → a ≡ E.Refused r → ⊥) → Exactly (valueUnless v a ≡ E.Refused r) (v ≡ Failed r)
 by-value Passed a r k = (λ p. absurd (k refl p), λ p. never (cc))
 by-value (Failed q) a r k = (λ p. let s : q ≡ r = cc in ap Failed s, λ p. let s : q ≡ r = cc in ap E.Refused s)
 
-by-timed : (v : Verdict) (a : Timed) (r : Refusal) → (v ≡ Passed → a ≡ T.Refused r → ⊥) → Exactly (timedUnless v a ≡ T.Refused r) (v ≡ Failed r)
+by-timed : (v : Verdict) (a : TableInversion) (r : Refusal) → (v ≡ Passed → a ≡ T.Refused r → ⊥) → Exactly (timedUnless v a ≡ T.Refused r) (v ≡ Failed r)
 by-timed Passed a r k = (λ p. absurd (k refl p), λ p. never (cc))
 by-timed (Failed q) a r k = (λ p. let s : q ≡ r = cc in ap Failed s, λ p. let s : q ≡ r = cc in ap T.Refused s)
 
@@ -160,7 +160,7 @@ module _ (t : Table) (r : Refusal) where
       two-ways (by-value (verdictOf t (splineUses (t .basis) x ks)) (splineOf (t .basis) x ks) r (value-past x ks))
       (by-first (badSpan (t .span) ∷ splineUses (t .basis) x ks) r)
 
-  timed-refused : (s : ℕ) (i : Inverted) → timedOf s i ≡ T.Refused r → i ≡ I.Refused r
+  timed-refused : (s : ℕ) (i : Inversion) → timedOf s i ≡ T.Refused r → i ≡ I.Refused r
   timed-refused s (I.Refused q) h = let z : q ≡ r = cc in ap I.Refused z
   timed-refused s (I.OffCurve n) h = never (cc)
   timed-refused s (I.At p) h = never (cc)
@@ -240,13 +240,13 @@ table-convert-spline-writes-nothing κs a z e p r h =
     (sym (p .0) ∙ h)
 
 -- ---- the second that is told
-pub at-second : (s : ℕ) (i : Inverted) (p : Place) (n : ℕ) → timedOf s i ≡ T.At p n → (i ≡ I.At p) × (n ≡ secondOf s (p .parameter))
+pub at-second : (s : ℕ) (i : Inversion) (p : Place) (n : ℕ) → timedOf s i ≡ T.At p n → (i ≡ I.At p) × (n ≡ secondOf s (p .parameter))
 at-second s (I.Refused r) p n h = never (cc)
 at-second s (I.OffCurve m) p n h = never (cc)
 at-second s (I.At q) p n h = let e : q ≡ p = cc in let f : secondOf s (q .parameter) ≡ n = cc
     in (ap I.At e, sym f ∙ ap (λ (x : Place). secondOf s (x .parameter)) e)
 
-pub past : (v : Verdict) (a : Timed) (p : Place) (n : ℕ) → timedUnless v a ≡ T.At p n → (v ≡ Passed) × (a ≡ T.At p n)
+pub past : (v : Verdict) (a : TableInversion) (p : Place) (n : ℕ) → timedUnless v a ≡ T.At p n → (v ≡ Passed) × (a ≡ T.At p n)
 past Passed a p n h = (refl, h)
 past (Failed r) a p n h = never (cc)
 

@@ -14,15 +14,15 @@ use Rattle.inverse_methods.specs.declared.Method.{Method}
 use Rattle.inverse_methods.specs.declared.Method.the-variants.{AsCrate}
 use Rattle.inverse.specs.declared.EndsBy.{EndsBy}
 use Rattle.inverse.specs.declared.EndsBy.the-variants.{Knots}
-use Rattle.spline.specs.declared.Evaluated.{Evaluated}
-use Rattle.spline.specs.declared.Evaluated.the-variants as E
-use Rattle.table.specs.declared.Timed.{Timed}
-use Rattle.table.specs.declared.Timed.the-variants as T
-use Rattle.table.specs.declared.Handed.{Handed}
-use Rattle.table.specs.declared.Handed.the-variants as H
+use Rattle.spline.specs.declared.Evaluation.{Evaluation}
+use Rattle.spline.specs.declared.Evaluation.the-variants as E
+use Rattle.table.specs.declared.TableInversion.{TableInversion}
+use Rattle.table.specs.declared.TableInversion.the-variants as T
+use Rattle.table.specs.declared.TableConversion.{TableConversion}
+use Rattle.table.specs.declared.TableConversion.the-variants as H
 use Rattle.table.specs.Calls.{tableSplineOf, tableInverseBy, tableConvertedOf, tableStrictOf, handedOf}
-use Rattle.exports_reply.specs.declared.Chosen.{Chosen}
-use Rattle.exports_reply.specs.declared.Chosen.the-variants.{Known, Unknown}
+use Rattle.exports_reply.specs.declared.BasisChoice.{BasisChoice}
+use Rattle.exports_reply.specs.declared.BasisChoice.the-variants.{Known, Unknown}
 use Rattle.exports_reply.specs.declared.options.Way.{Way}
 use Rattle.exports_reply.specs.declared.options.Way.the-variants as W
 use Rattle.exports_reply.specs.Replies.{chosenOf, noBasis, chosen, evaluatedReply, valueLeft}
@@ -79,12 +79,12 @@ pub c-table-strict-one-reply : OneReply table_convert_spline_strict.Learnt
 c-table-strict-one-reply κs a z z′ e e′ p q = (one (p .0) (q .0), one (p .1 .0) (q .1 .0), one (p .1 .1 .0) (q .1 .1 .0), one (p .1 .1 .1) (q .1 .1 .1))
 
 -- ---- what is left where the reply is not 0
-value-kept : (c : Chosen) (f : Basis → Evaluated) (old : Float) → NotZero (chosen c noBasis (λ b. evaluatedReply (f b)))
+value-kept : (c : BasisChoice) (f : Basis → Evaluation) (old : Float) → NotZero (chosen c noBasis (λ b. evaluatedReply (f b)))
     → chosen c old (λ b. valueLeft (f b) old) ≡ old
 value-kept Unknown f old h = refl
 value-kept (Known b) f old h = go (f b) h
   where
-    go : (v : Evaluated) → NotZero (evaluatedReply v) → valueLeft v old ≡ old
+    go : (v : Evaluation) → NotZero (evaluatedReply v) → valueLeft v old ≡ old
     go (E.Value x) h = absurd (h refl)
     go (E.Refused r) h = refl
 
@@ -95,23 +95,23 @@ c-table-spline-writes-nothing κs a z e p h =
     (λ w. h (p .0 ∙ w))
 
 -- the four doubles, and but for 11 the four whole numbers
-timed-place-kept : (t : Timed) (old : List Float) → NotZero (timedReply t) → timedPlace t old ≡ old
+timed-place-kept : (t : TableInversion) (old : List Float) → NotZero (timedReply t) → timedPlace t old ≡ old
 timed-place-kept (T.At p s) old h = absurd (h refl)
 timed-place-kept (T.OffCurve n) old h = refl
 timed-place-kept (T.Refused r) old h = refl
 
-timed-whole-kept : (t : Timed) (old : List ℕ) → NotZero (timedReply t) → (timedReply t ≡ 11 → ⊥) → timedWhole t old ≡ old
+timed-whole-kept : (t : TableInversion) (old : List ℕ) → NotZero (timedReply t) → (timedReply t ≡ 11 → ⊥) → timedWhole t old ≡ old
 timed-whole-kept (T.At p s) old h g = absurd (h refl)
 timed-whole-kept (T.OffCurve n) old h g = absurd (g refl)
 timed-whole-kept (T.Refused r) old h g = refl
 
-pub place-kept : (c : Chosen) (w : Way) (f : Basis → EndsBy → Method → Timed) (old : List Float)
+pub place-kept : (c : BasisChoice) (w : Way) (f : Basis → EndsBy → Method → TableInversion) (old : List Float)
     → NotZero (chosen c noBasis (λ b. way w noBasis (λ e m. timedReply (f b e m)))) → chosen c old (λ b. way w old (λ e m. timedPlace (f b e m) old)) ≡ old
 place-kept Unknown w f old h = refl
 place-kept (Known b) W.Unknown f old h = refl
 place-kept (Known b) (W.Known e m) f old h = timed-place-kept (f b e m) old h
 
-pub whole-kept : (c : Chosen) (w : Way) (f : Basis → EndsBy → Method → Timed) (old : List ℕ)
+pub whole-kept : (c : BasisChoice) (w : Way) (f : Basis → EndsBy → Method → TableInversion) (old : List ℕ)
     → NotZero (chosen c noBasis (λ b. way w noBasis (λ e m. timedReply (f b e m))))
     → (chosen c noBasis (λ b. way w noBasis (λ e m. timedReply (f b e m))) ≡ 11 → ⊥)
     → chosen c old (λ b. way w old (λ e m. timedWhole (f b e m) old)) ≡ old
@@ -124,7 +124,7 @@ pub c-table-spline-inverse-by-writes-nothing : Keeps table_spline_inverse_by.Lea
     → (now (e .1 .1 .1 .1 .1 .1 .1 .1 .1 .0) ≡ now (a .1 .1 .1 .1 .1 .1 .1 .1 .1 .0))
     × ((z ≡ 11 → ⊥) → now (e .1 .1 .1 .1 .1 .1 .1 .1 .1 .1 .0) ≡ now (a .1 .1 .1 .1 .1 .1 .1 .1 .1 .1 .0)))
 c-table-spline-inverse-by-writes-nothing κs a z e p h =
-    let f : Basis → EndsBy → Method → Timed =
+    let f : Basis → EndsBy → Method → TableInversion =
     λ b n m. tableInverseBy n m (tableOf (a .1 .0) b) (a .1 .1 .0) (now (a .1 .1 .1 .0)) (a .1 .1 .1 .1 .0) (a .1 .1 .1 .1 .1 .0)
     (a .1 .1 .1 .1 .1 .1 .0) in
     let c = chosenOf (a .0) in
@@ -139,7 +139,7 @@ pub c-table-spline-inverse-writes-nothing : Keeps table_spline_inverse.Learnt
     (λ κs a z e. NotZero z
     → (now (e .1 .1 .1 .1 .1 .0) ≡ now (a .1 .1 .1 .1 .1 .0)) × ((z ≡ 11 → ⊥) → now (e .1 .1 .1 .1 .1 .1 .0) ≡ now (a .1 .1 .1 .1 .1 .1 .0)))
 c-table-spline-inverse-writes-nothing κs a z e p h =
-    let f : Basis → EndsBy → Method → Timed =
+    let f : Basis → EndsBy → Method → TableInversion =
     λ b n m. tableInverseBy n m (tableOf (a .1 .0) b) (a .1 .1 .0) (now (a .1 .1 .1 .0)) (a .1 .1 .1 .1 .0) defaultLimit defaultPrecision in
     let c = chosenOf (a .0) in
     let w = W.Known Knots AsCrate in (
@@ -150,13 +150,13 @@ c-table-spline-inverse-writes-nothing κs a z e p h =
 
 -- the span, the length and the whole buffer
 module _ (span : ℕ) (g : Basis → Basis → Conversion) where
-  abbrev handedBy : Basis → Basis → Handed
+  abbrev handedBy : Basis → Basis → TableConversion
   handedBy f t = handedOf span t (answerOf (g f t))
 
-  abbrev reply : Chosen → Chosen → ℕ
+  abbrev reply : BasisChoice → BasisChoice → ℕ
   reply c d = chosen c noBasis (λ f. chosen d noBasis (λ t. handedReply (handedBy f t)))
 
-  span-kept : (c d : Chosen) (old : ℕ) → NotZero (reply c d) → chosen c old (λ f. chosen d old (λ t. handedSpan (handedBy f t) old)) ≡ old
+  span-kept : (c d : BasisChoice) (old : ℕ) → NotZero (reply c d) → chosen c old (λ f. chosen d old (λ t. handedSpan (handedBy f t) old)) ≡ old
   span-kept Unknown d old h = refl
   span-kept (Known f) Unknown old h = refl
   span-kept (Known f) (Known t) old h = go (g f t) h
@@ -165,7 +165,7 @@ module _ (span : ℕ) (g : Basis → Basis → Conversion) where
       go (gives l) h = absurd (h refl)
       go (refuses r) h = refl
 
-  length-kept : (c d : Chosen) (old : ℕ) → NotZero (reply c d) → chosen c old (λ f. chosen d old (λ t. handedLength (handedBy f t) old)) ≡ old
+  length-kept : (c d : BasisChoice) (old : ℕ) → NotZero (reply c d) → chosen c old (λ f. chosen d old (λ t. handedLength (handedBy f t) old)) ≡ old
   length-kept Unknown d old h = refl
   length-kept (Known f) Unknown old h = refl
   length-kept (Known f) (Known t) old h = go (g f t) h
@@ -174,7 +174,7 @@ module _ (span : ℕ) (g : Basis → Basis → Conversion) where
       go (gives l) h = absurd (h refl)
       go (refuses r) h = refl
 
-  buffer-kept : (c d : Chosen) (old : List Float) → NotZero (reply c d) → chosen c old (λ f. chosen d old (λ t. bufferOf (g f t) old)) ≡ old
+  buffer-kept : (c d : BasisChoice) (old : List Float) → NotZero (reply c d) → chosen c old (λ f. chosen d old (λ t. bufferOf (g f t) old)) ≡ old
   buffer-kept Unknown d old h = refl
   buffer-kept (Known f) Unknown old h = refl
   buffer-kept (Known f) (Known t) old h = go (g f t) h

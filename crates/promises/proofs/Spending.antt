@@ -19,11 +19,11 @@ use Rattle.doubles.proofs.Tests.{branch}
 use Rattle.spline.specs.Segment.{segmentOf}
 use Rattle.inverse_segment.specs.declared.Ground.{Ground}
 use Rattle.inverse_segment.specs.declared.Ground.the-variants.{End, Edge, Value, Width, Spent}
-use Rattle.inverse_segment.specs.declared.Inverted.{Inverted}
+use Rattle.inverse_segment.specs.declared.Inversion.{Inversion}
 use Rattle.inverse_segment.specs.declared.State.{State}
 use Rattle.inverse_segment.specs.Evaluations.{Evaluations}
-use Rattle.inverse_segment.specs.Round.{Rule, narrow, Turn, found, on, turn, probed, settled}
-use Rattle.inverse_segment.specs.Rounds.{Placed, rounds}
+use Rattle.inverse_segment.specs.Round.{Rule, narrow, Round, found, on, roundOf, probed, settled}
+use Rattle.inverse_segment.specs.Rounds.{Arrival, rounds}
 use Rattle.inverse_segment.specs.Segment.{
   encloses,
   near,
@@ -86,29 +86,29 @@ pub data Then (s : ℕ) (ev : Evaluations) : ℕ → Evaluations → Type 0 wher
   more : {n : ℕ} {l : Evaluations} (x : Float) → Then s ev n l → Then s ev (suc n) ((s, x) ∷ l)
 
 -- p is in segment s, whose ends were evaluated after ev, and then n evaluations more were made of it
-abbrev pub SpentIn : ℕ → Evaluations → ℕ → Placed → Type 0
+abbrev pub SpentIn : ℕ → Evaluations → ℕ → Arrival → Type 0
 SpentIn s ev n p = (p .segment ≡ s) × Then s (both s ev) n (p .made)
 
 -- ---- a segment
 module _ (R : Rule) (f : Float → Float) (s : ℕ) (y ε : Float) (rising : Bool) (limit : ℕ) (ev : Evaluations) where
   -- what a round leaves, m having been made
-  abbrev Left : ℕ → Turn → Type 0
+  abbrev Left : ℕ → Round → Type 0
   Left m (found g x b l) = IsSpent g → ⊥
   Left m (on st l) = Then s (both s ev) m l
 
-  turn-left : (m i : ℕ) (st : State) (l : Evaluations) → Then s (both s ev) m l → Left (suc m) (turn R f s y ε rising limit i st l)
-  unfolding turn probed settled
-  turn-left m i st l t =
+  round-left : (m i : ℕ) (st : State) (l : Evaluations) → Then s (both s ev) m l → Left (suc m) (roundOf R f s y ε rising limit i st l)
+  unfolding roundOf probed settled
+  round-left m i st l t =
       let x = R limit i y st .place in
       branch (Left (suc m)) (narrow ε (st .bracket)) (λ _ q. q)
       (λ _. branch (Left (suc m)) (lt (magnitudeOf (sub binary64 (f x) y)) ε) (λ _ q. q) (λ _. more x t))
 
-  rounds-spent : (n i m j : ℕ) (t : Turn) → m + n ≡ j → Left m t → let p = rounds R f s y ε rising limit n i t in IsSpent (p .ground) → SpentIn s ev j p
+  rounds-spent : (n i m j : ℕ) (t : Round) → m + n ≡ j → Left m t → let p = rounds R f s y ε rising limit n i t in IsSpent (p .ground) → SpentIn s ev j p
   unfolding rounds
   rounds-spent zero i m j (found g x b l) e h q = absurd (h q)
   rounds-spent zero i m j (on st l) e h q = let e : m ≡ j = omega arith in (refl, subst (λ (j : ℕ). Then s (both s ev) j l) e h)
   rounds-spent (suc n) i m j (found g x b l) e h q = absurd (h q)
-  rounds-spent (suc n) i m j (on st l) e h q = rounds-spent n (suc i) (suc m) j (turn R f s y ε rising limit i st l) (omega arith) (turn-left m i st l h) q
+  rounds-spent (suc n) i m j (on st l) e h q = rounds-spent n (suc i) (suc m) j (roundOf R f s y ε rising limit i st l) (omega arith) (round-left m i st l h) q
 
 -- so of a trial after ev
 abbrev pub SpentTrial : ℕ → Evaluations → ℕ → Entry → Type 0
@@ -120,7 +120,7 @@ unfolding enter entered
 enter-spent R f s y ε limit ev =
     let rising = lt (f nought) (f one) in
     let t = on (start (opening (f nought) (f one))) (both s ev) in
-    let P : Placed → Type 0 = λ p. IsSpent (p .ground) → SpentIn s ev limit p in
+    let P : Arrival → Type 0 = λ p. IsSpent (p .ground) → SpentIn s ev limit p in
     branch (SpentTrial s ev limit) (encloses (f nought) (f one) y)
     (λ _. branch P (near y (f nought) ε) (λ _ q. absurd q)
     (λ _. branch P (near y (f one) ε) (λ _ q. absurd q)
@@ -180,7 +180,7 @@ module _ (m : EndsBy) (how : Method) (b : Basis) (y : Float) (ks : List Float) (
   abbrev rule : EndRule
   rule = endRuleOf m b ks (segmentOf b ks)
 
-  abbrev pub AllRounds : Inverted → Type 0
+  abbrev pub AllRounds : Inversion → Type 0
   AllRounds r =
       AtPlace (λ p. IsSpent (p .ground) → (ev : Evaluations) × Then (p .segment) (both (p .segment) ev) limit (evaluationsBy m how b y ks check limit ε)) r
 
@@ -206,7 +206,7 @@ module _ (m : EndsBy) (how : Method) (b : Basis) (y : Float) (ks : List Float) (
       go Passed false false (placed p) h = h
       go (Failed r) a c o h = tt
 
-  reply-spent : (r : Inverted) → r ≡ inverseBy m how b y ks check limit ε → AllRounds r
+  reply-spent : (r : Inversion) → r ≡ inverseBy m how b y ks check limit ε → AllRounds r
   reply-spent r e = subst AllRounds (sym e) inverse-spent
 
 pub spline-inverse-by-spent : Keeps spline_inverse_by.Learnt
@@ -225,7 +225,7 @@ spline-inverse-spent κs a z e p = reply-spent Knots AsCrate (a .0) (a .1 .0) (n
 
 -- ---- one segment's call: those of its two ends, then as many as the limit says, and no other
 module _ (how : Method) (b : Basis) (y : Float) (cv : List Float) (limit : ℕ) (ε : Float) where
-  abbrev pub SegmentAllRounds : Inverted → Type 0
+  abbrev pub SegmentAllRounds : Inversion → Type 0
   SegmentAllRounds r = AtPlace (λ p. IsSpent (p .ground) → Then 0 (both 0 []) limit (segmentEvaluationsBy (ruleOf how) b y cv limit ε)) r
 
   segment-spent : SegmentAllRounds (inverseSegmentBy (ruleOf how) b y cv limit ε)
@@ -241,7 +241,7 @@ module _ (how : Method) (b : Basis) (y : Float) (cv : List Float) (limit : ℕ) 
       go Passed (inside p) h = λ q. h q .1
       go (Failed r) e h = tt
 
-  segment-reply-spent : (r : Inverted) → r ≡ inverseSegmentBy (ruleOf how) b y cv limit ε → SegmentAllRounds r
+  segment-reply-spent : (r : Inversion) → r ≡ inverseSegmentBy (ruleOf how) b y cv limit ε → SegmentAllRounds r
   segment-reply-spent r e = subst SegmentAllRounds (sym e) segment-spent
 
 pub spline-inverse-segment-by-spent : Keeps spline_inverse_segment_by.Learnt

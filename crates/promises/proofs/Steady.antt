@@ -18,8 +18,8 @@ use Rattle.error.proofs.First.{First}
 use Rattle.basis.specs.declared.Basis.{Basis}
 use Rattle.basis.specs.Basis.{segmentsOf}
 use Rattle.inverse_segment.specs.declared.Place.{Place}
-use Rattle.inverse_segment.specs.declared.Inverted.{Inverted}
-use Rattle.inverse_segment.specs.declared.Inverted.the-variants as I
+use Rattle.inverse_segment.specs.declared.Inversion.{Inversion}
+use Rattle.inverse_segment.specs.declared.Inversion.the-variants as I
 use Rattle.inverse_segment.specs.Answer.{countTold, inverseSegmentUses, defaultPrecision}
 use Rattle.inverse_methods.specs.declared.Method.{Method}
 use Rattle.inverse_methods.specs.declared.Method.the-variants.{Steady}
@@ -40,8 +40,8 @@ use Rattle.inverse.proofs.Timely.{timely}
 use Rattle.inverse.proofs.TurnsBack.{AgainstAt}
 use Rattle.inverse.proofs.spline_inverse_steady.Reads as spline_inverse_steady
 use Rattle.table.specs.declared.Table.{Table}
-use Rattle.table.specs.declared.Timed.{Timed}
-use Rattle.table.specs.declared.Timed.the-variants as T
+use Rattle.table.specs.declared.TableInversion.{TableInversion}
+use Rattle.table.specs.declared.TableInversion.the-variants as T
 use Rattle.table.specs.Second.{goodSpan, badSpan, elapsed}
 use Rattle.table.specs.Calls.{verdictOf, timedOf, tableInverseBy, tableSteadyOf}
 use Rattle.table.proofs.Spans.{inverse-base}
@@ -61,7 +61,7 @@ use Rattle.promises.proofs.Fewer.{reply-fewer}
 use Rattle.promises.proofs.Inverting.{SegmentPromised, segment-promised}
 use Rattle.promises.proofs.Knots.{FirstBad, knot-first}
 use Rattle.promises.proofs.Numbers.{InverseNumber, inverts, by-places}
-use Rattle.promises.proofs.NumbersBeyond.{TimedNumber, timed-owed}
+use Rattle.promises.proofs.NumbersBeyond.{TableInversionNumber, timed-owed}
 use Rattle.promises.proofs.Refusing.{carried, segment-place-refused}
 use Rattle.promises.proofs.Seconds.{table-place-refused, past, at-second, second-is-largest}
 use Rattle.promises.proofs.Spans as timed
@@ -73,7 +73,7 @@ one p q = p ∙ sym q
 pub spline-inverse-segment-steady-timely : Keeps spline_inverse_segment_steady.Learnt (λ κs a z e. NeverSpent z × (countTold z ≤ 41))
 spline-inverse-segment-steady-timely κs a z e p =
     let r = segment-timely steadyLimit (a .0) (a .1 .0) (now (a .1 .1 .0)) defaultPrecision 39 default-enough in
-    subst (λ (i : Inverted). NeverSpent i × (countTold i ≤ 41)) (sym p) (r .0 (lit< tt), r .1)
+    subst (λ (i : Inversion). NeverSpent i × (countTold i ≤ 41)) (sym p) (r .0 (lit< tt), r .1)
 
 pub spline-inverse-segment-steady-promised : Keeps spline_inverse_segment_steady.Learnt
     (λ κs a z e. SegmentPromised Steady (a .0) (a .1 .0) (now (a .1 .1 .0)) steadyLimit defaultPrecision z)
@@ -100,7 +100,7 @@ spline-inverse-segment-steady-first-bad κs a z e p i h =
     (spline-inverse-segment-steady-refuses κs a z e p (BadKnot i) .0 h)
 
 -- ---- a curve: never spent, and at most 39 + 24 evaluations, or 39 + 2b + 4
-abbrev pub SteadyWithin : Basis → List Float → Inverted → Type 0
+abbrev pub SteadyWithin : Basis → List Float → Inversion → Type 0
 SteadyWithin b ks z = NeverSpent z × (countTold z ≤ boundOf (segmentsOf b (length ks)) 39)
 
 steady-timely : (b : Basis) (y : Float) (ks : List Float) (check : Bool) → SteadyWithin b ks (steadyOf b y ks check)
@@ -186,7 +186,8 @@ table-spline-inverse-steady-refuses κs a z e p r =
     carried p (table-place-refused (a .0) r Knots Steady (a .1 .0) (now (a .1 .1 .0)) (a .1 .1 .1 .0) steadyLimit defaultPrecision)
 
 pub table-spline-inverse-steady-number : Keeps table_spline_inverse_steady.Learnt
-    (λ κs a z e. TimedNumber (badSpan (a .0 .span) ∷ inverseUses (a .0 .basis) (a .1 .0) (now (a .1 .1 .0)) (a .1 .1 .1 .0) steadyLimit defaultPrecision) z)
+    (λ κs a z e. TableInversionNumber
+    (badSpan (a .0 .span) ∷ inverseUses (a .0 .basis) (a .1 .0) (now (a .1 .1 .0)) (a .1 .1 .1 .0) steadyLimit defaultPrecision) z)
 table-spline-inverse-steady-number κs a z e p =
     by-places timedNumber T.Refused T.OffCurve timed-owed _ z refl refl (table-spline-inverse-steady-refuses κs a z e p)
 
@@ -220,7 +221,7 @@ c-table-spline-inverse-steady-one-reply κs a z z′ e e′ p q = (one (p .0) (q
 pub c-spline-inverse-steady-writes-nothing : Keeps c_spline_inverse_steady.Learnt
     (λ κs a z e. NotZero z → (now (e .1 .1 .1 .1 .0) ≡ now (a .1 .1 .1 .1 .0)) × ((z ≡ 11 → ⊥) → now (e .1 .1 .1 .1 .1 .0) ≡ now (a .1 .1 .1 .1 .1 .0)))
 c-spline-inverse-steady-writes-nothing κs a z e p h =
-    let f : Basis → Inverted = λ b. steadyOf b (a .1 .0) (now (a .1 .1 .0)) (a .1 .1 .1 .0) in
+    let f : Basis → Inversion = λ b. steadyOf b (a .1 .0) (now (a .1 .1 .0)) (a .1 .1 .1 .0) in
     let c = chosenOf (a .0) in (
       p .1 .0 ∙ place-kept c f (now (a .1 .1 .1 .1 .0)) (λ w. h (p .0 ∙ w)),
       λ g. p .1 .1
@@ -230,7 +231,7 @@ c-spline-inverse-steady-writes-nothing κs a z e p h =
 pub c-spline-inverse-segment-steady-writes-nothing : Keeps c_spline_inverse_segment_steady.Learnt
     (λ κs a z e. NotZero z → (now (e .1 .1 .1 .0) ≡ now (a .1 .1 .1 .0)) × ((z ≡ 11 → ⊥) → now (e .1 .1 .1 .1 .0) ≡ now (a .1 .1 .1 .1 .0)))
 c-spline-inverse-segment-steady-writes-nothing κs a z e p h =
-    let f : Basis → Inverted = λ b. steadySegmentOf b (a .1 .0) (now (a .1 .1 .0)) in
+    let f : Basis → Inversion = λ b. steadySegmentOf b (a .1 .0) (now (a .1 .1 .0)) in
     let c = chosenOf (a .0) in (
       p .1 .0 ∙ place-kept c f (now (a .1 .1 .1 .0)) (λ w. h (p .0 ∙ w)),
       λ g. p .1 .1
@@ -241,7 +242,7 @@ pub c-table-spline-inverse-steady-writes-nothing : Keeps c_table_spline_inverse_
     (λ κs a z e. NotZero z
     → (now (e .1 .1 .1 .1 .1 .0) ≡ now (a .1 .1 .1 .1 .1 .0)) × ((z ≡ 11 → ⊥) → now (e .1 .1 .1 .1 .1 .1 .0) ≡ now (a .1 .1 .1 .1 .1 .1 .0)))
 c-table-spline-inverse-steady-writes-nothing κs a z e p h =
-    let f : Basis → EndsBy → Method → Timed =
+    let f : Basis → EndsBy → Method → TableInversion =
     λ b n m. tableInverseBy n m (tableOf (a .1 .0) b) (a .1 .1 .0) (now (a .1 .1 .1 .0)) (a .1 .1 .1 .1 .0) steadyLimit defaultPrecision in
     let c = chosenOf (a .0) in
     let w = W.Known Knots Steady in (

@@ -17,8 +17,8 @@ use Rattle.basis.specs.declared.Basis.{Basis}
 use Rattle.basis.specs.declared.Basis.the-variants.{Power}
 use Rattle.basis.specs.Basis.{stepOf, segmentsOf}
 use Rattle.convert_matrix.specs.Elimination.{conversionOf}
-use Rattle.convert.specs.declared.Converted.{Converted}
-use Rattle.convert.specs.declared.Converted.the-variants as C
+use Rattle.convert.specs.declared.ConversionAnswer.{ConversionAnswer}
+use Rattle.convert.specs.declared.ConversionAnswer.the-variants as C
 use Rattle.convert.specs.Output.{windowOf}
 use Rattle.convert.specs.Conversion.{Conversion, gives, refuses, convertedOf}
 use Rattle.convert.specs.Buffer.{answerOf, bufferOf}
@@ -40,7 +40,7 @@ pub strict-one-reply : OneReply convert_spline_strict.Learnt (λ κs z e z′ e�
 strict-one-reply κs a z z′ e e′ p q = (p .0 ∙ sym (q .0), p .1 ∙ sym (q .1))
 
 -- an answer refuses exactly where the conversion does
-by-answer : (x : Conversion) (z : Converted) (r : Refusal) → z ≡ answerOf x → Exactly (z ≡ C.Refused r) (x ≡ refuses r)
+by-answer : (x : Conversion) (z : ConversionAnswer) (r : Refusal) → z ≡ answerOf x → Exactly (z ≡ C.Refused r) (x ≡ refuses r)
 by-answer (gives l) z r p = (λ h. never (cc), λ h. never (cc))
 by-answer (refuses q) z r p = (λ h. let s : q ≡ r = cc in ap refuses s, λ h. let s : q ≡ r = cc in p ∙ ap C.Refused s)
 

@@ -21,8 +21,8 @@ use Rattle.convert.specs.Buffer.{answerOf, bufferOf}
 use Rattle.convert_strict.specs.Strict.{strictUses, strictOf}
 use Rattle.convert_strict.proofs.Call.{SeamLost, strict-is-plain, lost-only, lost-where}
 use Rattle.table.specs.declared.Table.{Table}
-use Rattle.table.specs.declared.Handed.{Handed}
-use Rattle.table.specs.declared.Handed.the-variants as H
+use Rattle.table.specs.declared.TableConversion.{TableConversion}
+use Rattle.table.specs.declared.TableConversion.the-variants as H
 use Rattle.table.specs.Second.{goodSpan, badSpan}
 use Rattle.table.specs.Calls.{tableConvertedOf, tableStrictOf, handedOf}
 use Rattle.table.proofs.Spans.{converted-base, converted-spanless, strict-base, strict-spanless}
@@ -69,7 +69,8 @@ table-strict-writes-nothing κs a z e p r h =
     p .1 ∙ kept (a .0 .span) (a .1 .0) (tableStrictOf (a .0) (a .1 .0) (now (a .1 .1 .0)) (a .1 .1 .1 .0) (length out)) out r (sym (p .0) ∙ h)
 
 -- ---- an answer refuses exactly where the conversion does
-by-handing : (s : ℕ) (to : Basis) (x : Conversion) (z : Handed) (r : Refusal) → z ≡ handedOf s to (answerOf x) → Exactly (z ≡ H.Refused r) (x ≡ refuses r)
+by-handing : (s : ℕ) (to : Basis) (x : Conversion) (z : TableConversion) (r : Refusal) → z ≡ handedOf s to (answerOf x)
+    → Exactly (z ≡ H.Refused r) (x ≡ refuses r)
 by-handing s to (gives l) z r p = (λ h. never (cc), λ h. never (cc))
 by-handing s to (refuses q) z r p = (λ h. let e : q ≡ r = cc in ap refuses e, λ h. let e : q ≡ r = cc in p ∙ ap H.Refused e)
 

@@ -38,12 +38,12 @@ dropped (suc n) (x ∷ l) p = dropped n l (p .1)
 applied-fit : (m : Matrix) (cv : List Float) → Fit (applied m cv)
 applied-fit m cv = (add-fits binary64 _ _, (add-fits binary64 _ _, (add-fits binary64 _ _, (add-fits binary64 _ _, tt))))
 
-windows-fit : (m : Matrix) (step gap : ℕ) (ks : List Float) (n : ℕ) → Fit (windows m step gap ks n)
+windows-fit : (m : Matrix) (step stride : ℕ) (ks : List Float) (n : ℕ) → Fit (windows m step stride ks n)
 unfolding windows
-windows-fit m step gap ks zero = applied-fit m (drop (0 * step) ks)
-windows-fit m step gap ks (suc n) =
-    joined (windows m step gap ks n) (drop (4 - gap) (windowOf m step ks (suc n))) (windows-fit m step gap ks n)
-    (dropped (4 - gap) (windowOf m step ks (suc n)) (applied-fit m (drop (suc n * step) ks)))
+windows-fit m step stride ks zero = applied-fit m (drop (0 * step) ks)
+windows-fit m step stride ks (suc n) =
+    joined (windows m step stride ks n) (drop (4 - stride) (windowOf m step ks (suc n))) (windows-fit m step stride ks n)
+    (dropped (4 - stride) (windowOf m step ks (suc n)) (applied-fit m (drop (suc n * step) ks)))
 
 turned-fit : (b c : Basis) (ks : List Float) (room : ℕ) (l : List Float) → convertedOf b c ks room ≡ gives l → Fit l
 unfolding convertedOf splineOutput

@@ -13,16 +13,16 @@ use Rattle.error.specs.Refusals.{rows, first}
 use Rattle.error.proofs.First.{First}
 use Rattle.basis.specs.declared.Basis.{Basis}
 use Rattle.basis.specs.Basis.{segmentsOf}
-use Rattle.spline.specs.declared.Evaluated.the-variants.{Value}
+use Rattle.spline.specs.declared.Evaluation.the-variants.{Value}
 use Rattle.spline.specs.Curve.{curveValue}
 use Rattle.spline.specs.Evaluation.{splineOf}
 use Rattle.inverse_segment.specs.declared.Place.{Place}
-use Rattle.inverse_segment.specs.declared.Inverted.the-variants as I
+use Rattle.inverse_segment.specs.declared.Inversion.the-variants as I
 use Rattle.inverse_search.specs.Bound.{bitsOf}
 use Rattle.inverse.specs.Inverse.{inverseUses, inverseOf, inverseEvaluations}
-use Rattle.uneven.specs.declared.Sounded.{Sounded}
-use Rattle.uneven.specs.declared.Sounded.the-variants.{Refused, OffCurve, At}
-use Rattle.uneven.specs.declared.Named.the-variants.{Times, Depths}
+use Rattle.uneven.specs.declared.DepthAnswer.{DepthAnswer}
+use Rattle.uneven.specs.declared.DepthAnswer.the-variants.{Refused, OffCurve, At}
+use Rattle.uneven.specs.declared.WhichTable.the-variants.{Times, Depths}
 use Rattle.uneven.specs.Uneven.{depthUses, depthOf}
 use Rattle.uneven.proofs.Call.{
   countOf,
@@ -40,8 +40,8 @@ use Rattle.uneven.proofs.Call.{
   found-count,
 }
 use Rattle.uneven.proofs.depth_at.Reads as depth_at
-use Rattle.exports_reply.specs.declared.Chosen.{Chosen}
-use Rattle.exports_reply.specs.declared.Chosen.the-variants.{Known, Unknown}
+use Rattle.exports_reply.specs.declared.BasisChoice.{BasisChoice}
+use Rattle.exports_reply.specs.declared.BasisChoice.the-variants.{Known, Unknown}
 use Rattle.exports_reply.specs.Replies.{chosenOf, noBasis, chosen}
 use Rattle.exports_value.specs.Uneven.{soundedReply, depthLeft, depthPlaceLeft, depthWholeLeft}
 use Rattle.simmerstoat.proofs.hours.simmerstoat_depth_at.Reads as c_depth_at
@@ -60,7 +60,7 @@ pub depths-ordered : (tb : Basis) (n : ℕ) (db : Basis) (ds : List Float) → O
 depths-ordered tb n db ds = (refl, refl)
 
 -- ---- the arguments: both bases and tables, the target, the limit and the precision
-module _ (tb : Basis) (ts : List Float) (db : Basis) (ds : List Float) (y : Float) (limit : ℕ) (ε : Float) (z : Sounded) where
+module _ (tb : Basis) (ts : List Float) (db : Basis) (ds : List Float) (y : Float) (limit : ℕ) (ε : Float) (z : DepthAnswer) where
   -- what a reply promises
   pub record Sounds : Type 0 where
     -- the times refuse exactly where one of their rows applies, by the first
@@ -72,7 +72,7 @@ module _ (tb : Basis) (ts : List Float) (db : Basis) (ds : List Float) (y : Floa
     pub off : (n : ℕ) → Exactly (z ≡ OffCurve n) ((first (depthUses tb (length ts) db ds) ≡ Passed) × (inverseOf tb y ts true limit ε ≡ I.OffCurve n))
     pub off-made : (n : ℕ) → z ≡ OffCurve n → n ≡ length (inverseEvaluations tb y ts true limit ε)
     -- where both tables pass and the inversion finds a place: its record, the depths' value at its parameter, which is never refused, and one evaluation more
-    pub turn : first (depthUses tb (length ts) db ds) ≡ Passed → (p : Place) → inverseOf tb y ts true limit ε ≡ I.At p
+    pub both-calls : first (depthUses tb (length ts) db ds) ≡ Passed → (p : Place) → inverseOf tb y ts true limit ε ≡ I.At p
         → (splineOf db (p .parameter) ds ≡ Value (curveValue db (p .parameter) ds))
         × (z ≡ At (record { depth = curveValue db (p .parameter) ds; place = p; count = p .count + 1 }))
         × (p .count ≡ length (inverseEvaluations tb y ts true limit ε))
@@ -87,9 +87,9 @@ module _ (tb : Basis) (ts : List Float) (db : Basis) (ds : List Float) (y : Floa
         depths = λ r. (λ h. depths-only tb ts db ds y limit ε r (sym e ∙ h), λ f. e ∙ depths-where tb ts db ds y limit ε r f);
         off = λ n. (λ h. off-only tb ts db ds y limit ε n (sym e ∙ h), λ f. e ∙ off-where tb ts db ds y limit ε n f);
         off-made = λ n h. off-count tb ts db ds y limit ε n (off-only tb ts db ds y limit ε n (sym e ∙ h) .1);
-        turn = λ d p f. (depth-told tb ts db ds y limit ε d p f, e ∙ in-turn tb ts db ds y limit ε d p f, found-count tb ts db ds y limit ε p f);
-        few = λ h. subst (λ (s : Sounded). countOf s ≤ limit + 25) (sym e) (few-bounded tb ts db ds y limit ε h);
-        many = λ h. subst (λ (s : Sounded). countOf s ≤ limit + 2 * bitsOf (segmentsOf tb (length ts)) + 5) (sym e) (many-bounded tb ts db ds y limit ε h);
+        both-calls = λ d p f. (depth-told tb ts db ds y limit ε d p f, e ∙ in-turn tb ts db ds y limit ε d p f, found-count tb ts db ds y limit ε p f);
+        few = λ h. subst (λ (s : DepthAnswer). countOf s ≤ limit + 25) (sym e) (few-bounded tb ts db ds y limit ε h);
+        many = λ h. subst (λ (s : DepthAnswer). countOf s ≤ limit + 2 * bitsOf (segmentsOf tb (length ts)) + 5) (sym e) (many-bounded tb ts db ds y limit ε h);
       }
 
 pub depth-at-sounds : Keeps depth_at.Learnt
@@ -110,19 +110,19 @@ pub c-depth-at-one-reply : OneReply c_depth_at.Learnt
 c-depth-at-one-reply κs a z z′ e e′ p q = (p .0 ∙ sym (q .0), p .1 .0 ∙ sym (q .1 .0), p .1 .1 .0 ∙ sym (q .1 .1 .0), p .1 .1 .1 ∙ sym (q .1 .1 .1))
 
 -- what stays where the reply is such that Q holds of it
-stays : {A : Type 0} (Q : ℕ → Type 0) (c d : Chosen) (g : Basis → Basis → Sounded) (left : Sounded → A → A) (old : A)
-    → ((s : Sounded) → Q (soundedReply s) → left s old ≡ old)
+stays : {A : Type 0} (Q : ℕ → Type 0) (c d : BasisChoice) (g : Basis → Basis → DepthAnswer) (left : DepthAnswer → A → A) (old : A)
+    → ((s : DepthAnswer) → Q (soundedReply s) → left s old ≡ old)
     → Q (chosen c noBasis (λ t. chosen d noBasis (λ u. soundedReply (g t u)))) → chosen c old (λ t. chosen d old (λ u. left (g t u) old)) ≡ old
 stays Q Unknown d g left old h n = refl
 stays Q (Known b) Unknown g left old h n = refl
 stays Q (Known b) (Known c) g left old h n = h (g b c) n
 
-depth-stays : (old : Float) (s : Sounded) → NotZero (soundedReply s) → depthLeft s old ≡ old
+depth-stays : (old : Float) (s : DepthAnswer) → NotZero (soundedReply s) → depthLeft s old ≡ old
 depth-stays old (At d) h = absurd (h refl)
 depth-stays old (OffCurve n) h = refl
 depth-stays old (Refused t r) h = refl
 
-place-stays : (old : List Float) (s : Sounded) → NotZero (soundedReply s) → depthPlaceLeft s old ≡ old
+place-stays : (old : List Float) (s : DepthAnswer) → NotZero (soundedReply s) → depthPlaceLeft s old ≡ old
 place-stays old (At d) h = absurd (h refl)
 place-stays old (OffCurve n) h = refl
 place-stays old (Refused t r) h = refl
@@ -131,7 +131,7 @@ place-stays old (Refused t r) h = refl
 abbrev NotOff : ℕ → Type 0
 NotOff n = NotZero n × (n ≡ 11 → ⊥)
 
-whole-stays : (old : List ℕ) (s : Sounded) → NotOff (soundedReply s) → depthWholeLeft s old ≡ old
+whole-stays : (old : List ℕ) (s : DepthAnswer) → NotOff (soundedReply s) → depthWholeLeft s old ≡ old
 whole-stays old (At d) h = absurd (h .0 refl)
 whole-stays old (OffCurve n) h = absurd (h .1 refl)
 whole-stays old (Refused t r) h = refl
@@ -143,7 +143,7 @@ pub c-depth-at-writes-nothing : Keeps c_depth_at.Learnt
     × (now (e .1 .1 .1 .1 .1 .1 .1 .1 .0) ≡ now (a .1 .1 .1 .1 .1 .1 .1 .1 .0))
     × ((z ≡ 11 → ⊥) → now (e .1 .1 .1 .1 .1 .1 .1 .1 .1 .0) ≡ now (a .1 .1 .1 .1 .1 .1 .1 .1 .1 .0)))
 c-depth-at-writes-nothing κs a z e p h =
-    let g : Basis → Basis → Sounded =
+    let g : Basis → Basis → DepthAnswer =
     λ t d. depthOf t (now (a .1 .0)) d (now (a .1 .1 .1 .0)) (a .1 .1 .1 .1 .0) (a .1 .1 .1 .1 .1 .0) (a .1 .1 .1 .1 .1 .1 .0) in
     let c = chosenOf (a .0) in
     let d = chosenOf (a .1 .1 .0) in

@@ -17,7 +17,7 @@ use Rattle.error.proofs.First.{never}
 use Rattle.basis.specs.declared.Basis.{Basis}
 use Rattle.basis.specs.Basis.{stepOf, segmentsOf}
 use Rattle.doubles.proofs.Tests.{holds}
-use Rattle.spline.specs.declared.Evaluated.the-variants as E
+use Rattle.spline.specs.declared.Evaluation.the-variants as E
 use Rattle.checks.specs.Checks.{allInRange}
 use Rattle.spline.proofs.Finite.{Four, Small, Finite, joined, row-finite, knots-within}
 use Rattle.spline.proofs.Parts.{inside}
@@ -27,8 +27,8 @@ use Rattle.spline.proofs.spline_segment.Reads as spline_segment
 use Rattle.convert_matrix.specs.Matrix.{Matrix, row}
 use Rattle.convert_matrix.specs.Elimination.{conversionOf}
 use Rattle.convert_matrix.proofs.Inverses.{conversion-small}
-use Rattle.convert.specs.declared.Converted.{Converted}
-use Rattle.convert.specs.declared.Converted.the-variants as C
+use Rattle.convert.specs.declared.ConversionAnswer.{ConversionAnswer}
+use Rattle.convert.specs.declared.ConversionAnswer.the-variants as C
 use Rattle.convert.specs.Output.{segmentOutput, splineOutput, outputLength}
 use Rattle.convert.specs.Conversion.{Conversion, gives, refuses, unless, convertSegmentUses, convertUses, convertedSegmentOf, convertedOf}
 use Rattle.convert.specs.Buffer.{answerOf, bufferOf}
@@ -54,7 +54,7 @@ pub record Wrote (n need : ℕ) (out out′ : List Float) : Type 0 where
   pub all-finite : (i : ℕ) → i < n → T (finite (getD out′ i nan))
   pub beyond : (i : ℕ) → n ≤ i → getD out′ i nan ≡ getD out i nan
 
-wrote : (t : Conversion) (need : ℕ) (out out′ : List Float) (z : Converted) → z ≡ answerOf t → out′ ≡ bufferOf t out
+wrote : (t : Conversion) (need : ℕ) (out out′ : List Float) (z : ConversionAnswer) → z ≡ answerOf t → out′ ≡ bufferOf t out
     → ((l : List Float) → t ≡ gives l → (length l ≡ need) × (length l ≤ length out)) → ((l : List Float) → t ≡ gives l → Finite l)
     → (n : ℕ) → z ≡ C.Written n → Wrote n need out out′
 wrote (gives l) need out out′ z a b f g n h =

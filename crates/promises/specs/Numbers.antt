@@ -5,14 +5,14 @@ use Rattle.error.specs.declared.Refusal.the-variants as R
 use Rattle.error.specs.declared.Verdict.{Verdict}
 use Rattle.error.specs.declared.Verdict.the-variants.{Passed, Failed}
 use Rattle.error.specs.Refusals.{numberOf, Uses, first}
-use Rattle.claim.specs.declared.Claimed.{Claimed}
-use Rattle.claim.specs.declared.Claimed.the-variants as C
-use Rattle.table.specs.declared.Timed.{Timed}
-use Rattle.table.specs.declared.Timed.the-variants as T
-use Rattle.table.specs.declared.Handed.{Handed}
-use Rattle.table.specs.declared.Handed.the-variants as H
-use Rattle.uneven.specs.declared.Sounded.{Sounded}
-use Rattle.uneven.specs.declared.Sounded.the-variants as S
+use Rattle.claim.specs.declared.ClaimAnswer.{ClaimAnswer}
+use Rattle.claim.specs.declared.ClaimAnswer.the-variants as C
+use Rattle.table.specs.declared.TableInversion.{TableInversion}
+use Rattle.table.specs.declared.TableInversion.the-variants as T
+use Rattle.table.specs.declared.TableConversion.{TableConversion}
+use Rattle.table.specs.declared.TableConversion.the-variants as H
+use Rattle.uneven.specs.declared.DepthAnswer.{DepthAnswer}
+use Rattle.uneven.specs.declared.DepthAnswer.the-variants as S
 use Rattle.valve.specs.declared.Mixture.{Mixture}
 use Rattle.valve.specs.declared.Mixture.the-variants as M
 
@@ -34,17 +34,17 @@ abbrev pub numberByBoth : Uses → Uses → ℕ
 numberByBoth us vs = numberIn (eitherOf (first us) (first vs))
 
 -- ---- what a reply tells, where the crates have no word for it
-abbrev pub timedNumber : Timed → ℕ
+abbrev pub timedNumber : TableInversion → ℕ
 timedNumber (T.At p s) = 0
 timedNumber (T.OffCurve n) = numberOf R.OffCurve
 timedNumber (T.Refused r) = numberOf r
 
-abbrev pub handedNumber : Handed → ℕ
+abbrev pub handedNumber : TableConversion → ℕ
 handedNumber (H.On t n) = 0
 handedNumber (H.Refused r) = numberOf r
 
 -- whichever table refuses
-abbrev pub soundedNumber : Sounded → ℕ
+abbrev pub soundedNumber : DepthAnswer → ℕ
 soundedNumber (S.At d) = 0
 soundedNumber (S.OffCurve n) = numberOf R.OffCurve
 soundedNumber (S.Refused t r) = numberOf r
@@ -53,7 +53,7 @@ abbrev pub mixtureNumber : Mixture → ℕ
 mixtureNumber (M.Mixed z) = 0
 mixtureNumber (M.Refused r) = numberOf r
 
-abbrev pub claimedNumber : Claimed → ℕ
+abbrev pub claimedNumber : ClaimAnswer → ℕ
 claimedNumber C.Holds = 0
 claimedNumber C.Differs = 0
 claimedNumber (C.Refused r) = numberOf r

@@ -11,8 +11,8 @@ use lib.ListN.{length, take, drop, getD, set, length-drop}
 use lib.Seq.{take-all, take-suc-set, length-take-le}
 use lib.Ieee.{Float}
 use Rattle.basis.specs.declared.Basis.{Basis}
-use Rattle.text.specs.declared.Hexed.{Hexed}
-use Rattle.text.specs.declared.Hexed.the-variants as H
+use Rattle.text.specs.declared.HexNumber.{HexNumber}
+use Rattle.text.specs.declared.HexNumber.the-variants as H
 use Rattle.text.specs.Text.{tabOf}
 use Rattle.text_decimals.specs.Decimals.{MINUS, thousandthsOf}
 use Rattle.text_decimals.proofs.Digits.{thousandths-small}
@@ -22,7 +22,7 @@ use Rattle.sheet.specs.declared.Depth.the-variants.{Is, Nothing}
 use Rattle.error.specs.declared.Refusal.{Refusal}
 use Rattle.error.specs.declared.Refusal.the-variants.{TooMany}
 use Rattle.lines_machine.specs.Program.{widest, Line, so, over}
-use Rattle.lines_machine.specs.Held.{openOf}
+use Rattle.lines_machine.specs.Contract.{openOf}
 use Rattle.lines_record.specs.Record.{namedOf}
 use Rattle.error.specs.declared.Refusal.the-variants.{BadSheet}
 use Rattle.sheet.specs.Sheet.{Sheet, unbegun, on, faulty, most, signed, depthIn, depthLine, named, added, afterOf}
@@ -39,14 +39,14 @@ no-minus (b ∷ s) h = absurd (omega arith)
 below : (s : List ℕ) → 0 < length s → take (length s - 1) (drop 1 s) ≡ drop 1 s
 below s h = take-all (length s - 1) (drop 1 s) (rw length-drop (omega arith))
 
-pub minus-depth : (s : List ℕ) {r : Hexed} {t : Bool} → t ≡ eqb (getD s 0 0) MINUS → t ≡ true → r ≡ thousandthsOf (take (length s - 1) (drop 1 s))
+pub minus-depth : (s : List ℕ) {r : HexNumber} {t : Bool} → t ≡ eqb (getD s 0 0) MINUS → t ≡ true → r ≡ thousandthsOf (take (length s - 1) (drop 1 s))
     → signed true r ≡ depthIn s
 unfolding depthIn
 minus-depth s {r} {t} e f g =
     let m : eqb (getD s 0 0) MINUS ≡ true = sym e ∙ f in
     rw m (ap (signed true) (g ∙ ap thousandthsOf (below s (minus-some s m))))
 
-pub plain-depth : (s : List ℕ) {r : Hexed} {t : Bool} → t ≡ eqb (getD s 0 0) MINUS → t ≡ false → r ≡ thousandthsOf s → signed false r ≡ depthIn s
+pub plain-depth : (s : List ℕ) {r : HexNumber} {t : Bool} → t ≡ eqb (getD s 0 0) MINUS → t ≡ false → r ≡ thousandthsOf s → signed false r ≡ depthIn s
 unfolding depthIn
 plain-depth s {r} {t} e f g = rw (sym e ∙ f) (ap (signed false) g)
 
@@ -72,7 +72,7 @@ module _ (l : List ℕ) (t : ℕ) (is : t ≡ tabOf l) where
       e ∙ ap depthIn p ∙ rw (← is, lt-ltb t (length l) h, le-leb 1 t k, le-leb t 16 m) refl
 
 -- a depth that a line says has at most nine digits and three
-signed-small : (minus b : Bool) (r : Hexed) (s : List ℕ) (n : ℕ) → thousandthsOf s ≡ r → signed minus r ≡ Is b n → n ≤ 999999999999
+signed-small : (minus b : Bool) (r : HexNumber) (s : List ℕ) (n : ℕ) → thousandthsOf s ≡ r → signed minus r ≡ Is b n → n ≤ 999999999999
 signed-small minus b (H.Is k) s n e f = let z : k ≡ n = cc in thousandths-small s n (e ∙ ap H.Is z)
 signed-small minus b H.Nothing s n e f = never f
   where

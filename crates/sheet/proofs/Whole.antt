@@ -17,8 +17,8 @@ use Rattle.doubles.specs.Numbers.{nought}
 use Rattle.sheet_depth.specs.Depth.{greatest, depthOf}
 use Rattle.sheet_depth.specs.Nearest.{Nearer}
 use Rattle.sheet_depth.proofs.Decimal.{depth-nearest, zero-depth}
-use Rattle.lines_record.specs.declared.Named.{Named}
-use Rattle.lines_record.specs.declared.Named.the-variants as N
+use Rattle.lines_record.specs.declared.BasisName.{BasisName}
+use Rattle.lines_record.specs.declared.BasisName.the-variants as N
 use Rattle.lines_record.specs.Record.{namedOf}
 use Rattle.lines_machine.specs.Program.{linesOf, Line, so, over, lineOf, printsOf, outputOf}
 use Rattle.sheet.specs.declared.Depth.{Depth}
@@ -27,7 +27,7 @@ use Rattle.sheet.specs.Sheet.{Sheet, unbegun, on, faulty, most, depthLin
 use Rattle.sheet.proofs.Lines.{depth-small}
 
 -- ---- what a line says: a basis, or a depth; one that is too long says neither
-abbrev pub basisSaid : Line → Named
+abbrev pub basisSaid : Line → BasisName
 basisSaid (so l) = namedOf l
 basisSaid over = N.Nothing
 
@@ -170,7 +170,7 @@ unfolding sheetAfter
 read-only [] b xs e = let z : _≡_ {A = ℕ} 0 1 = cc in absurd (omega arith)
 read-only (l ∷ ls) b xs e = go (basisSaid (lineOf l)) refl (ap (λ (s : Sheet). sheetAfter s ls) (sym (first-line (lineOf l))) ∙ e)
   where
-    go : (n : Named) → basisSaid (lineOf l) ≡ n → sheetAfter (named n) ls ≡ on b xs → Admissible (l ∷ ls) b xs
+    go : (n : BasisName) → basisSaid (lineOf l) ≡ n → sheetAfter (named n) ls ≡ on b xs → Admissible (l ∷ ls) b xs
     go (N.Is c) p g =
         let q : Behind c [] ls b xs = behind c [] ls b xs (omega arith) g in
         record { top = l; rest = ls; lines = refl; name = p ∙ ap N.Is (q .basis); depths = rw (← q .all) (q .depths); few = q .few }
@@ -189,7 +189,7 @@ Fine (faulty r) = Fault r
 fine-after : (s : Sheet) (o : Line) → Fine s → Fine (afterOf s o)
 fine-after unbegun o f = rw (first-line o) (go (basisSaid o))
   where
-    go : (n : Named) → Fine (named n)
+    go : (n : BasisName) → Fine (named n)
     go (N.Is b) = tt
     go N.Nothing = malformed
 fine-after (on b ks) o f = rw (later-line b ks o) (go (depthSaid o))

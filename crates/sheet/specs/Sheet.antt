@@ -8,13 +8,13 @@ use lib.Ieee.{Float}
 use Rattle.basis.specs.declared.Basis.{Basis}
 use Rattle.error.specs.declared.Refusal.{Refusal}
 use Rattle.error.specs.declared.Refusal.the-variants.{TooMany, BadSheet}
-use Rattle.text.specs.declared.Hexed.{Hexed}
-use Rattle.text.specs.declared.Hexed.the-variants as H
+use Rattle.text.specs.declared.HexNumber.{HexNumber}
+use Rattle.text.specs.declared.HexNumber.the-variants as H
 use Rattle.text.specs.Text.{tabOf}
 use Rattle.text_decimals.specs.Decimals.{MINUS, thousandthsOf}
 use Rattle.sheet_depth.specs.Depth.{depthOf}
-use Rattle.lines_record.specs.declared.Named.{Named}
-use Rattle.lines_record.specs.declared.Named.the-variants as N
+use Rattle.lines_record.specs.declared.BasisName.{BasisName}
+use Rattle.lines_record.specs.declared.BasisName.the-variants as N
 use Rattle.lines_record.specs.Record.{namedOf}
 use Rattle.lines_reply.specs.Reply.{refused, curve, textOf}
 use Rattle.lines_machine.specs.Program.{Line, so, over, Program}
@@ -22,7 +22,7 @@ use Rattle.sheet.specs.declared.Depth.{Depth}
 use Rattle.sheet.specs.declared.Depth.the-variants.{Is, Nothing}
 
 -- ---- a depth line
-abbrev pub signed : Bool → Hexed → Depth
+abbrev pub signed : Bool → HexNumber → Depth
 signed minus (H.Is n) = Is minus n
 signed minus H.Nothing = Nothing
 
@@ -44,7 +44,7 @@ pub data Sheet : Type 0 where
 abbrev pub most : ℕ
 most = 4096
 
-abbrev pub named : Named → Sheet
+abbrev pub named : BasisName → Sheet
 named (N.Is b) = on b []
 named N.Nothing = faulty BadSheet
 

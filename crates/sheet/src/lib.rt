@@ -7,18 +7,18 @@ ghost use lib.Ieee.{Float};
 ghost use mathlib.Core.List.{List};
 ghost use Rattle.text_decimals.specs.Decimals.{MINUS};
 ghost use Rattle.text.specs.Wrote.{Wrote};
-ghost use Rattle.lines_reply.specs.Told.{longest};
+ghost use Rattle.lines_reply.specs.Contract.{longest};
 ghost use Rattle.lines_machine.specs.Program.{widest};
-ghost use Rattle.lines_machine.specs.Held.{openOf};
+ghost use Rattle.lines_machine.specs.Contract.{openOf};
 ghost use Rattle.sheet.specs.Sheet.{most, depthIn, depthLine, named, added, afterOf, endsOf};
-ghost use Rattle.sheet.specs.Held.{sheetOf, countOf};
+ghost use Rattle.sheet.specs.Contract.{sheetOf, countOf};
 ghost use Rattle.lines_record.specs.Record.{namedOf};
 use basis::Basis;
 use error::Refusal;
-use lines_record::Named;
-use lines_reply::Told;
+use lines_record::BasisName;
+use lines_reply::LineReply;
 use table::Table;
-use text::Hexed;
+use text::HexNumber;
 
 // What a line says of a depth: the sign and the thousandths, or nothing.
 pub enum Depth {
@@ -27,7 +27,7 @@ pub enum Depth {
 }
 
 // What is held of a sheet: no line yet; a basis and the number of depths so far; or why a line is at fault.
-pub enum Held {
+pub enum SheetState {
     Unbegun,
     On(Basis, usize),
     Faulty(Refusal),
@@ -46,12 +46,12 @@ fn depth_in(s: &[u8]) -> Depth
     ensures { λ r. ⌜ r ≡ depthIn (now (s .entry)) ⌝ }
 {
     if is_minus(s) {
-        let Hexed::Is(n) = text_decimals::thousandths(&s[1..]) else {
+        let HexNumber::Is(n) = text_decimals::thousandths(&s[1..]) else {
             return Depth::Nothing;
         };
         return Depth::Is(true, n);
     }
-    let Hexed::Is(n) = text_decimals::thousandths(s) else {
+    let HexNumber::Is(n) = text_decimals::thousandths(s) else {
         return Depth::Nothing;
     };
     Depth::Is(false, n)
@@ -75,66 +75,71 @@ fn depth_line(l: &[u8]) -> Depth
 }
 
 // The first line.
-fn first(l: &[u8]) -> Held
+fn first(l: &[u8]) -> SheetState
     ensures { λ r. ⌜ ((t : List Float) → sheetOf r t ≡ named (namedOf (now (l .entry)))) × (countOf r ≤ most) ⌝ }
 {
-    let Named::Is(b) = lines_record::basis_named(l) else {
-        return Held::Faulty(Refusal::BadSheet);
+    let BasisName::Is(b) = lines_record::basis_named(l) else {
+        return SheetState::Faulty(Refusal::BadSheet);
     };
-    Held::On(b, 0)
+    SheetState::On(b, 0)
 }
 
 // A depth, into the next place, if there is one.
-fn add(b: Basis, n: usize, l: &[u8], table: &mut [f64]) -> Held
+fn add(b: Basis, n: usize, l: &[u8], table: &mut [f64]) -> SheetState
     requires { ⌜ (n ≤ most) × (length (now table) ≡ most) ⌝ }
     ensures { λ r. ⌜ (sheetOf r (now (table .exit)) ≡ added b (take n (now (table .entry))) (depthLine (now (l .entry))))
         × (countOf r ≤ most) ⌝ }
 {
     let Depth::Is(minus, k) = depth_line(l) else {
-        return Held::Faulty(Refusal::BadSheet);
+        return SheetState::Faulty(Refusal::BadSheet);
     };
     if n < 4096 {
         table[n] = sheet_depth::depth(minus, k);
         let next = n + 1;
-        return Held::On(b, next);
+        return SheetState::On(b, next);
     }
-    Held::Faulty(Refusal::TooMany)
+    SheetState::Faulty(Refusal::TooMany)
 }
 
 // A line of len bytes, the first ones of the lent 64; 65 for one that is too long.
-pub fn line(h: Held, len: usize, line: &[u8], table: &mut [f64]) -> Held
+pub fn line(h: SheetState, len: usize, line: &[u8], table: &mut [f64]) -> SheetState
     requires { ⌜ (length (now line) ≡ widest) × (countOf h ≤ most) × (length (now table) ≡ most) ⌝ }
     ensures { λ r. ⌜ (sheetOf r (now (table .exit)) ≡ afterOf (sheetOf h (now (table .entry))) (openOf len (now (line .entry))))
         × (countOf r ≤ most) ⌝ }
 {
     match h {
-        Held::Unbegun => {
+        SheetState::Unbegun => {
             if len <= 64 {
                 return first(&line[0..len]);
             }
-            Held::Faulty(Refusal::BadSheet)
+            SheetState::Faulty(Refusal::BadSheet)
         }
-        Held::On(b, n) => {
+        SheetState::On(b, n) => {
             if len <= 64 {
                 return add(b, n, &line[0..len], table);
             }
-            Held::Faulty(Refusal::BadSheet)
+            SheetState::Faulty(Refusal::BadSheet)
         }
-        Held::Faulty(r) => Held::Faulty(r),
+        SheetState::Faulty(r) => SheetState::Faulty(r),
     }
 }
 
 // The end of the sheet: its records, or the refusal alone.
-pub fn end(h: Held, table: &[f64], out: &mut [u8], at: usize) -> usize
+pub fn end(h: SheetState, table: &[f64], out: &mut [u8], at: usize) -> usize
     requires { ⌜ (countOf h ≤ most) × (length (now table) ≡ most) × (at + longest ≤ length (now out)) ⌝ }
     ensures { λ r. ⌜ Wrote (now (out .entry)) at (endsOf (sheetOf h (now (table .entry)))) (now (out .exit)) r × (r ≤ at + longest) ⌝ }
 {
     match h {
-        Held::Unbegun => lines_reply::put_reply(Told::Refused(Refusal::BadSheet), table, out, at),
-        Held::On(b, n) => {
+        SheetState::Unbegun => lines_reply::put_reply(
+            LineReply::Refused(Refusal::BadSheet),
+            table,
+            out,
+            at,
+        ),
+        SheetState::On(b, n) => {
             let bare = Table { basis: b, span: 0 };
-            lines_reply::put_reply(Told::Curve(bare, n), table, out, at)
+            lines_reply::put_reply(LineReply::Curve(bare, n), table, out, at)
         }
-        Held::Faulty(r) => lines_reply::put_reply(Told::Refused(r), table, out, at),
+        SheetState::Faulty(r) => lines_reply::put_reply(LineReply::Refused(r), table, out, at),
     }
 }

@@ -17,7 +17,7 @@ ghost use Rattle.exports_table.specs.Tables.{
   handedSpan,
   handedLength,
 };
-use exports_reply::Chosen;
+use exports_reply::BasisChoice;
 
 // A curve's value; with a good span it is the curve's own export that tells it.
 #[no_mangle]
@@ -37,7 +37,7 @@ pub extern "C" fn simmerstoat_table_spline(
         return crate::simmerstoat_spline(basis, x, knots, value);
     }
     let c = exports_reply::basis_of(basis);
-    let Chosen::Known(b) = c else {
+    let BasisChoice::Known(b) = c else {
         return 255;
     };
     error::reply(table::without_span(b, knots.len()))

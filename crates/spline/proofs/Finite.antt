@@ -13,8 +13,8 @@ use Rattle.basis.specs.declared.Basis.the-variants.{Bspline, Bezier, CatmullRom
 use Rattle.basis.specs.Basis.{matrixOf}
 use Rattle.doubles.specs.Numbers.{nought, one}
 use Rattle.doubles.proofs.Bounds.{Size, Within, times, plus, between-within, unit-within}
-use Rattle.spline.specs.declared.Weights.{Weights}
-use Rattle.spline.specs.Segment.{rowSum, rowSteps, hornerOf, hornerSteps, weightsOf, segmentValue, segmentSteps}
+use Rattle.spline.specs.declared.RowSums.{RowSums}
+use Rattle.spline.specs.Segment.{rowSum, rowSteps, hornerOf, hornerSteps, rowSumsOf, segmentValue, segmentSteps}
 use Rattle.checks.specs.Checks.{bound, inRange, allInRange}
 
 -- ---- the knots: four doubles within 2 ^ a
@@ -137,7 +137,7 @@ row-finite a cv r h k e =
       steps = more p0 (more p1 (more s1 (more p2 (more s2 (more p3 (more s3 none))))));
     }
 
-horner-finite : (w : Weights) {t : Float} → Within 0 t → Within 46 (w .w0) → Within 46 (w .w1) → Within 46 (w .w2) → Within 46 (w .w3)
+horner-finite : (w : RowSums) {t : Float} → Within 0 t → Within 46 (w .w0) → Within 46 (w .w1) → Within 46 (w .w2) → Within 46 (w .w3)
     → Within 49 (hornerOf w t) × Finite (hornerSteps w t)
 unfolding hornerSteps
 horner-finite w u x0 x1 x2 x3 =
@@ -159,5 +159,5 @@ segment-finite b cv t k l h =
     let q = row-finite 3 cv (getD m 1 []) (lit≤ tt) k (s .r1) in
     let r = row-finite 3 cv (getD m 2 []) (lit≤ tt) k (s .r2) in
     let z = row-finite 3 cv (getD m 3 []) (lit≤ tt) k (s .r3) in
-    let v = horner-finite (weightsOf m cv) (unit-within t l h) (p .within) (q .within) (r .within) (z .within) in
+    let v = horner-finite (rowSumsOf m cv) (unit-within t l h) (p .within) (q .within) (r .within) (z .within) in
     (v .0, joined (joined (joined (joined (p .steps) (q .steps)) (r .steps)) (z .steps)) (v .1))

@@ -11,10 +11,10 @@ use Rattle.basis.specs.declared.Basis.{Basis}
 use Rattle.basis.specs.Basis.{stepOf, segmentsOf, matrixOf}
 use Rattle.doubles.specs.Numbers.{clamp}
 use Rattle.doubles.specs.Whole.{double, wholeUpTo}
-use Rattle.spline.specs.Segment.{weightsOf, hornerOf, segmentValue}
+use Rattle.spline.specs.Segment.{rowSumsOf, hornerOf, segmentValue}
 use Rattle.spline.specs.Curve.{curveValue}
-use Rattle.spline.specs.Shown.{Spotted}
-use Rattle.spline.specs.declared.Weights.{Weights}
+use Rattle.spline.specs.Contract.{IsSpot}
+use Rattle.spline.specs.declared.RowSums.{RowSums}
 
 -- the part from i on
 pub rest : (i : ℕ) (ks : List Float) → take (length ks - i) (drop i ks) ≡ drop i ks
@@ -29,29 +29,29 @@ few n step h = le-trans (div-le-self (n - 4) step) (omega arith)
 
 -- where a parameter lies
 pub spotted : (k : ℕ) (x : Float) {q kd sd : Float} {s : ℕ} → 0 < k → q ≡ clamp x → kd ≡ double k → s ≡ wholeUpTo (k - 1) (mul binary64 q kd) → s ≤ k - 1
-    → sd ≡ double s → Spotted k x s (sub binary64 (mul binary64 q kd) sd)
+    → sd ≡ double s → IsSpot k x s (sub binary64 (mul binary64 q kd) sd)
 spotted k x K a b c h d = record { segment = c ∙ simp (a, b); local = simp (d, c, b, a); below = omega arith }
 
-pub under : {d k s : ℕ} {x t : Float} → k ≡ d + 1 → Spotted k x s t → s ≤ d
+pub under : {d k s : ℕ} {x t : Float} → k ≡ d + 1 → IsSpot k x s t → s ≤ d
 under e v = let h = v .below in omega (arith, e)
 
 -- the segment where a parameter lies has four knots
-pub starts : (b : Basis) (n : ℕ) {k step s : ℕ} {x t : Float} → 4 ≤ n → k ≡ segmentsOf b n → step ≡ stepOf b → Spotted k x s t → s * step + 4 ≤ n
+pub starts : (b : Basis) (n : ℕ) {k step s : ℕ} {x t : Float} → 4 ≤ n → k ≡ segmentsOf b n → step ≡ stepOf b → IsSpot k x s t → s * step + 4 ≤ n
 starts b n {k} {step} {s} h c e v =
     let i : s * stepOf b ≤ n - 4 = inside s (stepOf b) (n - 4) (under c v) in
     subst (λ (j : ℕ). s * j + 4 ≤ n) (sym e) (omega (arith, i))
 
 -- a curve's value, from what its steps come to
-pub put-together : (b : Basis) (x : Float) (ks : List Float) {k step s : ℕ} {r t : Float} {w : Weights} → k ≡ segmentsOf b (length ks) → step ≡ stepOf b
-    → Spotted k x s t
-    → w ≡ weightsOf (matrixOf b) (take (length ks - s * step) (drop (s * step) ks)) → r ≡ hornerOf w t → r ≡ curveValue b x ks
+pub put-together : (b : Basis) (x : Float) (ks : List Float) {k step s : ℕ} {r t : Float} {w : RowSums} → k ≡ segmentsOf b (length ks) → step ≡ stepOf b
+    → IsSpot k x s t
+    → w ≡ rowSumsOf (matrixOf b) (take (length ks - s * step) (drop (s * step) ks)) → r ≡ hornerOf w t → r ≡ curveValue b x ks
 unfolding curveValue
-put-together b x ks {k} {step} {s} {r} {t} c e u h f = let v = subst (λ (j : ℕ). Spotted j x s t) c u in f ∙ simp (h, rest, e, v .segment, v .local)
+put-together b x ks {k} {step} {s} {r} {t} c e u h f = let v = subst (λ (j : ℕ). IsSpot j x s t) c u in f ∙ simp (h, rest, e, v .segment, v .local)
 
 -- a segment's value, where the basis is known
-pub by-basis-segment : (b c : Basis) (m : List (List Float)) (cv : List Float) (t : Float) {w : Weights} {r : Float} → b ≡ c → m ≡ matrixOf c
-    → w ≡ weightsOf m cv → r ≡ hornerOf w t → r ≡ segmentValue (matrixOf b) cv t
+pub by-basis-segment : (b c : Basis) (m : List (List Float)) (cv : List Float) (t : Float) {w : RowSums} {r : Float} → b ≡ c → m ≡ matrixOf c
+    → w ≡ rowSumsOf m cv → r ≡ hornerOf w t → r ≡ segmentValue (matrixOf b) cv t
 by-basis-segment b c m cv t e k h f =
     f
-    ∙ (ap (λ (w : Weights). hornerOf w t) h
+    ∙ (ap (λ (w : RowSums). hornerOf w t) h
     ∙ (ap (λ (n : List (List Float)). segmentValue n cv t) k ∙ ap (λ (d : Basis). segmentValue (matrixOf d) cv t) (sym e)))

@@ -21,7 +21,7 @@ use Rattle.doubles.proofs.Tests.{holds, fails}
 use Rattle.doubles.proofs.Bounds.{Within, InOne, times, within-finite, clamp-in, clamp-within, unit-within, whole-within}
 use Rattle.doubles.proofs.LocalPart.{local-in}
 use Rattle.doubles.proofs.WholePart.{whole-le}
-use Rattle.spline.specs.declared.Evaluated.the-variants.{Value}
+use Rattle.spline.specs.declared.Evaluation.the-variants.{Value}
 use Rattle.spline.specs.Segment.{segmentSteps}
 use Rattle.spline.specs.Curve.{scaled, segmentAt, localAt, curveValue}
 use Rattle.spline.specs.Evaluation.{splineUses, splineSegmentUses, evaluated, splineOf, splineSegmentOf}

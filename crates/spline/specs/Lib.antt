@@ -1,4 +1,4 @@
 pub mod Segment
 pub mod Curve
 pub mod Evaluation
-pub mod Shown
+pub mod Contract

@@ -5,7 +5,7 @@ use lib.ListN.{getD, drop}
 use lib.Ieee.{Float, nan, binary64, add, mul}
 use Rattle.basis.specs.declared.Basis.{Basis}
 use Rattle.basis.specs.Basis.{stepOf, matrixOf}
-use Rattle.spline.specs.declared.Weights.{Weights}
+use Rattle.spline.specs.declared.RowSums.{RowSums}
 
 -- c0·m0 + c1·m1 + c2·m2 + c3·m3
 abbrev pub rowSum : List Float → List Float → Float
@@ -19,16 +19,16 @@ rowSum cv r =
     (mul binary64 (getD cv 3 nan) (getD r 3 nan))
 
 -- the four row sums w0 to w3
-abbrev pub weightsOf : List (List Float) → List Float → Weights
-weightsOf m cv =
+abbrev pub rowSumsOf : List (List Float) → List Float → RowSums
+rowSumsOf m cv =
     record { w0 = rowSum cv (getD m 0 []); w1 = rowSum cv (getD m 1 []); w2 = rowSum cv (getD m 2 []); w3 = rowSum cv (getD m 3 []) }
 
 -- ((w0·t + w1)·t + w2)·t + w3
-abbrev pub hornerOf : Weights → Float → Float
+abbrev pub hornerOf : RowSums → Float → Float
 hornerOf w t = add binary64 (mul binary64 (add binary64 (mul binary64 (add binary64 (mul binary64 (w .w0) t) (w .w1)) t) (w .w2)) t) (w .w3)
 
 abbrev pub segmentValue : List (List Float) → List Float → Float → Float
-segmentValue m cv t = hornerOf (weightsOf m cv) t
+segmentValue m cv t = hornerOf (rowSumsOf m cv) t
 
 -- segment s is the four knots from place s × STEP onward
 abbrev pub segmentOf : Basis → List Float → ℕ → Float → Float
@@ -43,7 +43,7 @@ rowSteps cv r =
     let p3 = mul binary64 (getD cv 3 nan) (getD r 3 nan) in
     p0 ∷ p1 ∷ add binary64 p0 p1 ∷ p2 ∷ add binary64 (add binary64 p0 p1) p2 ∷ p3 ∷ rowSum cv r ∷ []
 
-unfoldable pub hornerSteps : Weights → Float → List Float
+unfoldable pub hornerSteps : RowSums → Float → List Float
 hornerSteps w t =
     let a = mul binary64 (w .w0) t in
     let b = add binary64 a (w .w1) in
@@ -55,4 +55,4 @@ hornerSteps w t =
 unfoldable pub segmentSteps : List (List Float) → List Float → Float → List Float
 segmentSteps m cv t =
     rowSteps cv (getD m 0 []) ++ rowSteps cv (getD m 1 []) ++ rowSteps cv (getD m 2 []) ++ rowSteps cv (getD m 3 []) ++ hornerSteps
-    (weightsOf m cv) t
+    (rowSumsOf m cv) t

@@ -5,7 +5,7 @@ ghost use lib.ListN.{length};
 ghost use Rattle.basis.specs.Basis.{matrixOf};
 ghost use Rattle.spline.specs.Segment.{segmentValue};
 ghost use Rattle.spline.specs.Curve.{curveValue};
-ghost use Rattle.spline.specs.Shown.{Spotted};
+ghost use Rattle.spline.specs.Contract.{IsSpot};
 use basis::Basis;
 
 // A segment, and the local place in it.
@@ -17,7 +17,7 @@ pub struct Spot {
 // Where a parameter lies on a curve of k segments.
 fn place(k: usize, x: f64) -> Spot
     requires { ⌜ (0 < k) × (k ≤ 4096) ⌝ }
-    ensures { λ r. ⌜ Spotted k x (r .s) (r .t) ⌝ }
+    ensures { λ r. ⌜ IsSpot k x (r .s) (r .t) ⌝ }
 {
     let p = doubles::clamped(x) * doubles::whole::double_of(k);
     let s = doubles::whole::whole_up_to(k - 1, p);

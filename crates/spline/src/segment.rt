@@ -3,19 +3,19 @@ ghost use mathlib.Core.Path.{_≡_};
 ghost use Prim.Native.Nat.{_≤_};
 ghost use lib.ListN.{length};
 ghost use Rattle.basis.specs.Basis.{matrixOf};
-ghost use Rattle.spline.specs.Segment.{weightsOf, hornerOf, segmentValue};
-use crate::Weights;
+ghost use Rattle.spline.specs.Segment.{rowSumsOf, hornerOf, segmentValue};
+use crate::RowSums;
 use basis::Basis;
 
-pub fn sums(m: [[f64; 4]; 4], cv: &[f64]) -> Weights
+pub fn sums(m: [[f64; 4]; 4], cv: &[f64]) -> RowSums
     requires { ⌜ 4 ≤ length (now cv) ⌝ }
-    ensures { λ r. ⌜ r ≡ weightsOf m (now (cv .entry)) ⌝ }
+    ensures { λ r. ⌜ r ≡ rowSumsOf m (now (cv .entry)) ⌝ }
 {
     let c0 = cv[0];
     let c1 = cv[1];
     let c2 = cv[2];
     let c3 = cv[3];
-    Weights {
+    RowSums {
         w0: c0 * m[0][0] + c1 * m[0][1] + c2 * m[0][2] + c3 * m[0][3],
         w1: c0 * m[1][0] + c1 * m[1][1] + c2 * m[1][2] + c3 * m[1][3],
         w2: c0 * m[2][0] + c1 * m[2][1] + c2 * m[2][2] + c3 * m[2][3],
@@ -23,16 +23,16 @@ pub fn sums(m: [[f64; 4]; 4], cv: &[f64]) -> Weights
     }
 }
 
-pub fn horner(w: Weights, t: f64) -> f64
+pub fn horner(w: RowSums, t: f64) -> f64
     ensures { λ r. ⌜ r ≡ hornerOf w t ⌝ }
 {
     ((w.w0 * t + w.w1) * t + w.w2) * t + w.w3
 }
 
 // A match on the basis, so that each matrix is known where it is used.
-pub fn weights(b: Basis, cv: &[f64]) -> Weights
+pub fn row_sums(b: Basis, cv: &[f64]) -> RowSums
     requires { ⌜ 4 ≤ length (now cv) ⌝ }
-    ensures { λ r. ⌜ r ≡ weightsOf (matrixOf b) (now (cv .entry)) ⌝ }
+    ensures { λ r. ⌜ r ≡ rowSumsOf (matrixOf b) (now (cv .entry)) ⌝ }
 {
     match b {
         Basis::Bspline => sums(basis::basis_macros::bspline(), cv),

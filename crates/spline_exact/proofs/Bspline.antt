@@ -11,7 +11,7 @@ use Rattle.basis.specs.declared.Basis.the-variants.{Bspline}
 use Rattle.basis.specs.Basis.{matrixOf, wholeOf}
 use Rattle.doubles.specs.Numbers.{nought, one}
 use Rattle.doubles.specs.Number.{signed, Number}
-use Rattle.spline.specs.declared.Evaluated.the-variants.{Value}
+use Rattle.spline.specs.declared.Evaluation.the-variants.{Value}
 use Rattle.spline.specs.Segment.{segmentValue}
 use Rattle.checks.specs.Checks.{inRange, allInRange, firstBad}
 use Rattle.spline.specs.Evaluation.{splineSegmentOf}

@@ -1,4 +1,4 @@
 mod Horner
 pub mod Segment
-pub mod Calls
+pub mod Call
 pub mod Bspline

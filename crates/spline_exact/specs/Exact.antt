@@ -10,8 +10,8 @@ use Rattle.basis.specs.declared.Basis.{Basis}
 use Rattle.basis.specs.declared.Basis.the-variants.{Bspline, Bezier, CatmullRom, Hermite, Linear, Power}
 use Rattle.basis.specs.Basis.{wholeOf, divisorOf}
 use Rattle.doubles.specs.Number.{Number}
-use Rattle.spline.specs.declared.Evaluated.{Evaluated}
-use Rattle.spline.specs.declared.Evaluated.the-variants.{Value}
+use Rattle.spline.specs.declared.Evaluation.{Evaluation}
+use Rattle.spline.specs.declared.Evaluation.the-variants.{Value}
 use Rattle.spline_exact.specs.Cubic.{at, cubic}
 
 -- the five; a B-spline's matrix has sixths, which are no doubles
@@ -49,7 +49,7 @@ pub record WholeKnots (ks : List Float) (z : List ℤ) : Type 0 where
   pub small : (i : ℕ) → i < length ks → natAbs (at z i) ≤ 2 ^ 20
 
 -- a value is answered, and 2^25 times it is the whole number z
-pub record Answers (r : Evaluated) (z : ℤ) : Type 0 where
+pub record Answers (r : Evaluation) (z : ℤ) : Type 0 where
   pub value : Float
   pub told : r ≡ Value value
   pub exact : Number value z parts

@@ -12,7 +12,7 @@ use Rattle.basis.specs.declared.Basis.{Basis}
 use Rattle.basis.specs.Basis.{regular}
 use Rattle.convert.specs.Conversion.{Conversion, gives, refuses, unless, convertUses, convertedOf}
 use Rattle.convert.specs.Buffer.{answerOf, bufferOf}
-use Rattle.convert.specs.declared.Converted.{Converted}
+use Rattle.convert.specs.declared.ConversionAnswer.{ConversionAnswer}
 use Rattle.convert_strict.specs.Strict.{strictUses, strictOf}
 use Rattle.error.specs.declared.Refusal.{Refusal}
 use Rattle.error.specs.declared.Refusal.the-variants.{TooFew, BadPattern, TooMany, BadSpan}
@@ -24,15 +24,15 @@ use Rattle.error.proofs.Orders.{orderOf}
 use Rattle.inverse.specs.declared.EndsBy.{EndsBy}
 use Rattle.inverse.specs.Inverse.{inverseUses, inverseBy}
 use Rattle.inverse_segment.specs.Answer.{inverted}
-use Rattle.inverse_segment.specs.declared.Inverted.{Inverted}
+use Rattle.inverse_segment.specs.declared.Inversion.{Inversion}
 use Rattle.inverse_methods.specs.declared.Method.{Method}
 use Rattle.spline.specs.Evaluation.{evaluated, splineUses, splineOf}
 use Rattle.checks.specs.Checks.{curveLength}
-use Rattle.spline.specs.declared.Evaluated.the-variants as E
+use Rattle.spline.specs.declared.Evaluation.the-variants as E
 use Rattle.table.specs.declared.Table.{Table}
-use Rattle.table.specs.declared.Timed.the-variants as T
-use Rattle.table.specs.declared.Handed.{Handed}
-use Rattle.table.specs.declared.Handed.the-variants as H
+use Rattle.table.specs.declared.TableInversion.the-variants as T
+use Rattle.table.specs.declared.TableConversion.{TableConversion}
+use Rattle.table.specs.declared.TableConversion.the-variants as H
 use Rattle.table.specs.Second.{day, goodSpan, badSpan}
 use Rattle.table.specs.Calls.{
   verdictOf,
@@ -123,7 +123,7 @@ unfolding tableSplineOf
 spline-spanless t x ks r g e = rw (bad-verdict t (length ks) _ r g e) refl
 
 -- ---- inversion
-timed-again : (v : Verdict) (s : ℕ) (a : Inverted) → timedUnless v (timedOf s (inverted v a)) ≡ timedOf s (inverted v a)
+timed-again : (v : Verdict) (s : ℕ) (a : Inversion) → timedUnless v (timedOf s (inverted v a)) ≡ timedOf s (inverted v a)
 timed-again Passed s a = refl
 timed-again (Failed r) s a = refl
 
@@ -170,10 +170,11 @@ module _ (t : Table) (to : Basis) (ks : List Float) (allowance : Float) (room : 
 
 -- what both conversions tell: the base's answer handed on, and its buffer; or the refusal, and the buffer as it was
 module _ (span : ℕ) (to : Basis) (out : List Float) (x : Conversion) where
-  abbrev Tells : Handed → List Float → Type 0
+  abbrev Tells : TableConversion → List Float → Type 0
   Tells a o = (a ≡ handedOf span to (answerOf x)) × (o ≡ bufferOf x out)
 
-  pub tells-base : (y : Conversion) {c : Converted} {a : Handed} {o : List Float} → x ≡ y → a ≡ handedOf span to c → c ≡ answerOf y → o ≡ bufferOf y out
+  pub tells-base : (y : Conversion) {c : ConversionAnswer} {a : TableConversion} {o : List Float} → x ≡ y → a ≡ handedOf span to c → c ≡ answerOf y
+      → o ≡ bufferOf y out
       → Tells a o
   tells-base y e p q b = (p ∙ ap (handedOf span to) (q ∙ ap answerOf (sym e)), b ∙ ap (λ (c : Conversion). bufferOf c out) (sym e))
 

@@ -5,8 +5,8 @@ use mathlib.Core.List.{List, _∷_}
 use Prim.Native.Nat.{ℕ}
 use lib.Ieee.{Float}
 use Rattle.basis.specs.declared.Basis.{Basis}
-use Rattle.convert.specs.declared.Converted.{Converted}
-use Rattle.convert.specs.declared.Converted.the-variants as C
+use Rattle.convert.specs.declared.ConversionAnswer.{ConversionAnswer}
+use Rattle.convert.specs.declared.ConversionAnswer.the-variants as C
 use Rattle.convert.specs.Conversion.{Conversion, refuses, convertUses, convertedOf}
 use Rattle.convert_strict.specs.Strict.{strictUses, strictOf}
 use Rattle.error.specs.declared.Verdict.{Verdict}
@@ -15,20 +15,20 @@ use Rattle.error.specs.Refusals.{Uses, first}
 use Rattle.inverse.specs.declared.EndsBy.{EndsBy}
 use Rattle.inverse.specs.declared.EndsBy.the-variants.{Knots}
 use Rattle.inverse.specs.Inverse.{inverseUses, inverseBy}
-use Rattle.inverse_segment.specs.declared.Inverted.{Inverted}
-use Rattle.inverse_segment.specs.declared.Inverted.the-variants as I
+use Rattle.inverse_segment.specs.declared.Inversion.{Inversion}
+use Rattle.inverse_segment.specs.declared.Inversion.the-variants as I
 use Rattle.inverse_segment.specs.Answer.{defaultPrecision}
 use Rattle.inverse_methods.specs.declared.Method.{Method}
 use Rattle.inverse_methods.specs.declared.Method.the-variants.{Steady}
 use Rattle.inverse_methods.specs.Method.{steadyLimit}
 use Rattle.spline.specs.Evaluation.{splineUses, splineOf}
-use Rattle.spline.specs.declared.Evaluated.{Evaluated}
-use Rattle.spline.specs.declared.Evaluated.the-variants as E
+use Rattle.spline.specs.declared.Evaluation.{Evaluation}
+use Rattle.spline.specs.declared.Evaluation.the-variants as E
 use Rattle.table.specs.declared.Table.{Table}
-use Rattle.table.specs.declared.Timed.{Timed}
-use Rattle.table.specs.declared.Timed.the-variants as T
-use Rattle.table.specs.declared.Handed.{Handed}
-use Rattle.table.specs.declared.Handed.the-variants as H
+use Rattle.table.specs.declared.TableInversion.{TableInversion}
+use Rattle.table.specs.declared.TableInversion.the-variants as T
+use Rattle.table.specs.declared.TableConversion.{TableConversion}
+use Rattle.table.specs.declared.TableConversion.the-variants as H
 use Rattle.table.specs.Second.{badSpan, secondOf}
 
 -- whether a row applies to a call on a table
@@ -36,31 +36,31 @@ abbrev pub verdictOf : Table → Uses → Verdict
 verdictOf t us = first (badSpan (t .span) ∷ us)
 
 -- ---- evaluation
-abbrev pub valueUnless : Verdict → Evaluated → Evaluated
+abbrev pub valueUnless : Verdict → Evaluation → Evaluation
 valueUnless Passed a = a
 valueUnless (Failed r) a = E.Refused r
 
-unfoldable pub tableSplineOf : Table → Float → List Float → Evaluated
+unfoldable pub tableSplineOf : Table → Float → List Float → Evaluation
 tableSplineOf t x ks = valueUnless (verdictOf t (splineUses (t .basis) x ks)) (splineOf (t .basis) x ks)
 
 -- ---- inversion
 -- the answer of the call without a span, with the second of its place
-abbrev pub timedOf : ℕ → Inverted → Timed
+abbrev pub timedOf : ℕ → Inversion → TableInversion
 timedOf span (I.Refused r) = T.Refused r
 timedOf span (I.OffCurve n) = T.OffCurve n
 timedOf span (I.At p) = T.At p (secondOf span (p .parameter))
 
-abbrev pub timedUnless : Verdict → Timed → Timed
+abbrev pub timedUnless : Verdict → TableInversion → TableInversion
 timedUnless Passed a = a
 timedUnless (Failed r) a = T.Refused r
 
-unfoldable pub tableInverseBy : EndsBy → Method → Table → Float → List Float → Bool → ℕ → Float → Timed
+unfoldable pub tableInverseBy : EndsBy → Method → Table → Float → List Float → Bool → ℕ → Float → TableInversion
 tableInverseBy m how t y ks check limit ε =
     timedUnless (verdictOf t (inverseUses (t .basis) y ks check limit ε))
     (timedOf (t .span) (inverseBy m how (t .basis) y ks check limit ε))
 
 -- by the knots and by the steady method, with its defaults
-abbrev pub tableSteadyOf : Table → Float → List Float → Bool → Timed
+abbrev pub tableSteadyOf : Table → Float → List Float → Bool → TableInversion
 tableSteadyOf t y ks check = tableInverseBy Knots Steady t y ks check steadyLimit defaultPrecision
 
 -- ---- conversion
@@ -77,6 +77,6 @@ tableStrictOf t to ks allowance room =
     conversionUnless (verdictOf t (strictUses (t .basis) to ks allowance room)) (strictOf (t .basis) to ks allowance room)
 
 -- the new table has the old one's span
-abbrev pub handedOf : ℕ → Basis → Converted → Handed
+abbrev pub handedOf : ℕ → Basis → ConversionAnswer → TableConversion
 handedOf span to (C.Written n) = H.On (record { basis = to; span = span }) n
 handedOf span to (C.Refused r) = H.Refused r

@@ -14,15 +14,15 @@ ghost use Rattle.checks.specs.Checks.{curveLength};
 ghost use Rattle.table.specs.Second.{goodSpan, secondsOf, secondsIn};
 ghost use Rattle.table.specs.Calls.{timedOf, tableSplineOf, tableInverseBy, tableSteadyOf, tableConvertedOf, tableStrictOf, handedOf};
 use basis::Basis;
-use convert::Converted;
+use convert::ConversionAnswer;
 use error::Refusal;
 use error::Verdict;
 use inverse::EndsBy;
 use inverse::Options;
 use inverse_methods::Method;
-use inverse_segment::Inverted;
+use inverse_segment::Inversion;
 use inverse_segment::Place;
-use spline::Evaluated;
+use spline::Evaluation;
 
 pub mod second;
 
@@ -39,14 +39,14 @@ pub enum Seconds {
 }
 
 // An inversion's answer; a place comes with its second.
-pub enum Timed {
+pub enum TableInversion {
     Refused(Refusal),
     OffCurve(usize),
     At(Place, u32),
 }
 
 // A conversion's answer: the new table, and how many knots it has.
-pub enum Handed {
+pub enum TableConversion {
     Refused(Refusal),
     On(Table, usize),
 }
@@ -79,7 +79,7 @@ pub fn without_span(b: Basis, n: usize) -> Refusal
 }
 
 // The curve at x.
-pub fn table_spline(t: Table, x: f64, knots: &[f64]) -> Evaluated
+pub fn table_spline(t: Table, x: f64, knots: &[f64]) -> Evaluation
     ensures { λ r. ⌜ r ≡ tableSplineOf t x (now (knots .entry)) ⌝ }
 {
     let b = t.basis;
@@ -87,23 +87,23 @@ pub fn table_spline(t: Table, x: f64, knots: &[f64]) -> Evaluated
     if is_span(span) {
         return spline::spline(b, x, knots);
     }
-    Evaluated::Refused(without_span(b, knots.len()))
+    Evaluation::Refused(without_span(b, knots.len()))
 }
 
 // An inversion's answer with the second of its place.
-fn with_second(span: u32, i: Inverted) -> Timed
+fn with_second(span: u32, i: Inversion) -> TableInversion
     requires { ⌜ goodSpan span ≡ true ⌝ }
     ensures { λ r. ⌜ r ≡ timedOf span i ⌝ }
 {
     match i {
-        Inverted::Refused(r) => Timed::Refused(r),
-        Inverted::OffCurve(n) => Timed::OffCurve(n),
-        Inverted::At(p) => Timed::At(p, second::second(span, p.parameter)),
+        Inversion::Refused(r) => TableInversion::Refused(r),
+        Inversion::OffCurve(n) => TableInversion::OffCurve(n),
+        Inversion::At(p) => TableInversion::At(p, second::second(span, p.parameter)),
     }
 }
 
 // The place of y and its second, by these options.
-pub fn table_spline_inverse_by(o: Options, t: Table, y: f64, knots: &[f64]) -> Timed
+pub fn table_spline_inverse_by(o: Options, t: Table, y: f64, knots: &[f64]) -> TableInversion
     ensures { λ r. ⌜ r ≡ tableInverseBy (o .ends) (o .method) t y (now (knots .entry)) (o .check) (o .limit) (o .precision) ⌝ }
 {
     let b = t.basis;
@@ -111,11 +111,11 @@ pub fn table_spline_inverse_by(o: Options, t: Table, y: f64, knots: &[f64]) -> T
     if is_span(span) {
         return with_second(span, inverse::spline_inverse_by(o, b, y, knots));
     }
-    Timed::Refused(without_span(b, knots.len()))
+    TableInversion::Refused(without_span(b, knots.len()))
 }
 
 // As the crate inverts, with limit 32 and precision 1e-10.
-pub fn table_spline_inverse(t: Table, y: f64, knots: &[f64], check: bool) -> Timed
+pub fn table_spline_inverse(t: Table, y: f64, knots: &[f64], check: bool) -> TableInversion
     ensures { λ r. ⌜ r ≡ tableInverseBy Knots AsCrate t y (now (knots .entry)) check defaultLimit defaultPrecision ⌝ }
 {
     let o = Options {
@@ -129,7 +129,7 @@ pub fn table_spline_inverse(t: Table, y: f64, knots: &[f64], check: bool) -> Tim
 }
 
 // By the knots and by the steady method, with limit 64 and precision 1e-10: never spent.
-pub fn table_spline_inverse_steady(t: Table, y: f64, knots: &[f64], check: bool) -> Timed
+pub fn table_spline_inverse_steady(t: Table, y: f64, knots: &[f64], check: bool) -> TableInversion
     ensures { λ r. ⌜ r ≡ tableSteadyOf t y (now (knots .entry)) check ⌝ }
 {
     let o = Options {
@@ -142,12 +142,12 @@ pub fn table_spline_inverse_steady(t: Table, y: f64, knots: &[f64], check: bool)
     table_spline_inverse_by(o, t, y, knots)
 }
 
-fn handed_on(span: u32, to: Basis, c: Converted) -> Handed
+fn handed_on(span: u32, to: Basis, c: ConversionAnswer) -> TableConversion
     ensures { λ r. ⌜ r ≡ handedOf span to c ⌝ }
 {
     match c {
-        Converted::Refused(r) => Handed::Refused(r),
-        Converted::Written(n) => Handed::On(
+        ConversionAnswer::Refused(r) => TableConversion::Refused(r),
+        ConversionAnswer::Written(n) => TableConversion::On(
             Table {
                 basis: to,
                 span: span,
@@ -158,7 +158,7 @@ fn handed_on(span: u32, to: Basis, c: Converted) -> Handed
 }
 
 // The curve over another basis, into the lent buffer; the new table has the old one's span.
-pub fn table_convert_spline(t: Table, to: Basis, knots: &[f64], out: &mut [f64]) -> Handed
+pub fn table_convert_spline(t: Table, to: Basis, knots: &[f64], out: &mut [f64]) -> TableConversion
     ensures answer { λ r. ⌜ r ≡ handedOf (t .span) to
         (answerOf (tableConvertedOf t to (now (knots .entry)) (length (now (out .entry))))) ⌝ }
     ensures buffer { λ r. ⌜ now (out .exit) ≡ bufferOf (tableConvertedOf t to (now (knots .entry)) (length (now (out .entry))))
@@ -169,7 +169,7 @@ pub fn table_convert_spline(t: Table, to: Basis, knots: &[f64], out: &mut [f64])
     if is_span(span) {
         return handed_on(span, to, convert::convert_spline(b, to, knots, out));
     }
-    Handed::Refused(without_span(b, knots.len()))
+    TableConversion::Refused(without_span(b, knots.len()))
 }
 
 // The same, unless a seam loses more than the allowance.
@@ -179,7 +179,7 @@ pub fn table_convert_spline_strict(
     knots: &[f64],
     allowance: f64,
     out: &mut [f64],
-) -> Handed
+) -> TableConversion
     ensures answer { λ r. ⌜ r ≡ handedOf (t .span) to
         (answerOf (tableStrictOf t to (now (knots .entry)) allowance (length (now (out .entry))))) ⌝ }
     ensures buffer { λ r. ⌜ now (out .exit) ≡ bufferOf (tableStrictOf t to (now (knots .entry)) allowance (length (now (out .entry))))
@@ -194,5 +194,5 @@ pub fn table_convert_spline_strict(
             convert_strict::convert_spline_strict(b, to, knots, allowance, out),
         );
     }
-    Handed::Refused(without_span(b, knots.len()))
+    TableConversion::Refused(without_span(b, knots.len()))
 }

@@ -1,8 +1,8 @@
 // Runs conversions and prints what each leaves: readings, all pairs at the ends of the range, boundaries, a curve that is not kept,
 // and the elimination beside its constants.
 use basis::Basis;
-use convert::Converted;
-use spline::Evaluated;
+use convert::ConversionAnswer;
+use spline::Evaluation;
 
 fn say(w: &[u8]) {
     io::write_all(1, w);
@@ -14,13 +14,13 @@ fn say_double(x: f64) {
     io::write_all(1, &line);
 }
 
-fn say_answer(c: Converted) {
+fn say_answer(c: ConversionAnswer) {
     match c {
-        Converted::Written(n) => {
+        ConversionAnswer::Written(n) => {
             say(b"written ");
             io::print_decimal(1, n as u64);
         }
-        Converted::Refused(r) => {
+        ConversionAnswer::Refused(r) => {
             say(b"refused ");
             io::print_decimal(1, error::number(r) as u64);
         }
@@ -165,10 +165,10 @@ fn lengths() {
     one(Basis::Bezier, Basis::Power, &above, &mut out);
 }
 
-fn say_value(e: Evaluated) {
+fn say_value(e: Evaluation) {
     match e {
-        Evaluated::Value(v) => say_double(v),
-        Evaluated::Refused(r) => {
+        Evaluation::Value(v) => say_double(v),
+        Evaluation::Refused(r) => {
             io::print_decimal(1, error::number(r) as u64);
         }
     }

@@ -8,12 +8,12 @@ use inverse::EndsBy;
 use inverse::Options;
 use inverse_methods::Method;
 use inverse_segment::Ground;
-use inverse_segment::Inverted;
+use inverse_segment::Inversion;
 use inverse_segment::Place;
-use spline::Evaluated;
+use spline::Evaluation;
 
 // What is asked of a curve of k segments, each `step` knots after the one before.
-struct Asked {
+struct Question {
     b: Basis,
     step: usize,
     k: usize,
@@ -61,7 +61,7 @@ fn again(b: Basis, step: usize, s: usize, x: f64, knots: &[f64]) -> f64 {
             let end = start + 4;
             if end <= knots.len() {
                 let v = spline::spline_segment(b, x, &knots[start..end]);
-                if let Evaluated::Value(r) = v {
+                if let Evaluation::Value(r) = v {
                     return r;
                 }
             }
@@ -107,7 +107,7 @@ fn may_be_spent(o: Options) -> bool {
     }
 }
 
-fn ground_kept(a: Asked, y: f64, p: Place, v: f64) -> bool {
+fn ground_kept(a: Question, y: f64, p: Place, v: f64) -> bool {
     let apart = doubles::magnitude(v - y);
     let ground = p.ground;
     let o = a.o;
@@ -122,7 +122,7 @@ fn ground_kept(a: Asked, y: f64, p: Place, v: f64) -> bool {
 }
 
 // A place: its parts lie in 0 to 1, the values at the bracket's ends enclose the target, and the ground holds.
-fn judge_place(a: Asked, y: f64, p: Place, bound: u32, knots: &[f64], tally: &mut [u32; 9]) {
+fn judge_place(a: Question, y: f64, p: Place, bound: u32, knots: &[f64], tally: &mut [u32; 9]) {
     let ground = p.ground;
     note(tally, kind_of(ground));
     judge_count(tally, p.count, bound);
@@ -138,12 +138,19 @@ fn judge_place(a: Asked, y: f64, p: Place, bound: u32, knots: &[f64], tally: &mu
     judge(tally, lies_between(v0, y, v1));
 }
 
-fn judge_answer(a: Asked, y: f64, r: Inverted, bound: u32, knots: &[f64], tally: &mut [u32; 9]) {
+fn judge_answer(
+    a: Question,
+    y: f64,
+    r: Inversion,
+    bound: u32,
+    knots: &[f64],
+    tally: &mut [u32; 9],
+) {
     match r {
-        Inverted::Refused(n) => {
+        Inversion::Refused(n) => {
             note(tally, 6);
         }
-        Inverted::OffCurve(n) => {
+        Inversion::OffCurve(n) => {
             note(tally, 5);
             if n < 1000000 {
                 judge_count(tally, n as u32, bound);
@@ -151,14 +158,14 @@ fn judge_answer(a: Asked, y: f64, r: Inverted, bound: u32, knots: &[f64], tally:
                 judge(tally, false);
             }
         }
-        Inverted::At(p) => {
+        Inversion::At(p) => {
             judge_place(a, y, p, bound, knots, tally);
         }
     }
 }
 
 // The whole curve, and its first segment alone.
-fn ask(a: Asked, y: f64, knots: &[f64], tally: &mut [u32; 9]) {
+fn ask(a: Question, y: f64, knots: &[f64], tally: &mut [u32; 9]) {
     let b = a.b;
     let o = a.o;
     let ends = o.ends;
@@ -201,7 +208,7 @@ fn target(j: u32, low: f64, high: f64) -> f64 {
     }
 }
 
-fn over_targets(a: Asked, knots: &[f64], tally: &mut [u32; 9])
+fn over_targets(a: Question, knots: &[f64], tally: &mut [u32; 9])
     requires { ⌜ 4 ≤ length (now knots) ⌝ }
 {
     let low = knots[1];
@@ -212,7 +219,7 @@ fn over_targets(a: Asked, knots: &[f64], tally: &mut [u32; 9])
 }
 
 // By one rule of the ends and one method: with and without the order check, and few rounds.
-fn over_usual(a: Asked, ends: EndsBy, method: Method, knots: &[f64], tally: &mut [u32; 9])
+fn over_usual(a: Question, ends: EndsBy, method: Method, knots: &[f64], tally: &mut [u32; 9])
     requires { ⌜ 4 ≤ length (now knots) ⌝ }
 {
     over_targets(with(a, false, 32, 1e-10, ends, method), knots, tally);
@@ -221,23 +228,30 @@ fn over_usual(a: Asked, ends: EndsBy, method: Method, knots: &[f64], tally: &mut
 }
 
 // Many rounds, with precisions that few values reach.
-fn over_long(a: Asked, ends: EndsBy, method: Method, knots: &[f64], tally: &mut [u32; 9])
+fn over_long(a: Question, ends: EndsBy, method: Method, knots: &[f64], tally: &mut [u32; 9])
     requires { ⌜ 4 ≤ length (now knots) ⌝ }
 {
     over_targets(with(a, false, 200, 1e-16, ends, method), knots, tally);
     over_targets(with(a, false, 65535, 1e-300, ends, method), knots, tally);
 }
 
-fn over_settings(a: Asked, ends: EndsBy, method: Method, knots: &[f64], tally: &mut [u32; 9])
+fn over_settings(a: Question, ends: EndsBy, method: Method, knots: &[f64], tally: &mut [u32; 9])
     requires { ⌜ 4 ≤ length (now knots) ⌝ }
 {
     over_usual(a, ends, method, knots, tally);
     over_long(a, ends, method, knots, tally);
 }
 
-fn with(a: Asked, check: bool, limit: u16, precision: f64, ends: EndsBy, method: Method) -> Asked {
+fn with(
+    a: Question,
+    check: bool,
+    limit: u16,
+    precision: f64,
+    ends: EndsBy,
+    method: Method,
+) -> Question {
     let b = a.b;
-    Asked {
+    Question {
         b: b,
         step: a.step,
         k: a.k,
@@ -252,7 +266,7 @@ fn with(a: Asked, check: bool, limit: u16, precision: f64, ends: EndsBy, method:
 }
 
 // Every method.
-fn over_methods(a: Asked, ends: EndsBy, knots: &[f64], tally: &mut [u32; 9])
+fn over_methods(a: Question, ends: EndsBy, knots: &[f64], tally: &mut [u32; 9])
     requires { ⌜ 4 ≤ length (now knots) ⌝ }
 {
     over_settings(a, ends, Method::AsCrate, knots, tally);
@@ -264,7 +278,7 @@ fn over_methods(a: Asked, ends: EndsBy, knots: &[f64], tally: &mut [u32; 9])
 fn over_modes(b: Basis, step: usize, k: usize, knots: &[f64], tally: &mut [u32; 9])
     requires { ⌜ 4 ≤ length (now knots) ⌝ }
 {
-    let a = Asked {
+    let a = Question {
         b: b,
         step: step,
         k: k,

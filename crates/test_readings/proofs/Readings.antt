@@ -12,7 +12,7 @@ use Rattle.checks.specs.Checks.{inRange, allInRange, firstBad, precise}
 use Rattle.spline.specs.Curve.{curveValue}
 use Rattle.spline.specs.Evaluation.{splineOf}
 use Rattle.inverse_segment.specs.Answer.{inverseSegmentBy}
-use Rattle.inverse_segment.specs.Round.{narrow, halving, toward, weighed, chord, kept, fraction, moved, settled, probed, turn}
+use Rattle.inverse_segment.specs.Round.{narrow, halving, toward, weighed, chord, kept, fraction, moved, settled, probed, roundOf}
 use Rattle.inverse_segment.specs.Rounds.{rounds}
 use Rattle.inverse_segment.specs.Segment.{entered, enter}
 use Rattle.inverse_methods.specs.Steady.{allowed, inner, secant, paced}
@@ -60,19 +60,19 @@ unfolding longest splineOf inRange allInRange firstBad curveValue wholeUpTo clam
 longest-hold = (refl, (refl, tt))
 
 places-hold : Hold places
-unfolding places inverseBy located find tries last halve bitsOf enter entered rounds turn probed settled moved fraction kept weighed halving chord narrow
+unfolding places inverseBy located find tries last halve bitsOf enter entered rounds roundOf probed settled moved fraction kept weighed halving chord narrow
     ordered turnsAt precise parameterOf inRange allInRange firstBad magnitudeOf lerpOf matrixOf ofBits ofInt round add sub mul div lt le eq neg isNan
     leadingZeros
 places-hold = (refl, (refl, (refl, (refl, (refl, (refl, tt))))))
 
 halvings-hold : Hold halvings
-unfolding halvings inverseBy evaluationsBy located evaluations find tries last halve bitsOf enter entered rounds turn probed settled moved fraction kept
+unfolding halvings inverseBy evaluationsBy located evaluations find tries last halve bitsOf enter entered rounds roundOf probed settled moved fraction kept
     weighed halving chord narrow ordered turnsAt precise parameterOf inRange allInRange firstBad magnitudeOf lerpOf matrixOf ofBits ofInt round add sub mul
     div lt le eq neg isNan leadingZeros
 halvings-hold = (refl, (refl, (refl, (refl, tt))))
 
 brackets-hold : Hold brackets
-unfolding brackets inverseSegmentBy enter entered rounds turn probed settled moved fraction kept weighed halving toward chord narrow allowed inner secant
+unfolding brackets inverseSegmentBy enter entered rounds roundOf probed settled moved fraction kept weighed halving toward chord narrow allowed inner secant
     paced precise inRange allInRange firstBad magnitudeOf lerpOf matrixOf ofBits ofInt round add sub mul div lt le eq neg isNan
 brackets-hold = (refl, (refl, (refl, tt)))
 

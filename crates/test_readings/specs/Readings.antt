@@ -13,14 +13,14 @@ use Rattle.error.specs.Refusals.{numberOf, placesOf, first}
 use Rattle.basis.specs.declared.Basis.{Basis}
 use Rattle.basis.specs.declared.Basis.the-variants.{Bspline, Bezier, CatmullRom, Hermite, Linear, Power}
 use Rattle.doubles.specs.Numbers.{nought, one, half}
-use Rattle.spline.specs.declared.Evaluated.{Evaluated}
-use Rattle.spline.specs.declared.Evaluated.the-variants as E
+use Rattle.spline.specs.declared.Evaluation.{Evaluation}
+use Rattle.spline.specs.declared.Evaluation.the-variants as E
 use Rattle.checks.specs.Checks.{curveLength}
 use Rattle.spline.specs.Evaluation.{splineOf}
 use Rattle.inverse_segment.specs.declared.Ground.{Ground}
 use Rattle.inverse_segment.specs.declared.Ground.the-variants.{End, Edge, Value, Spent}
-use Rattle.inverse_segment.specs.declared.Inverted.{Inverted}
-use Rattle.inverse_segment.specs.declared.Inverted.the-variants as I
+use Rattle.inverse_segment.specs.declared.Inversion.{Inversion}
+use Rattle.inverse_segment.specs.declared.Inversion.the-variants as I
 use Rattle.inverse_segment.specs.Answer.{inverseSegmentBy, defaultLimit, defaultPrecision}
 use Rattle.inverse.specs.Inverse.{inverseBy, inverseOf, inverseEvaluations}
 use Rattle.inverse.specs.declared.EndsBy.the-variants.{Curve}
@@ -31,76 +31,76 @@ use Rattle.convert.specs.Conversion.{Conversion, gives, refuses, convertedOf}
 
 -- ---- what a reading tells: a value or the knots, a place by its parameter, ground and count, a bracket,
 -- or a refusal's number, 11 with its count; that a length is accepted; segments
-pub data Told : Type 0 where
-  value : Float → Told
-  place : Float → Ground → ℕ → Told
+pub data ReadingAnswer : Type 0 where
+  value : Float → ReadingAnswer
+  place : Float → Ground → ℕ → ReadingAnswer
   -- the bracket's two ends, the ground and the count
-  bracket : Float → Float → Ground → ℕ → Told
-  knots : List Float → Told
-  refused : ℕ → Told
+  bracket : Float → Float → Ground → ℕ → ReadingAnswer
+  knots : List Float → ReadingAnswer
+  refused : ℕ → ReadingAnswer
   -- with the knot's number
-  refused-at : ℕ → ℕ → Told
-  off : ℕ → Told
-  accepted : Told
-  segments : List ℕ → Told
+  refused-at : ℕ → ℕ → ReadingAnswer
+  off : ℕ → ReadingAnswer
+  accepted : ReadingAnswer
+  segments : List ℕ → ReadingAnswer
 
-abbrev pub told : ℕ → List ℕ → Told
+abbrev pub told : ℕ → List ℕ → ReadingAnswer
 told n [] = refused n
 told n (i ∷ is) = refused-at n i
 
-abbrev pub ofRefusal : Refusal → Told
+abbrev pub ofRefusal : Refusal → ReadingAnswer
 ofRefusal r = told (numberOf r) (placesOf r)
 
-abbrev pub ofEvaluated : Evaluated → Told
-ofEvaluated (E.Value x) = value x
-ofEvaluated (E.Refused r) = ofRefusal r
+abbrev pub ofEvaluation : Evaluation → ReadingAnswer
+ofEvaluation (E.Value x) = value x
+ofEvaluation (E.Refused r) = ofRefusal r
 
-abbrev pub ofInverted : Inverted → Told
-ofInverted (I.Refused r) = ofRefusal r
-ofInverted (I.OffCurve n) = off n
-ofInverted (I.At p) = place (p .parameter) (p .ground) (p .count)
+abbrev pub ofInversion : Inversion → ReadingAnswer
+ofInversion (I.Refused r) = ofRefusal r
+ofInversion (I.OffCurve n) = off n
+ofInversion (I.At p) = place (p .parameter) (p .ground) (p .count)
 
-abbrev pub ofBracket : Inverted → Told
+abbrev pub ofBracket : Inversion → ReadingAnswer
 ofBracket (I.Refused r) = ofRefusal r
 ofBracket (I.OffCurve n) = off n
 ofBracket (I.At p) = bracket (p .lower) (p .upper) (p .ground) (p .count)
 
-abbrev pub ofConversion : Conversion → Told
+abbrev pub ofConversion : Conversion → ReadingAnswer
 ofConversion (gives l) = knots l
 ofConversion (refuses r) = ofRefusal r
 
-abbrev pub ofVerdict : Verdict → Told
+abbrev pub ofVerdict : Verdict → ReadingAnswer
 ofVerdict Passed = accepted
 ofVerdict (Failed r) = ofRefusal r
 
 -- ---- a reading: what is asked, and what is told
-pub data Asked : Type 0 where
+pub data Question : Type 0 where
   -- whether a number of knots suits a basis
-  knots-of : Basis → ℕ → Asked
+  knots-of : Basis → ℕ → Question
   -- a curve's value at a parameter
-  at : Basis → List Float → Float → Asked
+  at : Basis → List Float → Float → Question
   -- the place of a target: with the order check or without, to a precision
-  place-of : Basis → List Float → Float → Bool → Float → Asked
+  place-of : Basis → List Float → Float → Bool → Float → Question
   -- the same by the curve's own ends
-  own-place-of : Basis → List Float → Float → Bool → Float → Asked
+  own-place-of : Basis → List Float → Float → Bool → Float → Question
   -- the bracket that an inversion of one segment leaves, by a method, with a limit
-  bracket-of : Method → Basis → List Float → Float → ℕ → Asked
+  bracket-of : Method → Basis → List Float → Float → ℕ → Question
   -- the segments that are evaluated for it, the first one first
-  visited : Basis → List Float → Float → Asked
+  visited : Basis → List Float → Float → Question
   -- a knot vector in another basis
-  turned : Basis → Basis → List Float → Asked
+  converted : Basis → Basis → List Float → Question
 
 pub data Reading : Type 0 where
-  tells : Asked → Told → Reading
+  tells : Question → ReadingAnswer → Reading
 
-abbrev pub answer : Asked → Told
+abbrev pub answer : Question → ReadingAnswer
 answer (knots-of b n) = ofVerdict (first (curveLength b n))
-answer (at b ks x) = ofEvaluated (splineOf b x ks)
-answer (place-of b ks y check ε) = ofInverted (inverseOf b y ks check defaultLimit ε)
-answer (own-place-of b ks y check ε) = ofInverted (inverseBy Curve AsCrate b y ks check defaultLimit ε)
+answer (at b ks x) = ofEvaluation (splineOf b x ks)
+answer (place-of b ks y check ε) = ofInversion (inverseOf b y ks check defaultLimit ε)
+answer (own-place-of b ks y check ε) = ofInversion (inverseBy Curve AsCrate b y ks check defaultLimit ε)
 answer (bracket-of how b cv y limit) = ofBracket (inverseSegmentBy (ruleOf how) b y cv limit defaultPrecision)
 answer (visited b ks y) = segments (reverse (map (λ e. e .0) (inverseEvaluations b y ks true defaultLimit defaultPrecision)))
-answer (turned from to ks) = ofConversion (convertedOf from to ks 4096)
+answer (converted from to ks) = ofConversion (convertedOf from to ks 4096)
 
 -- each tells what is answered
 abbrev pub Hold : List Reading → Type 0
@@ -217,9 +217,9 @@ brackets =
 -- conversions; the last loses a slope at its seam
 unfoldable pub conversions : List Reading
 conversions =
-    tells (turned Bezier Power (nought ∷ nought ∷ nought ∷ one ∷ [])) (knots (one ∷ nought ∷ nought ∷ nought ∷ []))
-    ∷ tells (turned Linear Power (whole 9 ∷ one ∷ whole 3 ∷ whole 9 ∷ [])) (knots (nought ∷ nought ∷ whole 2 ∷ one ∷ []))
-    ∷ tells (turned Bezier Hermite (nought ∷ nought ∷ nought ∷ nought ∷ one ∷ one ∷ one ∷ []))
+    tells (converted Bezier Power (nought ∷ nought ∷ nought ∷ one ∷ [])) (knots (one ∷ nought ∷ nought ∷ nought ∷ []))
+    ∷ tells (converted Linear Power (whole 9 ∷ one ∷ whole 3 ∷ whole 9 ∷ [])) (knots (nought ∷ nought ∷ whole 2 ∷ one ∷ []))
+    ∷ tells (converted Bezier Hermite (nought ∷ nought ∷ nought ∷ nought ∷ one ∷ one ∷ one ∷ []))
     (knots (nought ∷ nought ∷ nought ∷ nought ∷ one ∷ nought ∷ []))
     ∷ []
 

@@ -1,13 +1,13 @@
 // The worked readings, run by the calls and printed, a line each. Those of specs/Readings.antt are proved too; the last three are only run.
 use basis::Basis;
-use convert::Converted;
+use convert::ConversionAnswer;
 use error::Refusal;
 use inverse::EndsBy;
 use inverse::Options;
 use inverse_methods::Method;
 use inverse_segment::Ground;
-use inverse_segment::Inverted;
-use spline::Evaluated;
+use inverse_segment::Inversion;
+use spline::Evaluation;
 
 fn say(w: &[u8]) {
     io::write_all(1, w);
@@ -41,12 +41,12 @@ fn say_refused(r: Refusal) {
 fn value(b: Basis, knots: &[f64], x: f64) {
     let e = spline::spline(b, x, knots);
     match e {
-        Evaluated::Value(v) => {
+        Evaluation::Value(v) => {
             say(b"value");
             say_double(v);
             say(b"\n");
         }
-        Evaluated::Refused(r) => say_refused(r),
+        Evaluation::Refused(r) => say_refused(r),
     }
 }
 
@@ -60,9 +60,9 @@ fn say_ground(g: Ground) {
     }
 }
 
-fn say_place(a: Inverted) {
+fn say_place(a: Inversion) {
     match a {
-        Inverted::At(p) => {
+        Inversion::At(p) => {
             say(b"place");
             say_double(p.parameter);
             let g = p.ground;
@@ -70,12 +70,12 @@ fn say_place(a: Inverted) {
             io::print_decimal(1, p.count as u64);
             say(b"\n");
         }
-        Inverted::OffCurve(n) => {
+        Inversion::OffCurve(n) => {
             say(b"refused 11 after ");
             io::print_decimal(1, n as u64);
             say(b"\n");
         }
-        Inverted::Refused(r) => say_refused(r),
+        Inversion::Refused(r) => say_refused(r),
     }
 }
 
@@ -98,7 +98,7 @@ fn own_place(b: Basis, knots: &[f64], y: f64) {
 // The bracket that four rounds leave.
 fn bracket(b: Basis, cv: &[f64], y: f64, how: Method) {
     let a = inverse_methods::spline_inverse_segment_by(b, y, cv, 4, 1e-10, how);
-    let Inverted::At(p) = a else {
+    let Inversion::At(p) = a else {
         return;
     };
     say(b"bracket");
@@ -110,16 +110,16 @@ fn bracket(b: Basis, cv: &[f64], y: f64, how: Method) {
     say(b"\n");
 }
 
-fn turned(from: Basis, to: Basis, knots: &[f64], out: &mut [f64]) {
+fn converted(from: Basis, to: Basis, knots: &[f64], out: &mut [f64]) {
     let c = convert::convert_spline(from, to, knots, &mut *out);
     match c {
-        Converted::Written(n) => {
+        ConversionAnswer::Written(n) => {
             say(b"written ");
             io::print_decimal(1, n as u64);
             say_all(&out[..]);
             say(b"\n");
         }
-        Converted::Refused(r) => say_refused(r),
+        ConversionAnswer::Refused(r) => say_refused(r),
     }
 }
 
@@ -184,12 +184,12 @@ fn brackets() {
 fn conversions() {
     let mut four = [0.0; 4];
     let rise = [0.0, 0.0, 0.0, 1.0];
-    turned(Basis::Bezier, Basis::Power, &rise, &mut four);
+    converted(Basis::Bezier, Basis::Power, &rise, &mut four);
     let line = [9.0, 1.0, 3.0, 9.0];
-    turned(Basis::Linear, Basis::Power, &line, &mut four);
+    converted(Basis::Linear, Basis::Power, &line, &mut four);
     let mut six = [0.0; 6];
     let kink = [0.0, 0.0, 0.0, 0.0, 1.0, 1.0, 1.0];
-    turned(Basis::Bezier, Basis::Hermite, &kink, &mut six);
+    converted(Basis::Bezier, Basis::Hermite, &kink, &mut six);
 }
 
 // Both ends lie near the target, and the left edge comes first; ten doubles, for which nine places are too few.
@@ -198,9 +198,9 @@ fn others() {
     place(Basis::Linear, &one, 0.5, true, 1.0);
     let knots = [0.0, 1.0, 3.0, 2.0, 2.0, 5.0];
     let mut ten = [0.0; 10];
-    turned(Basis::CatmullRom, Basis::Bezier, &knots, &mut ten);
+    converted(Basis::CatmullRom, Basis::Bezier, &knots, &mut ten);
     let mut nine = [0.0; 9];
-    turned(Basis::CatmullRom, Basis::Bezier, &knots, &mut nine);
+    converted(Basis::CatmullRom, Basis::Bezier, &knots, &mut nine);
 }
 
 fn main() {

@@ -2,7 +2,7 @@
 ghost use Prim.Native.Nat.{_+_, _≤_, _<_};
 ghost use lib.ListN.{length};
 use basis::Basis;
-use spline::Evaluated;
+use spline::Evaluation;
 
 fn put(s: &[u8]) {
     io::write_all(1, s);
@@ -19,10 +19,10 @@ fn put_name(b: Basis) {
     }
 }
 
-fn put_reply(e: Evaluated) {
+fn put_reply(e: Evaluation) {
     match e {
-        Evaluated::Value(_) => put(b"taken\n"),
-        Evaluated::Refused(r) => {
+        Evaluation::Value(_) => put(b"taken\n"),
+        Evaluation::Refused(r) => {
             put(b"refused ");
             io::print_decimal(1, error::number(r) as u64);
             put(b"\n");
@@ -31,14 +31,14 @@ fn put_reply(e: Evaluated) {
 }
 
 // The value's bits, or the refusal.
-fn put_value(e: Evaluated) {
+fn put_value(e: Evaluation) {
     match e {
-        Evaluated::Value(x) => {
+        Evaluation::Value(x) => {
             put(b"value ");
             io::print_hex(1, text::to_bits(x), 16);
             put(b"\n");
         }
-        Evaluated::Refused(_) => put_reply(e),
+        Evaluation::Refused(_) => put_reply(e),
     }
 }
 

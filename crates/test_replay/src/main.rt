@@ -321,7 +321,7 @@ fn feed(begun: Run, chunk: &[u8], w: &mut [u64; 64], table: &mut [f64]) -> Run {
     r
 }
 
-fn turn(r: Run, chunk: &mut [u8], w: &mut [u64; 64], table: &mut [f64]) -> Run {
+fn replay_chunk(r: Run, chunk: &mut [u8], w: &mut [u64; 64], table: &mut [f64]) -> Run {
     let n = io::read_full(0, chunk);
     feed(r, &chunk[0..n], w, table)
 }
@@ -338,7 +338,7 @@ fn replayed(chunk: &mut [u8], w: &mut [u64; 64], table: &mut [f64]) -> Tally {
     };
     let most: usize = 32;
     for i in 0..most {
-        let next = turn(r, chunk, w, table);
+        let next = replay_chunk(r, chunk, w, table);
         r = next;
     }
     let tally = r.tally;

@@ -10,7 +10,7 @@ use lib.Dec.{ltb, leb, eqb, T}
 use lib.ListN.{length, length-append}
 use lib.Ieee.{Float, toBits, fits, isNan, binary64}
 use lib.Ieee.Bits.{toBits-ofBits, ofBits-toBits, toBits-lt}
-use Rattle.text.specs.declared.Hexed.the-variants.{Is, Nothing}
+use Rattle.text.specs.declared.HexNumber.the-variants.{Is, Nothing}
 use Rattle.text.specs.Text.{digitOf, valueOf, hexOf, glyphOf, hexText, decText, doubleOf, doubleText}
 use Rattle.text.proofs.Words.{digit-below, digit-number, digit-between, digit-letter, digit-above, hex-is}
 

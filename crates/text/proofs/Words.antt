@@ -10,7 +10,7 @@ use borrow.Author.Tests.{eq-eqb, ne-eqb, le-leb, lt-leb}
 use lib.Dec.{eqb}
 use lib.ListN.{length, drop, getD}
 use lib.Seq.{drop-cons, drop-length}
-use Rattle.text.specs.declared.Hexed.the-variants.{Is, Nothing}
+use Rattle.text.specs.declared.HexNumber.the-variants.{Is, Nothing}
 use Rattle.text.specs.Text.{same, digitOf, valueOf, hexOf, tabOf}
 
 pub same-long : (s w : List ℕ) → (length s ≡ length w → ⊥) → same s w ≡ false

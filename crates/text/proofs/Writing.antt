@@ -31,7 +31,7 @@ then {o} {o₁} {o₂} {t} {t₂} {at} {a₁} {a₂} u v = record {
     deeper : drop a₂ o₁ ≡ drop a₂ o
     deeper = rw (v .next, ← drop-drop (length t₂) a₁ o₁, ← drop-drop (length t₂) a₁ o) (ap (drop (length t₂)) (u .back))
 
--- a turn of the loop that copies a word
+-- a pass of the loop that copies a word
 pub more : {o o₁ : List ℕ} {at : ℕ} (w : List ℕ) (i : ℕ) → Wrote o at (take i w) o₁ (at + i) → at + i < length o → i < length w
     → Wrote o at (take (i + 1) w) (set o₁ (at + i) (getD w i 0)) (at + (i + 1))
 more {o} {o₁} {at} w i u h k =

@@ -7,8 +7,8 @@ use Prim.Native.String.{String, [] as []ˢ, _∷_ as _∷ˢ_}
 use lib.Dec.{leb, ltb, eqb}
 use lib.ListN.{length}
 use lib.Ieee.{Float, ofBits, toBits, binary64}
-use Rattle.text.specs.declared.Hexed.{Hexed}
-use Rattle.text.specs.declared.Hexed.the-variants.{Is, Nothing}
+use Rattle.text.specs.declared.HexNumber.{HexNumber}
+use Rattle.text.specs.declared.HexNumber.the-variants.{Is, Nothing}
 
 -- ---- words
 
@@ -54,12 +54,12 @@ abbrev pub digitOf : ℕ → ℕ
 digitOf b = cond (leb 48 b && leb b 57) (b - 48) (cond (leb 65 b && leb b 70) (b - 55) 16)
 
 -- n, with the digits s after it
-unfoldable pub valueOf : ℕ → List ℕ → Hexed
+unfoldable pub valueOf : ℕ → List ℕ → HexNumber
 valueOf n [] = Is n
 valueOf n (b ∷ s) = cond (eqb (digitOf b) 16) Nothing (valueOf (n * 16 + digitOf b) s)
 
 -- what 16 digits say
-unfoldable pub hexOf : List ℕ → Hexed
+unfoldable pub hexOf : List ℕ → HexNumber
 hexOf s = cond (eqb (length s) 16) (valueOf 0 s) Nothing
 
 -- the digit of a number below 16

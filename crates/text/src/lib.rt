@@ -8,7 +8,7 @@ ghost use Rattle.text.specs.Text.{same, tabOf, digitOf, hexOf, glyphOf, 
 ghost use Rattle.text.specs.Wrote.{Wrote};
 
 // What some digits say: a number, or nothing.
-pub enum Hexed {
+pub enum HexNumber {
     Is(u64),
     Nothing,
 }
@@ -64,23 +64,23 @@ fn digit(b: u8) -> u64
 }
 
 // The number that 16 digits say.
-pub fn hex(s: &[u8]) -> Hexed
+pub fn hex(s: &[u8]) -> HexNumber
     ensures { λ r. ⌜ r ≡ hexOf (now (s .entry)) ⌝ }
 {
     if s.len() != 16 {
-        return Hexed::Nothing;
+        return HexNumber::Nothing;
     }
     let mut n: u64 = 0;
     let mut i = 0;
     while i < s.len() {
         let d = digit(s[i]);
         if d == 16 {
-            return Hexed::Nothing;
+            return HexNumber::Nothing;
         }
         n = n * 16 + d;
         i += 1;
     }
-    Hexed::Is(n)
+    HexNumber::Is(n)
 }
 
 // The double of a bit pattern; one NaN for all of NaN's patterns.

@@ -11,8 +11,8 @@ use borrow.Author.Tests.{eq-eqb, ne-eqb, le-leb, lt-leb, lt-ltb, le-ltb, eqb-fal
 use lib.Dec.{leb, ltb, eqb}
 use lib.ListN.{length, take, drop, getD, length-drop}
 use lib.Seq.{drop-cons, drop-length, take-all}
-use Rattle.text.specs.declared.Hexed.{Hexed}
-use Rattle.text.specs.declared.Hexed.the-variants.{Is, Nothing}
+use Rattle.text.specs.declared.HexNumber.{HexNumber}
+use Rattle.text.specs.declared.HexNumber.the-variants.{Is, Nothing}
 use Rattle.text_decimals.specs.Decimals.{POINT, digitIn, digitsOf, numberIn, placeOf, scaled, behindOf, joined, thousandthsOf}
 
 -- ---- a digit
@@ -138,21 +138,21 @@ number-some k s n e = go (leb 1 (length s)) refl (leb (length s) k) e
     go true f q h = leb-true 1 (length s) f
     go false f q h = unread h
 
-pub behind-none : (s : List ℕ) {r : Hexed} → r ≡ numberIn 3 s → r ≡ Nothing → Nothing ≡ behindOf s
+pub behind-none : (s : List ℕ) {r : HexNumber} → r ≡ numberIn 3 s → r ≡ Nothing → Nothing ≡ behindOf s
 unfolding behindOf
 behind-none s e f = ap (scaled (10 ^ (3 - length s))) (sym f ∙ e)
 
-behind-is : (s : List ℕ) (f k : ℕ) {r : Hexed} → r ≡ numberIn 3 s → r ≡ Is f → 10 ^ (3 - length s) ≡ k → Is (f * k) ≡ behindOf s
+behind-is : (s : List ℕ) (f k : ℕ) {r : HexNumber} → r ≡ numberIn 3 s → r ≡ Is f → 10 ^ (3 - length s) ≡ k → Is (f * k) ≡ behindOf s
 unfolding behindOf
 behind-is s f k e g p = ap (λ (x : ℕ). Is (f * x)) (sym p) ∙ ap (scaled (10 ^ (3 - length s))) (sym g ∙ e)
 
-pub behind-one : (s : List ℕ) (f : ℕ) {r : Hexed} → r ≡ numberIn 3 s → r ≡ Is f → length s ≡ 1 → Is (f * 100) ≡ behindOf s
+pub behind-one : (s : List ℕ) (f : ℕ) {r : HexNumber} → r ≡ numberIn 3 s → r ≡ Is f → length s ≡ 1 → Is (f * 100) ≡ behindOf s
 behind-one s f e g l = behind-is s f 100 e g (ap (λ (x : ℕ). 10 ^ (3 - x)) l)
 
-pub behind-two : (s : List ℕ) (f : ℕ) {r : Hexed} → r ≡ numberIn 3 s → r ≡ Is f → length s ≡ 2 → Is (f * 10) ≡ behindOf s
+pub behind-two : (s : List ℕ) (f : ℕ) {r : HexNumber} → r ≡ numberIn 3 s → r ≡ Is f → length s ≡ 2 → Is (f * 10) ≡ behindOf s
 behind-two s f e g l = behind-is s f 10 e g (ap (λ (x : ℕ). 10 ^ (3 - x)) l)
 
-pub behind-three : (s : List ℕ) (f : ℕ) {r : Hexed} → r ≡ numberIn 3 s → r ≡ Is f → (length s ≡ 1 → ⊥) → (length s ≡ 2 → ⊥) → Is f ≡ behindOf s
+pub behind-three : (s : List ℕ) (f : ℕ) {r : HexNumber} → r ≡ numberIn 3 s → r ≡ Is f → (length s ≡ 1 → ⊥) → (length s ≡ 2 → ⊥) → Is f ≡ behindOf s
 behind-three s f e g a b =
     let x : 1 ≤ length s = number-some 3 s f (sym e ∙ g) in
     let y : length s ≤ 3 = number-length 3 s f (sym e ∙ g) in
@@ -174,7 +174,7 @@ pub behind-small : (s : List ℕ) (f : ℕ) → behindOf s ≡ Is f → f < 1000
 unfolding behindOf
 behind-small s f e = go (numberIn 3 s) refl e
   where
-    go : (r : Hexed) → numberIn 3 s ≡ r → scaled (10 ^ (3 - length s)) r ≡ Is f → f < 1000
+    go : (r : HexNumber) → numberIn 3 s ≡ r → scaled (10 ^ (3 - length s)) r ≡ Is f → f < 1000
     go (Is n) g h =
         let a : n < 10 ^ length s = number-within 3 s n g in
         let l : length s ≤ 3 = number-length 3 s n g in
@@ -193,14 +193,14 @@ behind-small s f e = go (numberIn 3 s) refl e
 
 -- ---- thousandths, case by case
 module _ (s : List ℕ) (p : ℕ) (is : p ≡ placeOf POINT s) where
-  pub no-whole : {r : Hexed} → p < length s → r ≡ numberIn 9 (take (p - 0) s) → r ≡ Nothing → Nothing ≡ thousandthsOf s
+  pub no-whole : {r : HexNumber} → p < length s → r ≡ numberIn 9 (take (p - 0) s) → r ≡ Nothing → Nothing ≡ thousandthsOf s
   unfolding thousandthsOf
   no-whole {r} h e f =
       let z : p - 0 ≡ p = omega arith in
       let w : numberIn 9 (take p s) ≡ Nothing = sym (ap (λ (x : ℕ). numberIn 9 (take x s)) z) ∙ sym e ∙ f in
       rw (← is, lt-ltb p (length s) h, w) refl
 
-  pub no-rest : {r q : Hexed} {w : ℕ} → p < length s → r ≡ numberIn 9 (take (p - 0) s) → r ≡ Is w
+  pub no-rest : {r q : HexNumber} {w : ℕ} → p < length s → r ≡ numberIn 9 (take (p - 0) s) → r ≡ Is w
       → q ≡ behindOf (take (length s - (p + 1)) (drop (p + 1) s)) → q ≡ Nothing → Nothing ≡ thousandthsOf s
   unfolding thousandthsOf
   no-rest {r} {q} {w} h e f g k =
@@ -211,7 +211,7 @@ module _ (s : List ℕ) (p : ℕ) (is : p ≡ placeOf POINT s) where
       ∙ k in
       rw (← is, lt-ltb p (length s) h, a, b) refl
 
-  pub with-point : {r q : Hexed} {w f : ℕ} → p < length s → r ≡ numberIn 9 (take (p - 0) s) → r ≡ Is w
+  pub with-point : {r q : HexNumber} {w f : ℕ} → p < length s → r ≡ numberIn 9 (take (p - 0) s) → r ≡ Is w
       → q ≡ behindOf (take (length s - (p + 1)) (drop (p + 1) s)) → q ≡ Is f → Is (w * 1000 + f) ≡ thousandthsOf s
   unfolding thousandthsOf
   with-point {r} {q} {w} {f} h e j g k =
@@ -222,11 +222,11 @@ module _ (s : List ℕ) (p : ℕ) (is : p ≡ placeOf POINT s) where
       ∙ k in
       rw (← is, lt-ltb p (length s) h, a, b) refl
 
-  pub plain-none : {r : Hexed} → length s ≤ p → r ≡ numberIn 9 s → r ≡ Nothing → Nothing ≡ thousandthsOf s
+  pub plain-none : {r : HexNumber} → length s ≤ p → r ≡ numberIn 9 s → r ≡ Nothing → Nothing ≡ thousandthsOf s
   unfolding thousandthsOf
   plain-none {r} h e f = rw (← is, le-ltb p (length s) h, sym e ∙ f) refl
 
-  pub plain : {r : Hexed} {w : ℕ} → length s ≤ p → r ≡ numberIn 9 s → r ≡ Is w → Is (w * 1000) ≡ thousandthsOf s
+  pub plain : {r : HexNumber} {w : ℕ} → length s ≤ p → r ≡ numberIn 9 s → r ≡ Is w → Is (w * 1000) ≡ thousandthsOf s
   unfolding thousandthsOf
   plain {r} {w} h e f = let z : w * 1000 ≡ w * 1000 + 0 = omega arith in ap Is z ∙ rw (← is, le-ltb p (length s) h, sym e ∙ f) refl
 
@@ -235,7 +235,7 @@ pub thousandths-small : (s : List ℕ) (n : ℕ) → thousandthsOf s ≡ Is n �
 unfolding thousandthsOf
 thousandths-small s n e = go (ltb (placeOf POINT s) (length s)) e
   where
-    both : (a b : Hexed) → (x y : List ℕ) → numberIn 9 x ≡ a → ((f : ℕ) → b ≡ Is f → f < 1000) → joined a b ≡ Is n → n ≤ 999999999999
+    both : (a b : HexNumber) → (x y : List ℕ) → numberIn 9 x ≡ a → ((f : ℕ) → b ≡ Is f → f < 1000) → joined a b ≡ Is n → n ≤ 999999999999
     both (Is w) (Is f) x y g k h =
         let a : w < 10 ^ 9 = number-small 9 x w g in
         let b : f < 1000 = k f refl in

@@ -3,7 +3,7 @@ ghost use mathlib.Core.Path.{_≡_};
 ghost use Prim.Native.Nat.{_≤_, _<_};
 ghost use lib.ListN.{length};
 ghost use Rattle.text_decimals.specs.Decimals.{digitIn, numberIn, placeOf, behindOf, thousandthsOf};
-use text::Hexed;
+use text::HexNumber;
 
 // The value of a decimal digit; 10 for any other byte.
 fn digit_in(b: u8) -> u64
@@ -19,27 +19,27 @@ fn digit_in(b: u8) -> u64
 }
 
 // The number that 1 to `most` digits say.
-pub fn number_in(s: &[u8], most: usize) -> Hexed
+pub fn number_in(s: &[u8], most: usize) -> HexNumber
     requires { ⌜ most ≤ 9 ⌝ }
     ensures { λ r. ⌜ r ≡ numberIn most (now (s .entry)) ⌝ }
 {
     if s.len() < 1 {
-        return Hexed::Nothing;
+        return HexNumber::Nothing;
     }
     if most < s.len() {
-        return Hexed::Nothing;
+        return HexNumber::Nothing;
     }
     let mut n: u64 = 0;
     let mut i = 0;
     while i < s.len() {
         let d = digit_in(s[i]);
         if d == 10 {
-            return Hexed::Nothing;
+            return HexNumber::Nothing;
         }
         n = n * 10 + d;
         i += 1;
     }
-    Hexed::Is(n)
+    HexNumber::Is(n)
 }
 
 // Where the first b of s is; the length where there is none.
@@ -57,39 +57,39 @@ pub fn place_of(s: &[u8], b: u8) -> usize
 }
 
 // The thousandths of 1 to 3 digits behind a point.
-fn behind(s: &[u8]) -> Hexed
+fn behind(s: &[u8]) -> HexNumber
     ensures { λ r. ⌜ r ≡ behindOf (now (s .entry)) ⌝ }
 {
     let n = s.len();
-    let Hexed::Is(f) = number_in(s, 3) else {
-        return Hexed::Nothing;
+    let HexNumber::Is(f) = number_in(s, 3) else {
+        return HexNumber::Nothing;
     };
     if n == 1 {
-        return Hexed::Is(f * 100);
+        return HexNumber::Is(f * 100);
     }
     if n == 2 {
-        return Hexed::Is(f * 10);
+        return HexNumber::Is(f * 10);
     }
-    Hexed::Is(f)
+    HexNumber::Is(f)
 }
 
 // The thousandths that a decimal says.
-pub fn thousandths(s: &[u8]) -> Hexed
+pub fn thousandths(s: &[u8]) -> HexNumber
     ensures { λ r. ⌜ r ≡ thousandthsOf (now (s .entry)) ⌝ }
 {
     let p = place_of(s, b'.');
     if p < s.len() {
         let from = p + 1;
-        let Hexed::Is(w) = number_in(&s[0..p], 9) else {
-            return Hexed::Nothing;
+        let HexNumber::Is(w) = number_in(&s[0..p], 9) else {
+            return HexNumber::Nothing;
         };
-        let Hexed::Is(f) = behind(&s[from..]) else {
-            return Hexed::Nothing;
+        let HexNumber::Is(f) = behind(&s[from..]) else {
+            return HexNumber::Nothing;
         };
-        return Hexed::Is(w * 1000 + f);
+        return HexNumber::Is(w * 1000 + f);
     }
-    let Hexed::Is(w) = number_in(s, 9) else {
-        return Hexed::Nothing;
+    let HexNumber::Is(w) = number_in(s, 9) else {
+        return HexNumber::Nothing;
     };
-    Hexed::Is(w * 1000)
+    HexNumber::Is(w * 1000)
 }

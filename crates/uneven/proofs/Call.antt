@@ -16,14 +16,14 @@ use Rattle.error.proofs.First.{never, clear, First, first-sound, first-complete
 use Rattle.basis.specs.declared.Basis.{Basis}
 use Rattle.basis.specs.Basis.{regular, segmentsOf}
 use Rattle.doubles.proofs.Bounds.{InOne}
-use Rattle.spline.specs.declared.Evaluated.{Evaluated}
-use Rattle.spline.specs.declared.Evaluated.the-variants.{Value, Refused as NoValue}
+use Rattle.spline.specs.declared.Evaluation.{Evaluation}
+use Rattle.spline.specs.declared.Evaluation.the-variants.{Value, Refused as NoValue}
 use Rattle.checks.specs.Checks.{allInRange}
 use Rattle.spline.specs.Curve.{curveValue}
 use Rattle.spline.specs.Evaluation.{evaluated, splineUses, splineOf}
 use Rattle.inverse_segment.specs.declared.Place.{Place}
-use Rattle.inverse_segment.specs.declared.Inverted.{Inverted}
-use Rattle.inverse_segment.specs.declared.Inverted.the-variants.{Refused as NotInverted, OffCurve as Off, At as Found}
+use Rattle.inverse_segment.specs.declared.Inversion.{Inversion}
+use Rattle.inverse_segment.specs.declared.Inversion.the-variants.{Refused as NotInverted, OffCurve as Off, At as Found}
 use Rattle.inverse_segment.specs.Answer.{countTold}
 use Rattle.inverse_methods.specs.declared.Method.the-variants.{AsCrate}
 use Rattle.inverse_search.specs.Bound.{bitsOf, boundOf}
@@ -32,13 +32,13 @@ use Rattle.inverse.specs.Inverse.{inverseUses, inverseOf, inverseEvaluations}
 use Rattle.inverse.proofs.Facts.{AtPlace, Proper}
 use Rattle.inverse.proofs.Promises.{inverse-count, inverse-bounded, few-bound, many-bound, inverse-proper}
 use Rattle.inverse.proofs.Refusing.{inverse-refused-only, inverse-refused-where}
-use Rattle.uneven.specs.declared.Sounded.{Sounded}
-use Rattle.uneven.specs.declared.Sounded.the-variants.{Refused, OffCurve, At}
-use Rattle.uneven.specs.declared.Named.the-variants.{Times, Depths}
+use Rattle.uneven.specs.declared.DepthAnswer.{DepthAnswer}
+use Rattle.uneven.specs.declared.DepthAnswer.the-variants.{Refused, OffCurve, At}
+use Rattle.uneven.specs.declared.WhichTable.the-variants.{Times, Depths}
 use Rattle.uneven.specs.Uneven.{depthUses, depthAt, suited, unsuited, sounded, depthOf}
 
 -- the evaluations told: of both tables for a depth, of the times for 11; 0 for the other refusals
-abbrev pub countOf : Sounded → ℕ
+abbrev pub countOf : DepthAnswer → ℕ
 countOf (Refused t r) = 0
 countOf (OffCurve n) = n
 countOf (At d) = d .count
@@ -50,27 +50,27 @@ number-of (inf s) h = refl
 number-of (fin s m e) h = refl
 
 -- ---- an answer, by the depths' verdict, the inversion and the evaluation
-by-times : (v : Verdict) (a : Inverted) (f : Float → Evaluated) (r : Refusal) → sounded v a f ≡ Refused Times r → a ≡ NotInverted r
+by-times : (v : Verdict) (a : Inversion) (f : Float → Evaluation) (r : Refusal) → sounded v a f ≡ Refused Times r → a ≡ NotInverted r
 by-times Passed (NotInverted q) f r e = let s : q ≡ r = cc in ap NotInverted s
 by-times Passed (Off n) f r e = never (cc)
 by-times Passed (Found p) f r e = go (f (p .parameter)) e
   where
-    go : (x : Evaluated) → depthAt p x ≡ Refused Times r → Found p ≡ NotInverted r
+    go : (x : Evaluation) → depthAt p x ≡ Refused Times r → Found p ≡ NotInverted r
     go (Value d) h = never (cc)
     go (NoValue q) h = never (cc)
 by-times (Failed w) (NotInverted q) f r e = let s : q ≡ r = cc in ap NotInverted s
 by-times (Failed w) (Off n) f r e = never (cc)
 by-times (Failed w) (Found p) f r e = never (cc)
 
-times-stop : (v : Verdict) (f : Float → Evaluated) (r : Refusal) → sounded v (NotInverted r) f ≡ Refused Times r
+times-stop : (v : Verdict) (f : Float → Evaluation) (r : Refusal) → sounded v (NotInverted r) f ≡ Refused Times r
 times-stop Passed f r = refl
 times-stop (Failed w) f r = refl
 
 -- the evaluation answers where the depths pass
-abbrev Answers : Verdict → Inverted → (Float → Evaluated) → Type 0
+abbrev Answers : Verdict → Inversion → (Float → Evaluation) → Type 0
 Answers v a f = v ≡ Passed → (p : Place) → a ≡ Found p → (d : Float) × (f (p .parameter) ≡ Value d)
 
-by-depths : (v : Verdict) (a : Inverted) (f : Float → Evaluated) (r : Refusal) → Answers v a f → sounded v a f ≡ Refused Depths r → (v ≡ Failed r) ×
+by-depths : (v : Verdict) (a : Inversion) (f : Float → Evaluation) (r : Refusal) → Answers v a f → sounded v a f ≡ Refused Depths r → (v ≡ Failed r) ×
     ((q : Refusal) → a ≡ NotInverted q → ⊥)
 by-depths Passed (NotInverted q) f r h e = never (cc)
 by-depths Passed (Off n) f r h e = never (cc)
@@ -79,17 +79,17 @@ by-depths (Failed w) (NotInverted q) f r h e = never (cc)
 by-depths (Failed w) (Off n) f r h e = let s : w ≡ r = cc in (ap Failed s, λ q x. let z : _≡_ {A = ℕ} 0 1 = cc in omega arith)
 by-depths (Failed w) (Found p) f r h e = let s : w ≡ r = cc in (ap Failed s, λ q x. let z : _≡_ {A = ℕ} 0 1 = cc in omega arith)
 
-depths-stop : (a : Inverted) (f : Float → Evaluated) (r : Refusal) → ((q : Refusal) → a ≡ NotInverted q → ⊥) → sounded (Failed r) a f ≡ Refused Depths r
+depths-stop : (a : Inversion) (f : Float → Evaluation) (r : Refusal) → ((q : Refusal) → a ≡ NotInverted q → ⊥) → sounded (Failed r) a f ≡ Refused Depths r
 depths-stop (NotInverted q) f r h = absurd (h q refl)
 depths-stop (Off n) f r h = refl
 depths-stop (Found p) f r h = refl
 
-by-off : (v : Verdict) (a : Inverted) (f : Float → Evaluated) (n : ℕ) → sounded v a f ≡ OffCurve n → (v ≡ Passed) × (a ≡ Off n)
+by-off : (v : Verdict) (a : Inversion) (f : Float → Evaluation) (n : ℕ) → sounded v a f ≡ OffCurve n → (v ≡ Passed) × (a ≡ Off n)
 by-off Passed (NotInverted q) f n e = never (cc)
 by-off Passed (Off m) f n e = let s : m ≡ n = cc in (refl, ap Off s)
 by-off Passed (Found p) f n e = go (f (p .parameter)) e
   where
-    go : (x : Evaluated) → depthAt p x ≡ OffCurve n → (Passed ≡ Passed) × (Found p ≡ Off n)
+    go : (x : Evaluation) → depthAt p x ≡ OffCurve n → (Passed ≡ Passed) × (Found p ≡ Off n)
     go (Value d) h = never (cc)
     go (NoValue q) h = never (cc)
 by-off (Failed w) (NotInverted q) f n e = never (cc)
@@ -97,12 +97,12 @@ by-off (Failed w) (Off m) f n e = never (cc)
 by-off (Failed w) (Found p) f n e = never (cc)
 
 -- one evaluation more at most
-one-more : (v : Verdict) (a : Inverted) (f : Float → Evaluated) → countOf (sounded v a f) ≤ countTold a + 1
+one-more : (v : Verdict) (a : Inversion) (f : Float → Evaluation) → countOf (sounded v a f) ≤ countTold a + 1
 one-more Passed (NotInverted q) f = omega arith
 one-more Passed (Off n) f = omega arith
 one-more Passed (Found p) f = go (f (p .parameter))
   where
-    go : (x : Evaluated) → countOf (depthAt p x) ≤ p .count + 1
+    go : (x : Evaluation) → countOf (depthAt p x) ≤ p .count + 1
     go (Value d) = omega arith
     go (NoValue q) = omega arith
 one-more (Failed w) (NotInverted q) f = omega arith
@@ -110,7 +110,7 @@ one-more (Failed w) (Off n) f = omega arith
 one-more (Failed w) (Found p) f = omega arith
 
 module _ (tb : Basis) (ts : List Float) (db : Basis) (ds : List Float) (y : Float) (limit : ℕ) (ε : Float) where
-  abbrev place : Inverted
+  abbrev place : Inversion
   place = inverseOf tb y ts true limit ε
 
   abbrev timesPass : Type 0
@@ -139,7 +139,7 @@ module _ (tb : Basis) (ts : List Float) (db : Basis) (ds : List Float) (y : Floa
       ap (λ (v : Verdict). evaluated v (curveValue db (p .parameter) ds)) (passes e (p .parameter) (number-of (p .parameter) (proper .parameter)))
 
   -- so the depths need no second test: their value stands for the evaluation's answer
-  pub untested : verdict ≡ Passed → (a : Inverted) → a ≡ place → suited a (λ x. Value (curveValue db x ds)) ≡ suited a (λ x. splineOf db x ds)
+  pub untested : verdict ≡ Passed → (a : Inversion) → a ≡ place → suited a (λ x. Value (curveValue db x ds)) ≡ suited a (λ x. splineOf db x ds)
   untested e (NotInverted r) f = refl
   untested e (Off n) f = refl
   untested e (Found p) f = ap (depthAt p) (sym (depth-told e p (sym f)))
@@ -163,7 +163,7 @@ module _ (tb : Basis) (ts : List Float) (db : Basis) (ds : List Float) (y : Floa
 
   pub times-where : (r : Refusal) → First (inverseUses tb y ts true limit ε) rows r → depthOf tb ts db ds y limit ε ≡ Refused Times r
   unfolding depthOf
-  times-where r f = ap (λ (a : Inverted). sounded verdict a (λ x. splineOf db x ds)) (inverse-refused-where Knots AsCrate tb y ts true limit ε r f) ∙
+  times-where r f = ap (λ (a : Inversion). sounded verdict a (λ x. splineOf db x ds)) (inverse-refused-where Knots AsCrate tb y ts true limit ε r f) ∙
       times-stop verdict (λ x. splineOf db x ds) r
 
   -- the depths, where no row of the times applies, by the first of theirs
@@ -186,14 +186,14 @@ module _ (tb : Basis) (ts : List Float) (db : Basis) (ds : List Float) (y : Floa
 
   pub off-where : (n : ℕ) → (verdict ≡ Passed) × (place ≡ Off n) → depthOf tb ts db ds y limit ε ≡ OffCurve n
   unfolding depthOf
-  off-where n h = ap (λ (v : Verdict). sounded v place (λ x. splineOf db x ds)) (h .0) ∙ ap (λ (a : Inverted). suited a (λ x. splineOf db x ds)) (h .1)
+  off-where n h = ap (λ (v : Verdict). sounded v place (λ x. splineOf db x ds)) (h .0) ∙ ap (λ (a : Inversion). suited a (λ x. splineOf db x ds)) (h .1)
 
   pub in-turn : verdict ≡ Passed → (p : Place) → place ≡ Found p
       → depthOf tb ts db ds y limit ε ≡ At (record { depth = curveValue db (p .parameter) ds; place = p; count = p .count + 1 })
   unfolding depthOf
   in-turn e p f =
       ap (λ (v : Verdict). sounded v place (λ x. splineOf db x ds)) e
-      ∙ ap (λ (a : Inverted). suited a (λ x. splineOf db x ds)) f
+      ∙ ap (λ (a : Inversion). suited a (λ x. splineOf db x ds)) f
       ∙ ap (depthAt p) (depth-told e p f)
 
   -- ---- demand 3's bound, and 1

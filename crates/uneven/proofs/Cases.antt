@@ -17,18 +17,18 @@ use Rattle.error.proofs.First.{through, after, otherRows, stops-in, goes-past, 
 use Rattle.basis.specs.declared.Basis.{Basis}
 use Rattle.basis.specs.Basis.{stepOf, segmentsOf}
 use Rattle.checks.specs.Checks.{curveLength, badKnot}
-use Rattle.spline.specs.declared.Evaluated.the-variants.{Value}
+use Rattle.spline.specs.declared.Evaluation.the-variants.{Value}
 use Rattle.spline.specs.Evaluation.{splineOf}
 use Rattle.inverse_segment.specs.declared.Place.{Place}
-use Rattle.inverse_segment.specs.declared.Inverted.{Inverted}
-use Rattle.inverse_segment.specs.declared.Inverted.the-variants.{At as Found}
+use Rattle.inverse_segment.specs.declared.Inversion.{Inversion}
+use Rattle.inverse_segment.specs.declared.Inversion.the-variants.{At as Found}
 use Rattle.inverse_segment.specs.Answer.{countTold}
 use Rattle.inverse_methods.specs.declared.Method.the-variants.{AsCrate}
 use Rattle.inverse_search.specs.Bound.{bitsOf, boundOf}
 use Rattle.inverse.specs.declared.EndsBy.the-variants.{Knots}
 use Rattle.inverse.specs.Inverse.{inverseOf}
 use Rattle.inverse.proofs.Promises.{inverse-bounded}
-use Rattle.uneven.specs.declared.Sounded.{Sounded}
+use Rattle.uneven.specs.declared.DepthAnswer.{DepthAnswer}
 use Rattle.uneven.specs.Uneven.{depthUses, depthAt, suited, sounded, depthOf}
 
 -- ---- the depths' rows
@@ -80,22 +80,22 @@ bound-small k limit = go (leb k 12)
     go true = omega arith
     go false = omega (arith, few-bits k)
 
-pub room : (b : Basis) (y : Float) (ks : List Float) (limit : ℕ) (ε : Float) {a : Inverted} → limit < 65536 → a ≡ inverseOf b y ks true limit ε →
+pub room : (b : Basis) (y : Float) (ks : List Float) (limit : ℕ) (ε : Float) {a : Inversion} → limit < 65536 → a ≡ inverseOf b y ks true limit ε →
     countTold a < 4294967295
 room b y ks limit ε {a} l e =
     omega (arith, ap countTold e, inverse-bounded Knots AsCrate b y ks true limit ε, bound-small (segmentsOf b (length ks)) limit)
 
 -- ---- the answer
 -- at a place, from the value there
-pub value-told : {a : Inverted} {p : Place} {d : Float} (f : Float → Float) → a ≡ Found p → d ≡ f (p .parameter)
+pub value-told : {a : Inversion} {p : Place} {d : Float} (f : Float → Float) → a ≡ Found p → d ≡ f (p .parameter)
     → depthAt p (Value d) ≡ suited a (λ x. Value (f x))
-value-told {p = p} f e h = ap (λ (v : Float). depthAt p (Value v)) h ∙ sym (ap (λ (i : Inverted). suited i (λ x. Value (f x))) e)
+value-told {p = p} f e h = ap (λ (v : Float). depthAt p (Value v)) h ∙ sym (ap (λ (i : Inversion). suited i (λ x. Value (f x))) e)
 
-pub answered : (tb db : Basis) (ts ds : List Float) (y : Float) (limit : ℕ) (ε : Float) {a : Inverted} {v w : Verdict} {r : Sounded} → a ≡ inverseOf
+pub answered : (tb db : Basis) (ts ds : List Float) (y : Float) (limit : ℕ) (ε : Float) {a : Inversion} {v w : Verdict} {r : DepthAnswer} → a ≡ inverseOf
     tb y ts true limit ε → v ≡ first (depthUses tb (length ts) db ds) → v ≡ w
     → r ≡ sounded w a (λ x. splineOf db x ds) → r ≡ depthOf tb ts db ds y limit ε
 unfolding depthOf
 answered tb db ts ds y limit ε {a} {v} {w} e f g h =
     h
     ∙ ap (λ (u : Verdict). sounded u a (λ x. splineOf db x ds)) (sym g ∙ f)
-    ∙ ap (λ (u : Inverted). sounded (first (depthUses tb (length ts) db ds)) u (λ x. splineOf db x ds)) e
+    ∙ ap (λ (u : Inversion). sounded (first (depthUses tb (length ts) db ds)) u (λ x. splineOf db x ds)) e

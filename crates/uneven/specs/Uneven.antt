@@ -12,17 +12,17 @@ use Rattle.error.specs.declared.Verdict.the-variants.{Passed, Failed}
 use Rattle.error.specs.Refusals.{Uses, first}
 use Rattle.basis.specs.declared.Basis.{Basis}
 use Rattle.basis.specs.Basis.{segmentsOf}
-use Rattle.spline.specs.declared.Evaluated.{Evaluated}
-use Rattle.spline.specs.declared.Evaluated.the-variants.{Value, Refused as NoValue}
+use Rattle.spline.specs.declared.Evaluation.{Evaluation}
+use Rattle.spline.specs.declared.Evaluation.the-variants.{Value, Refused as NoValue}
 use Rattle.checks.specs.Checks.{curveLength, badKnot}
 use Rattle.spline.specs.Evaluation.{splineOf}
 use Rattle.inverse_segment.specs.declared.Place.{Place}
-use Rattle.inverse_segment.specs.declared.Inverted.{Inverted}
-use Rattle.inverse_segment.specs.declared.Inverted.the-variants.{Refused as NotInverted, OffCurve as Off, At as Found}
+use Rattle.inverse_segment.specs.declared.Inversion.{Inversion}
+use Rattle.inverse_segment.specs.declared.Inversion.the-variants.{Refused as NotInverted, OffCurve as Off, At as Found}
 use Rattle.inverse.specs.Inverse.{inverseOf}
-use Rattle.uneven.specs.declared.Named.the-variants.{Times, Depths}
-use Rattle.uneven.specs.declared.Sounded.{Sounded}
-use Rattle.uneven.specs.declared.Sounded.the-variants.{Refused, OffCurve, At}
+use Rattle.uneven.specs.declared.WhichTable.the-variants.{Times, Depths}
+use Rattle.uneven.specs.declared.DepthAnswer.{DepthAnswer}
+use Rattle.uneven.specs.declared.DepthAnswer.the-variants.{Refused, OffCurve, At}
 
 -- the depths: lengths and knots, and as many segments as n times make
 abbrev pub depthUses : Basis → ℕ → Basis → List Float → Uses
@@ -30,26 +30,26 @@ depthUses tb n db ds =
     curveLength db (length ds) ++ (badKnot ds ∷ (UnequalSegments, not (eqb (segmentsOf tb n) (segmentsOf db (length ds)))) ∷ [])
 
 -- the depth at a place, and one evaluation more
-abbrev pub depthAt : Place → Evaluated → Sounded
+abbrev pub depthAt : Place → Evaluation → DepthAnswer
 depthAt p (Value d) = At (record { depth = d; place = p; count = p .count + 1 })
 depthAt p (NoValue r) = Refused Depths r
 
 -- where no row of the depths applies
-abbrev pub suited : Inverted → (Float → Evaluated) → Sounded
+abbrev pub suited : Inversion → (Float → Evaluation) → DepthAnswer
 suited (NotInverted r) f = Refused Times r
 suited (Off n) f = OffCurve n
 suited (Found p) f = depthAt p (f (p .parameter))
 
 -- where one does: a row of the times comes before it, 11 does not
-abbrev pub unsuited : Inverted → Refusal → Sounded
+abbrev pub unsuited : Inversion → Refusal → DepthAnswer
 unsuited (NotInverted q) r = Refused Times q
 unsuited (Off n) r = Refused Depths r
 unsuited (Found p) r = Refused Depths r
 
-abbrev pub sounded : Verdict → Inverted → (Float → Evaluated) → Sounded
+abbrev pub sounded : Verdict → Inversion → (Float → Evaluation) → DepthAnswer
 sounded Passed a f = suited a f
 sounded (Failed r) a f = unsuited a r
 
 -- the depth at y of the times, with the order check
-unfoldable pub depthOf : Basis → List Float → Basis → List Float → Float → ℕ → Float → Sounded
+unfoldable pub depthOf : Basis → List Float → Basis → List Float → Float → ℕ → Float → DepthAnswer
 depthOf tb ts db ds y limit ε = sounded (first (depthUses tb (length ts) db ds)) (inverseOf tb y ts true limit ε) (λ x. splineOf db x ds)

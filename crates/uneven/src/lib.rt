@@ -2,20 +2,20 @@
 ghost use mathlib.Core.Path.{_≡_};
 ghost use Prim.Native.Nat.{_≤_, _<_};
 ghost use lib.ListN.{length};
-ghost use Rattle.spline.specs.declared.Evaluated.the-variants.{Value};
+ghost use Rattle.spline.specs.declared.Evaluation.the-variants.{Value};
 ghost use Rattle.spline.specs.Curve.{curveValue};
 ghost use Rattle.inverse_segment.specs.Answer.{countTold};
 ghost use Rattle.uneven.specs.Uneven.{suited, unsuited, depthOf};
 use basis::Basis;
 use error::Refusal;
 use error::Verdict;
-use inverse_segment::Inverted;
+use inverse_segment::Inversion;
 use inverse_segment::Place;
 
 pub mod refusals;
 
 // Which of the two tables a refusal is about.
-pub enum Named {
+pub enum WhichTable {
     Times,
     Depths,
 }
@@ -28,21 +28,21 @@ pub struct Depth {
 }
 
 // Refused by a row of a table, the target not on the curve of the times after so many evaluations, or a depth.
-pub enum Sounded {
-    Refused(Named, Refusal),
+pub enum DepthAnswer {
+    Refused(WhichTable, Refusal),
     OffCurve(usize),
     At(Depth),
 }
 
 // Where no row of the depths applies: so they are not tested a second time.
-fn suited(a: Inverted, db: Basis, depths: &[f64]) -> Sounded
+fn suited(a: Inversion, db: Basis, depths: &[f64]) -> DepthAnswer
     requires { ⌜ (countTold a < 4294967295) × (4 ≤ length (now depths)) × (length (now depths) ≤ 4096) ⌝ }
     ensures { λ r. ⌜ r ≡ suited a (λ x. Value (curveValue db x (now (depths .entry)))) ⌝ }
 {
     match a {
-        Inverted::Refused(r) => Sounded::Refused(Named::Times, r),
-        Inverted::OffCurve(n) => Sounded::OffCurve(n),
-        Inverted::At(p) => Sounded::At(Depth {
+        Inversion::Refused(r) => DepthAnswer::Refused(WhichTable::Times, r),
+        Inversion::OffCurve(n) => DepthAnswer::OffCurve(n),
+        Inversion::At(p) => DepthAnswer::At(Depth {
             depth: spline::curve::value_at(db, p.parameter, depths),
             place: p,
             count: p.count + 1,
@@ -51,13 +51,13 @@ fn suited(a: Inverted, db: Basis, depths: &[f64]) -> Sounded
 }
 
 // The reply where the depths are refused with r: a refusal of the times comes before r, but 11 comes after it.
-fn unsuited(a: Inverted, r: Refusal) -> Sounded
+fn unsuited(a: Inversion, r: Refusal) -> DepthAnswer
     ensures { λ s. ⌜ s ≡ unsuited a r ⌝ }
 {
     match a {
-        Inverted::Refused(q) => Sounded::Refused(Named::Times, q),
-        Inverted::OffCurve(_) => Sounded::Refused(Named::Depths, r),
-        Inverted::At(_) => Sounded::Refused(Named::Depths, r),
+        Inversion::Refused(q) => DepthAnswer::Refused(WhichTable::Times, q),
+        Inversion::OffCurve(_) => DepthAnswer::Refused(WhichTable::Depths, r),
+        Inversion::At(_) => DepthAnswer::Refused(WhichTable::Depths, r),
     }
 }
 
@@ -70,7 +70,7 @@ pub fn depth_at(
     y: f64,
     limit: u16,
     precision: f64,
-) -> Sounded
+) -> DepthAnswer
     ensures { λ r. ⌜ r ≡ depthOf tb (now (times .entry)) db (now (depths .entry)) y limit precision ⌝ }
 {
     let a = inverse::spline_inverse_with(tb, y, times, true, limit, precision);

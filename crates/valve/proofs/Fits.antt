@@ -12,7 +12,7 @@ use borrow.Author.Needs.{sfits-of}
 use Rattle.error.specs.Refusals.{first}
 use Rattle.valve.specs.declared.Mixture.the-variants.{Mixed}
 use Rattle.valve.specs.Mix.{weightOf, whole, knotOf, termOf, mixOf, mixUses, mixtureOf}
-use Rattle.valve.specs.Shown.{SmallKnots}
+use Rattle.valve.specs.Contract.{SmallKnots}
 use Rattle.valve.proofs.Rule.{sum-is}
 use Rattle.valve.proofs.Sizes.{abs-times, abs-plus, fits}
 use Rattle.valve.proofs.Refusals.{passed, told}

@@ -19,7 +19,7 @@ use Rattle.valve.specs.declared.Mixture.the-variants.{Mixed}
 use Rattle.error.specs.Refusals.{first}
 use Rattle.error.proofs.First.{never, clear}
 use Rattle.valve.specs.Mix.{held, knotOf, small, firstLarge, mixUses, mixture}
-use Rattle.valve.specs.Shown.{SmallKnots}
+use Rattle.valve.specs.Contract.{SmallKnots}
 
 small-le : (z : ℤ) → small z ≡ true → natAbs z ≤ 1000000
 unfolding small

@@ -1,2 +1,2 @@
 pub mod Mix
-pub mod Shown
+pub mod Contract

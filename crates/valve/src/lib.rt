@@ -7,7 +7,7 @@ ghost use mir.Syntax.{w64};
 ghost use mir.Val.{SFits};
 ghost use Rattle.error.specs.Refusals.{first};
 ghost use Rattle.valve.specs.Mix.{mixOf, small, firstLarge, mixUses, mixtureOf, mixtureReply, sumLeft};
-ghost use Rattle.valve.specs.Shown.{SmallKnots};
+ghost use Rattle.valve.specs.Contract.{SmallKnots};
 use error::Refusal;
 use error::Verdict;
 

@@ -1,6 +1,6 @@
 // The weights of the valves, four to each of 257 steps: the B-spline's at step/256, times 6 × 256³.
 ghost use Prim.Native.Nat.{_≤_};
-ghost use Rattle.valve.specs.Shown.{FourOf};
+ghost use Rattle.valve.specs.Contract.{FourOf};
 
 const WEIGHTS: [u32; 1028] = [
     16777216, // step 0

@@ -1,6 +1,6 @@
 -- A record is answered as in a listing; a claim is checked, and leaves the table as it is.
-use Rattle.lines_answer.specs.Held.{curveOf}
-use Rattle.lines_machine.specs.Held.{openOf}
+use Rattle.lines_answer.specs.Contract.{curveOf}
+use Rattle.lines_machine.specs.Contract.{openOf}
 use Rattle.claims.proofs.Saying.{listed-leaves, listed-wrote, claim-leaves, claim-wrote}
 use borrow.Author.Needs.{needs}
 use Rattle.claims.proofs.line.Statement.{statement}

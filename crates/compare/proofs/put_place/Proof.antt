@@ -4,7 +4,7 @@ use mathlib.Core.Path.{_≡_}
 use mathlib.Core.List.{[], _∷_}
 use lib.ListN.{getD}
 use Rattle.compare.specs.Differences.{knot, only, placesIn}
-use Rattle.compare.specs.Shown.{atPlace}
+use Rattle.compare.specs.Contract.{atPlace}
 use Rattle.compare.proofs.Writing.{no-line, one-line, place-same, place-knot, place-old, place-new}
 use borrow.Author.Needs.{needs}
 use Rattle.compare.proofs.put_place.Statement.{statement}

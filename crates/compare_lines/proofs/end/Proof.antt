@@ -2,7 +2,7 @@
 use native.Mathlib.Omega.{arith}
 use Prim.Native.Nat.{_≤_, max}
 use Rattle.compare_lines.specs.Listings.{places, endsOf}
-use Rattle.compare_lines.specs.Held.{knotsOf}
+use Rattle.compare_lines.specs.Contract.{knotsOf}
 use borrow.Author.Needs.{needs}
 use Rattle.compare_lines.proofs.end.Statement.{statement}
 use Rattle.compare_lines.proofs.end.Tie as tie

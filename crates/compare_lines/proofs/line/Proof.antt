@@ -1,5 +1,5 @@
 -- What the line says is taken in, and its refusal written.
-use Rattle.lines_machine.specs.Held.{openOf}
+use Rattle.lines_machine.specs.Contract.{openOf}
 use Rattle.compare_lines.proofs.Entering.{line-state, line-wrote}
 use borrow.Author.Needs.{needs}
 use Rattle.compare_lines.proofs.line.Statement.{statement}

@@ -1,6 +1,6 @@
 -- A case for each word, in the definition's order: the words before it did not fit.
 use mathlib.Core.Path.{sym, _∙_}
-use Rattle.compare_lines.specs.Said.{meaningOf}
+use Rattle.compare_lines.specs.CompareRecord.{meaningOf}
 use borrow.Author.Needs.{needs}
 use Rattle.compare_lines.proofs.meaning.Statement.{statement}
 use Rattle.compare_lines.proofs.meaning.Tie as tie

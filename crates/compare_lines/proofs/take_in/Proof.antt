@@ -3,7 +3,7 @@ use native.Mathlib.Omega.{arith}
 use mathlib.Core.Path.{sym, ap, _∙_}
 use Prim.Native.Nat.{_≤_, max}
 use Rattle.compare_lines.specs.Listings.{places, before, parted}
-use Rattle.compare_lines.specs.Held.{listingOf, knotsOf}
+use Rattle.compare_lines.specs.Contract.{listingOf, knotsOf}
 use Rattle.compare_lines.proofs.Entering.{parting, entering, second}
 use borrow.Author.Needs.{needs}
 use Rattle.compare_lines.proofs.take_in.Statement.{statement}

@@ -4,7 +4,7 @@ use native.Mathlib.Omega.{arith}
 use lib.Dec.{lit<, lit≤}
 use lib.ListN.{length}
 use Rattle.convert.proofs.Verdicts.{segment-passed}
-use Rattle.convert.proofs.Calls.{segment-refused, segment-written}
+use Rattle.convert.proofs.Glue.{segment-refused, segment-written}
 use borrow.Author.Needs.{needs}
 use Rattle.convert.proofs.convert_segment.Statement.{statement}
 use Rattle.convert.proofs.convert_segment.Tie as tie

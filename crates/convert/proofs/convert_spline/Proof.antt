@@ -3,7 +3,7 @@ use mathlib.Core.Path.{sym, _∙_}
 use native.Mathlib.Nat.{le-trans, le-of-eq}
 use lib.ListN.{length}
 use Rattle.convert.proofs.Verdicts.{spline-passed, output-steps}
-use Rattle.convert.proofs.Calls.{spline-refused, spline-written}
+use Rattle.convert.proofs.Glue.{spline-refused, spline-written}
 use borrow.Author.Needs.{needs}
 use Rattle.convert.proofs.convert_spline.Statement.{statement}
 use Rattle.convert.proofs.convert_spline.Tie as tie

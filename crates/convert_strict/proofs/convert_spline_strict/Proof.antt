@@ -6,7 +6,7 @@ use lib.ListN.{length}
 use Rattle.convert.specs.Conversion.{Conversion}
 use Rattle.convert.specs.Buffer.{answerOf, bufferOf}
 use Rattle.convert.proofs.Verdicts.{spline-passed, output-steps}
-use Rattle.convert.proofs.Calls.{spline-written}
+use Rattle.convert.proofs.Glue.{spline-written}
 use Rattle.convert_strict.proofs.Verdicts.{found, refused-before, plain-passes, seam-refused, seam-kept}
 use Rattle.convert_strict.proofs.Call.{strict-refuses, strict-passes}
 use borrow.Author.Needs.{needs}
@@ -67,13 +67,13 @@ put-windows-requires c κs =
     spline-passed (a .from) (a .to) (a .knots .now) (length (a .out .now))
     (plain-passes (a .from) (a .to) (a .knots .now) (a .allowance) (length (a .out .now)) p) in
     let step = c .before .before .before .before .before .step .ensures in
-    let gap = c .before .before .before .before .step2 .ensures in (
+    let stride = c .before .before .before .before .step2 .ensures in (
       step .1,
-      gap .1,
-      gap .2,
+      stride .1,
+      stride .2,
       h .0 .least,
       h .0 .most,
-      le-trans (le-of-eq (output-steps (a .from) (a .to) (length (a .knots .now)) _ _ (step .0) (gap .0))) (h .1 .enough),
+      le-trans (le-of-eq (output-steps (a .from) (a .to) (length (a .knots .now)) _ _ (step .0) (stride .0))) (h .1 .enough),
     )
 
 returns-2 : tie.Need-returns-2
@@ -96,10 +96,10 @@ returns-3 c =
     ∙ c .before .before .before .before .before .before .before .before .before .before .enum-told .given .1 in
     let m = c .before .before .before .before .before .before .before .before .before .conversion-matrix .ensures in
     let step = c .before .before .before .before .before .before .before .before .step .ensures in
-    let gap = c .before .before .before .before .before .before .before .step2 .ensures in
+    let stride = c .before .before .before .before .before .before .before .step2 .ensures in
     let wrote = c .before .before .put-windows .ensures in
     let s =
-    found (a .from) (a .to) (a .knots .now) (a .allowance) m (step .0) (gap .0)
+    found (a .from) (a .to) (a .knots .now) (a .allowance) m (step .0) (stride .0)
     (c .before .before .before .before .before .before .lost-seam .ensures .0) in
     let e =
     strict-passes (a .from) (a .to) (a .knots .now) (a .allowance) (length (a .out .now))
@@ -107,7 +107,7 @@ returns-3 c =
     (omega (arith, c .before .before .before .before .before .if1 .left))) in
     let t =
     spline-written (a .from) (a .to) (a .knots .now) (a .out .now) _ _ _ _ _
-    (plain-passes (a .from) (a .to) (a .knots .now) (a .allowance) (length (a .out .now)) p) m (step .0) (gap .0) (gap .2) (wrote .0) (wrote .1) in
+    (plain-passes (a .from) (a .to) (a .knots .now) (a .allowance) (length (a .out .now)) p) m (step .0) (stride .0) (stride .2) (wrote .0) (wrote .1) in
     (t .answer ∙ sym (ap answerOf e), t .buffer ∙ sym (ap (λ (x : Conversion). bufferOf x (a .out .now)) e))
 
 pub convert-spline-strict-spec : {M : Type 1} → statement M

@@ -3,7 +3,7 @@ use mathlib.Core.Path.{sym, ap}
 use mathlib.Core.List.{map}
 use native.Mathlib.Omega.{arith}
 use lib.ListN.{List·getD-eq-default}
-use Rattle.exports_reply.specs.declared.Chosen.the-variants.{Known, Unknown}
+use Rattle.exports_reply.specs.declared.BasisChoice.the-variants.{Known, Unknown}
 use Rattle.exports_reply.specs.Replies.{bases, chosenOf}
 use Rattle.exports_reply.proofs.basis_of.Statement.{statement}
 use Rattle.exports_reply.proofs.basis_of.Tie as tie

@@ -1,7 +1,7 @@
 -- By the two numbers: no basis, or the call for the bases found. Assumes nothing.
 use mathlib.Core.Path.{ap, _∙_}
 use Rattle.basis.specs.declared.Basis.{Basis}
-use Rattle.uneven.specs.declared.Sounded.{Sounded}
+use Rattle.uneven.specs.declared.DepthAnswer.{DepthAnswer}
 use Rattle.uneven.specs.Uneven.{depthOf}
 use Rattle.exports_reply.specs.Replies.{chosenOf, noBasis, chosen}
 use Rattle.exports_value.specs.Uneven.{soundedReply, depthLeft, depthPlaceLeft, depthWholeLeft}
@@ -22,7 +22,7 @@ enum-told c = search needs
 returns : tie.Need-returns
 returns c =
     let a = c .before .before .before .before .before .args in
-    let g : Basis → Basis → Sounded = λ t d. depthOf t (a .times .now) d (a .depths .now) (a .y) (a .limit) (a .precision) in
+    let g : Basis → Basis → DepthAnswer = λ t d. depthOf t (a .times .now) d (a .depths .now) (a .y) (a .limit) (a .precision) in
     let to = chosenOf (a .db) in
     let asked = c .before .before .basis-of .ensures in
     let unknown = c .enum-told .given .1 in (
@@ -49,7 +49,7 @@ enum-told-2 c = search needs
 returns-2 : tie.Need-returns-2
 returns-2 c =
     let a = c .before .before .before .before .before .before .before .before .before .args in
-    let g : Basis → Basis → Sounded = λ t d. depthOf t (a .times .now) d (a .depths .now) (a .y) (a .limit) (a .precision) in
+    let g : Basis → Basis → DepthAnswer = λ t d. depthOf t (a .times .now) d (a .depths .now) (a .y) (a .limit) (a .precision) in
     let to = chosenOf (a .db) in
     let asked = c .before .before .before .before .before .before .basis-of .ensures in
     let known = c .before .before .before .before .c .given .1 in
@@ -79,7 +79,7 @@ sounded-told-requires c κs = search needs
 returns-3 : tie.Need-returns-3
 returns-3 c =
     let a = c .before .before .before .before .before .before .before .before .before .before .before .before .before .before .before .args in
-    let g : Basis → Basis → Sounded = λ t d. depthOf t (a .times .now) d (a .depths .now) (a .y) (a .limit) (a .precision) in
+    let g : Basis → Basis → DepthAnswer = λ t d. depthOf t (a .times .now) d (a .depths .now) (a .y) (a .limit) (a .precision) in
     let to = chosenOf (a .db) in
     let asked = c .before .before .before .before .before .before .before .before .before .before .before .before .basis-of .ensures in
     let known = c .before .before .before .before .before .before .before .before .before .before .c .given .1 in
@@ -93,15 +93,15 @@ returns-3 c =
       (
         found (a .depth .now) (λ t. chosen to (a .depth .now) (λ d. depthLeft (g t d) (a .depth .now))) asked known
             (found (a .depth .now) (λ d. depthLeft (g t d) (a .depth .now)) asked-to known-to
-            (told .1 .0 ∙ ap (λ (s : Sounded). depthLeft s (a .depth .now)) call)),
+            (told .1 .0 ∙ ap (λ (s : DepthAnswer). depthLeft s (a .depth .now)) call)),
         (
           found (a .place .now) (λ t. chosen to (a .place .now) (λ d. depthPlaceLeft (g t d) (a .place .now))) asked known
               (found (a .place .now) (λ d. depthPlaceLeft (g t d) (a .place .now)) asked-to known-to
-              (told .1 .1 .0 ∙ ap (λ (s : Sounded). depthPlaceLeft s (a .place .now)) call)),
+              (told .1 .1 .0 ∙ ap (λ (s : DepthAnswer). depthPlaceLeft s (a .place .now)) call)),
           found (a .whole .now)
               (λ t. chosen to (a .whole .now) (λ d. depthWholeLeft (g t d) (a .whole .now))) asked known
               (found (a .whole .now) (λ d. depthWholeLeft (g t d) (a .whole .now)) asked-to known-to
-              (told .1 .1 .1 ∙ ap (λ (s : Sounded). depthWholeLeft s (a .whole .now)) call)),
+              (told .1 .1 .1 ∙ ap (λ (s : DepthAnswer). depthWholeLeft s (a .whole .now)) call)),
         ),
       ),
     )

@@ -2,7 +2,7 @@
 use mathlib.Core.Path.{sym, ap, _∙_}
 use mathlib.Core.List.{[], _∷_}
 use Prim.Native.Nat.{ℕ}
-use Rattle.uneven.specs.declared.Sounded.{Sounded}
+use Rattle.uneven.specs.declared.DepthAnswer.{DepthAnswer}
 use Rattle.exports_value.specs.Uneven.{soundedReply, depthLeft, depthPlaceLeft, depthWholeLeft}
 use borrow.Author.Needs.{needs}
 use Rattle.exports_value.proofs.sounded_told.Statement.{statement}
@@ -42,11 +42,11 @@ returns c =
     let d = c .before .before .before .before .before .before .before .a .given .0 .0 in (
       sym (ap soundedReply is),
       (
-        sym (ap (λ (s : Sounded). depthLeft s (a .depth .now)) is),
+        sym (ap (λ (s : DepthAnswer). depthLeft s (a .depth .now)) is),
         (
-          sym (ap (λ (s : Sounded). depthPlaceLeft s (a .place .now)) is),
+          sym (ap (λ (s : DepthAnswer). depthPlaceLeft s (a .place .now)) is),
           ap (λ (g : ℕ). g ∷ d .place .segment ∷ d .place .count ∷ d .count ∷ [])
-              (c .before .before .before .ground-number .ensures) ∙ sym (ap (λ (s : Sounded). depthWholeLeft s (a .whole .now)) is),
+              (c .before .before .before .ground-number .ensures) ∙ sym (ap (λ (s : DepthAnswer). depthWholeLeft s (a .whole .now)) is),
         ),
       ),
     )
@@ -57,8 +57,8 @@ returns-2 c =
     let is = c .before .before .a2 .given .1 in (
       c .reply .ensures ∙ sym (ap soundedReply is),
       (
-        sym (ap (λ (s : Sounded). depthLeft s (a .depth .now)) is),
-        (sym (ap (λ (s : Sounded). depthPlaceLeft s (a .place .now)) is), sym (ap (λ (s : Sounded). depthWholeLeft s (a .whole .now)) is)),
+        sym (ap (λ (s : DepthAnswer). depthLeft s (a .depth .now)) is),
+        (sym (ap (λ (s : DepthAnswer). depthPlaceLeft s (a .place .now)) is), sym (ap (λ (s : DepthAnswer). depthWholeLeft s (a .whole .now)) is)),
       ),
     )
 
@@ -68,8 +68,8 @@ returns-3 c =
     let is = c .before .before .a3 .given .1 in (
       c .named-reply .ensures ∙ sym (ap soundedReply is),
       (
-        sym (ap (λ (s : Sounded). depthLeft s (a .depth .now)) is),
-        (sym (ap (λ (s : Sounded). depthPlaceLeft s (a .place .now)) is), sym (ap (λ (s : Sounded). depthWholeLeft s (a .whole .now)) is)),
+        sym (ap (λ (s : DepthAnswer). depthLeft s (a .depth .now)) is),
+        (sym (ap (λ (s : DepthAnswer). depthPlaceLeft s (a .place .now)) is), sym (ap (λ (s : DepthAnswer). depthWholeLeft s (a .whole .now)) is)),
       ),
     )
 

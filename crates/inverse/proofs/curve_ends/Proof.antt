@@ -3,14 +3,14 @@ use lib.Ieee.{ofBits}
 use native.Mathlib.Omega.{arith}
 use lib.ListN.{length}
 use Rattle.inverse.proofs.Curve.{segments-some, segment-fits}
-use Rattle.inverse.proofs.Calls.{ends-are}
+use Rattle.inverse.proofs.Glue.{ends-are}
 use Prim.Native.Nat.{_-_}
 use borrow.Author.Needs.{needs}
 use Rattle.inverse.proofs.curve_ends.Statement.{statement}
 use Rattle.inverse.proofs.curve_ends.Tie as tie
 
-weights-at-requires : tie.Need-weights-at-requires
-weights-at-requires c κs = (
+row-sums-at-requires : tie.Need-row-sums-at-requires
+row-sums-at-requires c κs = (
   segment-fits (c .before .args .b) (length (c .before .args .knots .now)) 0 (c .before .pre .1)
       (omega (arith, c .before .pre .0, segments-some (c .before .args .b) (length (c .before .args .knots .now)))),
   c .before .pre .2,
@@ -19,11 +19,11 @@ weights-at-requires c κs = (
 horner-requires : tie.Need-horner-requires
 horner-requires c κs = search needs
 
-sub-weights-at : tie.Need-sub-weights-at
-sub-weights-at c = search needs
+sub-row-sums-at : tie.Need-sub-row-sums-at
+sub-row-sums-at c = search needs
 
-weights-at-requires-2 : tie.Need-weights-at-requires-2
-weights-at-requires-2 c κs = (
+row-sums-at-requires-2 : tie.Need-row-sums-at-requires-2
+row-sums-at-requires-2 c κs = (
   segment-fits (c .before .before .before .args .b) (length (c .before .before .before .args .knots .now)) (c .before .before .before .args .k - 1)
       (c .before .before .before .pre .1)
       (omega (
@@ -41,16 +41,16 @@ returns : tie.Need-returns
 unfolding ofBits
 returns c =
     ends-are (c .before .before .before .before .before .args .b) (c .before .before .before .before .before .args .knots .now)
-    (c .before .before .before .before .before .args .k) (c .before .before .before .weights-at .ensures) (c .before .before .horner .ensures)
-    (c .before .weights-at2 .ensures) (c .horner2 .ensures)
+    (c .before .before .before .before .before .args .k) (c .before .before .before .row-sums-at .ensures) (c .before .before .horner .ensures)
+    (c .before .row-sums-at2 .ensures) (c .horner2 .ensures)
 
 pub curve-ends-spec : {M : Type 1} → statement M
 curve-ends-spec =
     tie.close
     (tie.spec
-    weights-at-requires
+    row-sums-at-requires
     horner-requires
-    sub-weights-at
-    weights-at-requires-2
+    sub-row-sums-at
+    row-sums-at-requires-2
     horner-requires-2
     returns)

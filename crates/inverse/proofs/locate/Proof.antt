@@ -1,5 +1,5 @@
 -- The ends and the evaluations made for them are those of the rule that was chosen (`by-rule`).
-use Rattle.inverse.proofs.Calls.{by-rule}
+use Rattle.inverse.proofs.Glue.{by-rule}
 use borrow.Author.Needs.{needs}
 use Rattle.inverse.proofs.locate.Statement.{statement}
 use Rattle.inverse.proofs.locate.Tie as tie

@@ -7,7 +7,7 @@ use Rattle.inverse_methods.specs.Method.{ruleOf}
 use Rattle.inverse_search.specs.Trial.{trial}
 use Rattle.inverse_search.specs.Search.{find}
 use Rattle.inverse.specs.Curve.{parameterOf}
-use Rattle.inverse.proofs.Calls.{off-kept, with-parameter}
+use Rattle.inverse.proofs.Glue.{off-kept, with-parameter}
 use Rattle.inverse.proofs.Below.{k-fits, k-few, k-some, found-below}
 use borrow.Author.Needs.{needs}
 use Rattle.inverse.proofs.searched.Statement.{statement}

@@ -6,8 +6,8 @@ use native.Mathlib.Omega.{arith}
 use lib.Ieee.{ofBits}
 use Rattle.spline.specs.Segment.{hornerOf}
 use Rattle.inverse_segment.specs.Segment.{start}
-use Rattle.inverse_segment.specs.Shown.{countAfter, repeatsAfter}
-use Rattle.inverse_segment.proofs.Turns.{Led, led-start, led-on, led-done, led-spent}
+use Rattle.inverse_segment.specs.Contract.{countAfter, repeatsAfter}
+use Rattle.inverse_segment.proofs.OneRound.{Led, led-start, led-on, led-done, led-spent}
 use Rattle.inverse_methods.specs.Steady.{allowed, steady}
 use Rattle.inverse_methods.proofs.Choosing.{first-width, next-width}
 use Rattle.inverse_methods.proofs.rounds.Statement.{statement}
@@ -33,8 +33,8 @@ loop-holds c = (
       (c .args .n),
 )
 
-turn-requires : tie.Need-turn-requires Inv-loop μ-loop
-turn-requires c κs = omega arith
+round-requires : tie.Need-round-requires Inv-loop μ-loop
+round-requires c κs = omega arith
 
 enum-known-t : tie.Need-enum-known-t Inv-loop μ-loop
 enum-known-t c = search needs
@@ -59,7 +59,7 @@ returns c =
     (c .before .before .before .before .before .before .loop .count)
     (c .before .before .before .before .before .before .loop .st) (omega arith)
     (c .before .before .before .before .before .before .loop .inv .5)
-    (c .before .before .before .before .turn .ensures .0
+    (c .before .before .before .before .round .ensures .0
     (c .before .before .before .before .before .before .before .args .limit)
     (c .before .before .before .before .before .before .loop .i)
     (c .before .before .before .before .before .before .loop .inv .4))
@@ -74,10 +74,10 @@ loop-less c = omega arith
 loop-again : tie.Need-loop-again Inv-loop μ-loop
 unfolding ofBits
 loop-again c =
-    let h : countAfter (c .before .before .before .turn .result) ≤ c .before .before .before .before .before .loop .count + 1 =
-    c .before .before .before .turn .ensures .2 in
-    let g : repeatsAfter (c .before .before .before .turn .result) ≤ c .before .before .before .before .before .loop .st .repeats + 1 =
-    c .before .before .before .turn .ensures .1 in (
+    let h : countAfter (c .before .before .before .round .result) ≤ c .before .before .before .before .before .loop .count + 1 =
+    c .before .before .before .round .ensures .2 in
+    let g : repeatsAfter (c .before .before .before .round .result) ≤ c .before .before .before .before .before .loop .st .repeats + 1 =
+    c .before .before .before .round .ensures .1 in (
       omega arith,
       omega arith,
       omega (arith, rw (c .before .t .given .1) at g),
@@ -90,7 +90,7 @@ loop-again c =
           (c .before .before .before .before .before .before .args .n) (c .before .before .before .before .before .loop .i)
           (c .before .before .before .before .before .loop .count) (c .before .before .before .before .before .loop .st)
           (omega arith) (c .before .before .before .before .before .loop .inv .5)
-          (c .before .before .before .turn .ensures .0 (c .before .before .before .before .before .before .args .limit)
+          (c .before .before .before .round .ensures .0 (c .before .before .before .before .before .before .args .limit)
           (c .before .before .before .before .before .loop .i)
           (c .before .before .before .before .before .loop .inv .4)) (c .before .t .given .1),
     )
@@ -120,7 +120,7 @@ rounds-spec =
     Inv-loop
     μ-loop
     loop-holds
-    turn-requires
+    round-requires
     enum-known-t
     enum-known-t-2
     stopped-requires

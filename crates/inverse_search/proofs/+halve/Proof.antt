@@ -9,7 +9,7 @@ use lib.Ieee.{Float, nan}
 use borrow.Author.Needs.{needs}
 use borrow.Fn.Kinds.{In}
 use borrow.Fn.PlainCycle.{Measures, is, falls, and}
-use Rattle.inverse_search.proofs.Calls.{fits-at, halve-end, halve-hit, halve-left, halve-right}
+use Rattle.inverse_search.proofs.Glue.{fits-at, halve-end, halve-hit, halve-left, halve-right}
 use Rattle.inverse_search.proofs.halve.Reads as halve
 use Rattle.inverse_search.proofs.halve.Kinds as halve-kinds
 use Rattle.inverse_search.proofs.+halve.Lts-halve as halve-lts

@@ -1,5 +1,5 @@
 -- The search comes to a segment below k, which is entered with the six doubles kept of it (`found-in`), or to none (`found-none`).
-use Rattle.inverse_search.proofs.Calls.{found-in, found-none}
+use Rattle.inverse_search.proofs.Glue.{found-in, found-none}
 use borrow.Author.Needs.{needs}
 use Rattle.inverse_search.proofs.find.Statement.{statement}
 use Rattle.inverse_search.proofs.find.Tie as tie

@@ -1,6 +1,6 @@
 -- From left − 1, at least 0, at most two segments are tried; they lie below k.
 use native.Mathlib.Omega.{arith}
-use Rattle.inverse_search.proofs.Calls.{fits-le, last-tried}
+use Rattle.inverse_search.proofs.Glue.{fits-le, last-tried}
 use borrow.Author.Needs.{needs}
 use Rattle.inverse_search.proofs.last_tries.Statement.{statement}
 use Rattle.inverse_search.proofs.last_tries.Tie as tie

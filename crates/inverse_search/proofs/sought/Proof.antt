@@ -2,7 +2,7 @@
 use native.Mathlib.Nat.{lt-of-le-of-lt}
 use native.Mathlib.Omega.{arith}
 use lib.Dec.{lit<}
-use Rattle.inverse_search.proofs.Calls.{sought-few, sought-many}
+use Rattle.inverse_search.proofs.Glue.{sought-few, sought-many}
 use borrow.Author.Needs.{needs}
 use Rattle.inverse_search.proofs.sought.Statement.{statement}
 use Rattle.inverse_search.proofs.sought.Tie as tie

@@ -2,7 +2,7 @@
 -- on.
 use Prim.Native.Nat.{_+_, _-_, _*_, _≤_}
 use native.Mathlib.Omega.{arith}
-use Rattle.inverse_search.proofs.Calls.{fits-at, Carried, tries-start, tries-hit, tries-miss, tries-end}
+use Rattle.inverse_search.proofs.Glue.{fits-at, Carried, tries-start, tries-hit, tries-miss, tries-end}
 use Rattle.inverse_search.proofs.tries.Statement.{statement}
 use Rattle.inverse_search.proofs.tries.Tie as tie
 

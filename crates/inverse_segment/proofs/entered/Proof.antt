@@ -3,7 +3,7 @@ use mathlib.Core.Path.{sym, _∙_}
 use lib.Ieee.{ofBits}
 use Rattle.spline.specs.Segment.{hornerOf}
 use Rattle.inverse_segment.specs.Round.{chordOf}
-use Rattle.inverse_segment.proofs.Turns.{left-edge, right-edge, by-rounds}
+use Rattle.inverse_segment.proofs.OneRound.{left-edge, right-edge, by-rounds}
 use borrow.Author.Needs.{needs}
 use Rattle.inverse_segment.proofs.entered.Statement.{statement}
 use Rattle.inverse_segment.proofs.entered.Tie as tie

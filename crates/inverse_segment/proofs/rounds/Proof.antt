@@ -7,8 +7,8 @@ use lib.Ieee.{ofBits}
 use Rattle.spline.specs.Segment.{hornerOf}
 use Rattle.inverse_segment.specs.Round.{chordOf}
 use Rattle.inverse_segment.specs.Segment.{start}
-use Rattle.inverse_segment.specs.Shown.{countAfter, repeatsAfter}
-use Rattle.inverse_segment.proofs.Turns.{regula-is, Led, led-start, led-on, led-done, led-spent}
+use Rattle.inverse_segment.specs.Contract.{countAfter, repeatsAfter}
+use Rattle.inverse_segment.proofs.OneRound.{regula-falsi-is, Led, led-start, led-on, led-done, led-spent}
 use Rattle.inverse_segment.proofs.rounds.Statement.{statement}
 use Rattle.inverse_segment.proofs.rounds.Tie as tie
 
@@ -34,11 +34,11 @@ loop-holds c = (
       (start (c .args .first)) (c .args .n),
 )
 
-is-falsi-requires : tie.Need-is-falsi-requires Inv-loop μ-loop
-is-falsi-requires c κs = search needs
+uses-regula-falsi-requires : tie.Need-uses-regula-falsi-requires Inv-loop μ-loop
+uses-regula-falsi-requires c κs = search needs
 
-turn-requires : tie.Need-turn-requires Inv-loop μ-loop
-turn-requires c κs = omega arith
+round-requires : tie.Need-round-requires Inv-loop μ-loop
+round-requires c κs = omega arith
 
 enum-known-t : tie.Need-enum-known-t Inv-loop μ-loop
 enum-known-t c = search needs
@@ -64,14 +64,14 @@ returns c =
     (c .before .before .before .before .before .before .before .loop .count)
     (c .before .before .before .before .before .before .before .loop .st) (omega arith)
     (c .before .before .before .before .before .before .before .loop .inv .5)
-    (c .before .before .before .before .turn .ensures .0
+    (c .before .before .before .before .round .ensures .0
     (c .before .before .before .before .before .before .before .before .args .limit)
     (c .before .before .before .before .before .before .before .loop .i)
-    (regula-is
+    (regula-falsi-is
     (c .before .before .before .before .before .before .before .before .args .limit)
     (c .before .before .before .before .before .before .before .loop .i)
     (c .before .before .before .before .before .before .before .loop .st)
-    (c .before .before .before .before .before .is-falsi .ensures)
+    (c .before .before .before .before .before .uses-regula-falsi .ensures)
     (c .before .before .before .before .before .before .before .loop
     .inv .1))) (c .before .before .t2 .given .1) s ev k
 
@@ -83,10 +83,10 @@ loop-less c = omega arith
 
 loop-again : tie.Need-loop-again Inv-loop μ-loop
 loop-again c =
-    let h : countAfter (c .before .before .before .turn .result) ≤ c .before .before .before .before .before .before .loop .count + 1 =
-    c .before .before .before .turn .ensures .2 in
-    let g : repeatsAfter (c .before .before .before .turn .result) ≤ c .before .before .before .before .before .before .loop .st .repeats + 1 =
-    c .before .before .before .turn .ensures .1 in (
+    let h : countAfter (c .before .before .before .round .result) ≤ c .before .before .before .before .before .before .loop .count + 1 =
+    c .before .before .before .round .ensures .2 in
+    let g : repeatsAfter (c .before .before .before .round .result) ≤ c .before .before .before .before .before .before .loop .st .repeats + 1 =
+    c .before .before .before .round .ensures .1 in (
       omega arith,
       c .before .before .before .before .before .before .loop .inv .1,
       omega arith,
@@ -104,14 +104,14 @@ loop-again c =
           (c .before .before .before .before .before .before .loop .count)
           (c .before .before .before .before .before .before .loop .st) (omega arith)
           (c .before .before .before .before .before .before .loop .inv .5)
-          (c .before .before .before .turn .ensures .0
+          (c .before .before .before .round .ensures .0
           (c .before .before .before .before .before .before .before .args .limit)
           (c .before .before .before .before .before .before .loop .i)
-          (regula-is
+          (regula-falsi-is
           (c .before .before .before .before .before .before .before .args .limit)
           (c .before .before .before .before .before .before .loop .i)
           (c .before .before .before .before .before .before .loop .st)
-          (c .before .before .before .before .is-falsi .ensures)
+          (c .before .before .before .before .uses-regula-falsi .ensures)
           (c .before .before .before .before .before .before .loop
           .inv .1))) (c .before .t .given .1),
     )
@@ -142,8 +142,8 @@ rounds-spec =
     μ-loop
     mul-early
     loop-holds
-    is-falsi-requires
-    turn-requires
+    uses-regula-falsi-requires
+    round-requires
     enum-known-t
     enum-known-t-2
     stopped-requires

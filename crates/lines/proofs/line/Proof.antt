@@ -1,6 +1,6 @@
 -- The line is answered as the record that it says.
-use Rattle.lines_answer.specs.Held.{curveOf}
-use Rattle.lines_machine.specs.Held.{openOf}
+use Rattle.lines_answer.specs.Contract.{curveOf}
+use Rattle.lines_machine.specs.Contract.{openOf}
 use Rattle.lines.proofs.Saying.{line-state, line-wrote}
 use borrow.Author.Needs.{needs}
 use Rattle.lines.proofs.line.Statement.{statement}

@@ -58,17 +58,17 @@ place-of-requires c κs = search needs
 enum-known-r-7 : tie.Need-enum-known-r-7
 enum-known-r-7 c = search needs
 
-sub-turned-to : tie.Need-sub-turned-to
-sub-turned-to c = search needs
+sub-converted-to : tie.Need-sub-converted-to
+sub-converted-to c = search needs
 
-part-turned-to-start : tie.Need-part-turned-to-start
-part-turned-to-start c = search needs
+part-converted-to-start : tie.Need-part-converted-to-start
+part-converted-to-start c = search needs
 
-part-turned-to-end : tie.Need-part-turned-to-end
-part-turned-to-end c = search needs
+part-converted-to-end : tie.Need-part-converted-to-end
+part-converted-to-end c = search needs
 
-turned-to-requires : tie.Need-turned-to-requires
-turned-to-requires c κs = search needs
+converted-to-requires : tie.Need-converted-to-requires
+converted-to-requires c κs = search needs
 
 enum-told : tie.Need-enum-told
 enum-told c = search needs
@@ -95,7 +95,7 @@ same-length-3 c = search needs
 returns-3 : tie.Need-returns-3
 returns-3 c =
     rw (c .before .before .before .before .before .r3 .given .1)
-    (c .before .before .add .ensures (c .before .before .before .before .before .before .before .before .before .args .turned .now))
+    (c .before .before .add .ensures (c .before .before .before .before .before .before .before .before .before .args .converted .now))
 
 returns-4 : tie.Need-returns-4
 unfolding afterOf replyTo
@@ -113,7 +113,7 @@ returns-5 c =
       held = rw (c .before .before .before .before .r5 .given .1) refl;
       told =
           rw (c .before .before .before .before .r5 .given .1)
-          (rw z at (c .value-at .ensures .0 (c .before .before .before .before .before .before .before .before .args .turned .now)));
+          (rw z at (c .value-at .ensures .0 (c .before .before .before .before .before .before .before .before .args .converted .now)));
       few = omega arith;
       lent = omega (arith, c .value-at .ensures .1);
     }
@@ -130,7 +130,7 @@ returns-6 c =
       held = rw (c .before .before .before .before .r6 .given .1) refl;
       told =
           rw (c .before .before .before .before .r6 .given .1)
-          (rw z at (c .place-of .ensures .0 (c .before .before .before .before .before .before .before .before .args .turned .now)));
+          (rw z at (c .place-of .ensures .0 (c .before .before .before .before .before .before .before .before .args .converted .now)));
       few = omega arith;
       lent = omega (arith, c .place-of .ensures .1);
     }
@@ -148,9 +148,9 @@ returns-7 c =
     .before .before .before .before .before .before .before .args .n = omega arith in
     record {
       held = rw (c .before .before .before .before .before .before .before .r7 .given .1) refl;
-      told = rw (c .before .before .before .before .before .before .before .r7 .given .1) (rw z at (c .before .before .turned-to .ensures .0));
+      told = rw (c .before .before .before .before .before .before .before .r7 .given .1) (rw z at (c .before .before .converted-to .ensures .0));
       few = omega arith;
-      lent = omega (arith, c .before .before .turned-to .ensures .1);
+      lent = omega (arith, c .before .before .converted-to .ensures .1);
     }
 
 returns-8 : tie.Need-returns-8
@@ -184,10 +184,10 @@ later-spec =
     part-place-of-end
     place-of-requires
     enum-known-r-7
-    sub-turned-to
-    part-turned-to-start
-    part-turned-to-end
-    turned-to-requires
+    sub-converted-to
+    part-converted-to-start
+    part-converted-to-end
+    converted-to-requires
     enum-told
     bad-line-requires
     returns

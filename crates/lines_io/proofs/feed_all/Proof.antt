@@ -1,4 +1,4 @@
--- Invariant: the state is good, and the bytes handed on are those before `from`; each turn takes one byte or more.
+-- Invariant: the state is good, and the bytes handed on are those before `from`; each pass takes one byte or more.
 use borrow.Author.Needs.{needs}
 use native.Mathlib.Omega.{arith}
 use mathlib.Core.Path.{_≡_, refl, sym, ap, _∙_}
@@ -6,7 +6,7 @@ use Prim.Native.Nat.{_≤_, _<_, _-_, _^_}
 use lib.ListN.{length, take, length-take, length-drop}
 use lib.Seq.{take-all}
 use Rattle.lines_answer.specs.Answer.{places}
-use Rattle.lines_programs.specs.Held.{stateOf, Good}
+use Rattle.lines_programs.specs.Contract.{stateOf, Good}
 use Rattle.lines_machine.specs.Bytes.{ranOf}
 use Rattle.lines_programs.specs.Programs.{running}
 use Rattle.lines_io.proofs.Feeding.{on, none}
@@ -14,12 +14,12 @@ use Rattle.lines_io.proofs.feed_all.Statement.{statement}
 use Rattle.lines_io.proofs.feed_all.Tie as tie
 
 abbrev Inv-loop : tie.InvT-loop
-Inv-loop chunk line₀ table₀ turned₀ old₀ new₀ out₀ s₀ from₀ fine₀ line table turned old new out s from fine =
-    (from ≤ length chunk) × (length turned ≡ places) × (length out ≡ length out₀) × Good s line table old new
+Inv-loop chunk line₀ table₀ converted₀ old₀ new₀ out₀ s₀ from₀ fine₀ line table converted old new out s from fine =
+    (from ≤ length chunk) × (length converted ≡ places) × (length out ≡ length out₀) × Good s line table old new
     × (stateOf s line table old new ≡ ranOf running (stateOf s₀ line₀ table₀ old₀ new₀) (take from chunk)) × (length chunk < 2 ^ 64)
 
 abbrev μ-loop : tie.MeasureT-loop
-μ-loop chunk line₀ table₀ turned₀ old₀ new₀ out₀ s₀ from₀ fine₀ line table turned old new out s from fine = length chunk - from
+μ-loop chunk line₀ table₀ converted₀ old₀ new₀ out₀ s₀ from₀ fine₀ line table converted old new out s from fine = length chunk - from
 
 loop-holds : tie.Need-loop-holds Inv-loop μ-loop
 loop-holds c = (

@@ -4,16 +4,16 @@ use native.Mathlib.Omega.{arith}
 use mathlib.Core.Path.{_≡_, refl}
 use lib.ListN.{length}
 use Rattle.lines_answer.specs.Answer.{places}
-use Rattle.lines_programs.specs.Held.{Good}
+use Rattle.lines_programs.specs.Contract.{Good}
 use Rattle.lines_io.proofs.read_all.Statement.{statement}
 use Rattle.lines_io.proofs.read_all.Tie as tie
 
 abbrev Inv-loop : tie.InvT-loop
-Inv-loop chunk₀ line₀ table₀ turned₀ old₀ new₀ out₀ st₀ fine₀ left₀ chunk line table turned old new out st fine left =
-    (length chunk ≡ length chunk₀) × (length turned ≡ places) × (length out ≡ length out₀) × Good st line table old new
+Inv-loop chunk₀ line₀ table₀ converted₀ old₀ new₀ out₀ st₀ fine₀ left₀ chunk line table converted old new out st fine left =
+    (length chunk ≡ length chunk₀) × (length converted ≡ places) × (length out ≡ length out₀) × Good st line table old new
 
 abbrev μ-loop : tie.MeasureT-loop
-μ-loop chunk₀ line₀ table₀ turned₀ old₀ new₀ out₀ st₀ fine₀ left₀ chunk line table turned old new out st fine left = left
+μ-loop chunk₀ line₀ table₀ converted₀ old₀ new₀ out₀ st₀ fine₀ left₀ chunk line table converted old new out st fine left = left
 
 loop-holds : tie.Need-loop-holds Inv-loop μ-loop
 loop-holds c = (refl, omega arith, refl, record { few = omega arith; full = omega arith; older = omega arith; newer = omega arith; wide = omega arith })

@@ -3,17 +3,17 @@ use borrow.Author.Needs.{needs}
 use native.Mathlib.Omega.{arith}
 use mathlib.Core.Path.{refl, ap}
 use Rattle.text.proofs.Writing.{nothing}
-use Rattle.lines_machine.specs.Held.{openOf}
-use Rattle.lines_answer.specs.Held.{curveOf}
+use Rattle.lines_machine.specs.Contract.{openOf}
+use Rattle.lines_answer.specs.Contract.{curveOf}
 use Rattle.lines.specs.Lines.{lineProgram}
 use Rattle.sheet.specs.Sheet.{sheetProgram}
-use Rattle.sheet.specs.Held.{sheetOf}
+use Rattle.sheet.specs.Contract.{sheetOf}
 use Rattle.claims.specs.Claims.{claimsProgram}
 use Rattle.decimals.specs.Decimals.{decimalsProgram}
 use Rattle.compare_lines.specs.Listings.{compareProgram}
-use Rattle.compare_lines.specs.Held.{bothOf}
+use Rattle.compare_lines.specs.Contract.{bothOf}
 use Rattle.picture.specs.Program.{pictureProgram}
-use Rattle.picture.specs.Held.{drawingOf}
+use Rattle.picture.specs.Contract.{drawingOf}
 use Rattle.lines_programs.specs.Programs.{asking, reading, claiming, showing, comparing, drawing}
 use Rattle.lines_programs.proofs.Steps.{line-within, sheet-within, claims-within, decimals-within, compare-within, picture-within, line-went}
 use Rattle.lines_programs.proofs.ended.Statement.{statement}

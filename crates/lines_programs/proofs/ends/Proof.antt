@@ -6,7 +6,7 @@ use Rattle.text.proofs.Writing.{nothing}
 use Rattle.lines_answer.specs.Answer.{places}
 use Rattle.lines_programs.specs.declared.Job.the-variants.{Reading, Comparing, Drawing}
 use Rattle.lines_programs.specs.Programs.{endsOf}
-use Rattle.lines_programs.specs.Held.{countOf}
+use Rattle.lines_programs.specs.Contract.{countOf}
 use Rattle.lines_programs.proofs.ends.Statement.{statement}
 use Rattle.lines_programs.proofs.ends.Tie as tie
 

@@ -5,23 +5,23 @@ use mathlib.Core.Path.{_≡_, sym, _∙_}
 use Prim.Native.Nat.{_≤_, _<_, _*_, _-_, _^_}
 use lib.ListN.{length, take}
 use Rattle.lines_answer.specs.Answer.{places}
-use Rattle.lines_reply.specs.Told.{longest}
+use Rattle.lines_reply.specs.Contract.{longest}
 use Rattle.lines_machine.specs.Bytes.{ranOf, toldOf}
 use Rattle.lines_programs.specs.Programs.{running}
-use Rattle.lines_programs.specs.Held.{stateOf, Went}
+use Rattle.lines_programs.specs.Contract.{stateOf, Went}
 use Rattle.lines_programs.proofs.Steps.{feed-none, feed-more}
 use Rattle.lines_programs.proofs.feed.Statement.{statement}
 use Rattle.lines_programs.proofs.feed.Tie as tie
 
 abbrev Inv-loop : tie.InvT-loop
-Inv-loop chunk line₀ table₀ turned₀ old₀ new₀ out₀ s₀ at₀ i₀ line table turned old new out s at i =
-    (i ≤ length chunk) × (at ≤ length out) × (at ≤ longest * i) × (length turned ≡ places)
+Inv-loop chunk line₀ table₀ converted₀ old₀ new₀ out₀ s₀ at₀ i₀ line table converted old new out s at i =
+    (i ≤ length chunk) × (at ≤ length out) × (at ≤ longest * i) × (length converted ≡ places)
     × Went (ranOf running (stateOf s₀ line₀ table₀ old₀ new₀) (take i chunk)) (toldOf running (stateOf s₀ line₀ table₀ old₀ new₀) (take i chunk)) s line
     table old new out₀ 0 out at
     × (length chunk < 2 ^ 64)
 
 abbrev μ-loop : tie.MeasureT-loop
-μ-loop chunk line₀ table₀ turned₀ old₀ new₀ out₀ s₀ at₀ i₀ line table turned old new out s at i = length chunk - i
+μ-loop chunk line₀ table₀ converted₀ old₀ new₀ out₀ s₀ at₀ i₀ line table converted old new out s at i = length chunk - i
 
 loop-holds : tie.Need-loop-holds Inv-loop μ-loop
 loop-holds c = (

@@ -43,7 +43,7 @@ part-put-curve-start : tie.Need-part-put-curve-start
 part-put-curve-start c = search needs
 
 part-put-curve-end : tie.Need-part-put-curve-end
-part-put-curve-end c = let h : c .before .before .t4 .given .0 .1 .0 ≤ length (c .before .before .before .before .before .before .args .turned .now) =
+part-put-curve-end c = let h : c .before .before .t4 .given .0 .1 .0 ≤ length (c .before .before .before .before .before .before .args .converted .now) =
     rw (c .before .before .t4 .given .1) at (c .before .before .before .before .before .before .pre .0) in omega arith
 
 put-curve-requires : tie.Need-put-curve-requires

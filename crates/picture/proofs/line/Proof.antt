@@ -2,7 +2,7 @@
 use borrow.Author.Needs.{needs}
 use mathlib.Core.Path.{_≡_, refl, sym, ap, _∙_}
 use Rattle.picture.proofs.Steps.{drawn-so}
-use Rattle.lines_machine.specs.Held.{openOf}
+use Rattle.lines_machine.specs.Contract.{openOf}
 use Rattle.picture.proofs.line.Statement.{statement}
 use Rattle.picture.proofs.line.Tie as tie
 

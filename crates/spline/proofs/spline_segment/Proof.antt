@@ -1,5 +1,5 @@
 -- The verdict is the definition's. Where it passed, it tells that there are four knots, which is what the value's function asks for.
-use Rattle.spline.specs.declared.Evaluated.the-variants.{Value}
+use Rattle.spline.specs.declared.Evaluation.the-variants.{Value}
 use mathlib.Core.Path.{sym, ap, _∙_}
 use Rattle.spline.specs.Evaluation.{splineSegmentOf}
 use Rattle.spline.proofs.Verdicts.{segment-sound}

@@ -18,8 +18,8 @@ started-requires c κs = search needs
 loop-holds : tie.Need-loop-holds Inv-loop μ-loop
 loop-holds c = search needs
 
-turn-requires : tie.Need-turn-requires Inv-loop μ-loop
-turn-requires c κs = search needs
+replay-chunk-requires : tie.Need-replay-chunk-requires Inv-loop μ-loop
+replay-chunk-requires c κs = search needs
 
 add-i : tie.Need-add-i Inv-loop μ-loop
 add-i c = search needs
@@ -47,7 +47,7 @@ replayed-spec =
     μ-loop
     started-requires
     loop-holds
-    turn-requires
+    replay-chunk-requires
     add-i
     loop-less
     loop-again

@@ -2,9 +2,9 @@
 use mathlib.Core.Path.{sym, ap, subst}
 use Prim.Native.Nat.{_<_}
 use native.Mathlib.Omega.{arith}
-use Rattle.spline.specs.declared.Evaluated.the-variants.{Value}
+use Rattle.spline.specs.declared.Evaluation.the-variants.{Value}
 use Rattle.spline.specs.Curve.{curveValue}
-use Rattle.inverse_segment.specs.declared.Inverted.{Inverted}
+use Rattle.inverse_segment.specs.declared.Inversion.{Inversion}
 use Rattle.inverse_segment.specs.Answer.{countTold}
 use Rattle.uneven.specs.Uneven.{suited}
 use Rattle.uneven.proofs.Cases.{value-told}
@@ -27,18 +27,18 @@ value-at-requires c κs = search needs
 add-t10 : tie.Need-add-t10
 add-t10 c =
     let h =
-    subst (λ (i : Inverted). countTold i < 4294967295) (c .before .before .before .a3 .given .1) (c .before .before .before .before .before .before .pre .0) in
+    subst (λ (i : Inversion). countTold i < 4294967295) (c .before .before .before .a3 .given .1) (c .before .before .before .before .before .before .pre .0) in
     omega arith
 
 returns : tie.Need-returns
 returns c =
     let a = c .before .before .before .before .args in
-    sym (ap (λ (i : Inverted). suited i (λ x. Value (curveValue (a .db) x (a .depths .now)))) (c .before .a .given .1))
+    sym (ap (λ (i : Inversion). suited i (λ x. Value (curveValue (a .db) x (a .depths .now)))) (c .before .a .given .1))
 
 returns-2 : tie.Need-returns-2
 returns-2 c =
     let a = c .before .before .before .before .args in
-    sym (ap (λ (i : Inverted). suited i (λ x. Value (curveValue (a .db) x (a .depths .now)))) (c .before .a2 .given .1))
+    sym (ap (λ (i : Inversion). suited i (λ x. Value (curveValue (a .db) x (a .depths .now)))) (c .before .a2 .given .1))
 
 returns-3 : tie.Need-returns-3
 returns-3 c =

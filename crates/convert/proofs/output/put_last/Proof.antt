@@ -9,8 +9,8 @@ use Rattle.convert.proofs.output.put_last.Statement.{statement}
 use Rattle.convert.proofs.output.put_last.Tie as tie
 
 -- four is what is left
-four : (gap : ℕ) → (gap ≡ 1 → Prim.⊥) → (gap ≡ 2 → Prim.⊥) → (gap ≡ 3 → Prim.⊥) → 0 < gap → gap ≤ 4 → gap ≡ 4
-four gap p q r some most = omega arith
+four : (stride : ℕ) → (stride ≡ 1 → Prim.⊥) → (stride ≡ 2 → Prim.⊥) → (stride ≡ 3 → Prim.⊥) → 0 < stride → stride ≤ 4 → stride ≡ 4
+four stride p q r some most = omega arith
 
 mul-out : tie.Need-mul-out
 mul-out c = search needs

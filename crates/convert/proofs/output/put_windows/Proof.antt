@@ -8,15 +8,15 @@ use lib.Dec.{lit<, lit≤}
 use lib.ListN.{length, drop, length-take, length-drop}
 use Rattle.convert.specs.Output.{windows}
 use Rattle.convert.proofs.Verdicts.{few-steps}
-use Rattle.convert.proofs.Writing.{first-window, begun, next-window, all-windows, Turn, turn}
+use Rattle.convert.proofs.Writing.{first-window, begun, next-window, all-windows, WindowPlaces, window-places}
 use Rattle.convert.proofs.output.put_windows.Statement.{statement}
 use Rattle.convert.proofs.output.put_windows.Tie as tie
 
 abbrev Inv-loop : tie.InvT-loop
-Inv-loop m step knots gap out₀ last s₀ out s = (s ≤ last) × (length out ≡ length out₀) × (out ≡ windows m step gap knots s ++ drop (4 + s * gap) out₀)
+Inv-loop m step knots stride out₀ last s₀ out s = (s ≤ last) × (length out ≡ length out₀) × (out ≡ windows m step stride knots s ++ drop (4 + s * stride) out₀)
 
 abbrev μ-loop : tie.MeasureT-loop
-μ-loop m step knots gap out₀ last s₀ out s = last - s
+μ-loop m step knots stride out₀ last s₀ out s = last - s
 
 sub-last : tie.Need-sub-last Inv-loop μ-loop
 sub-last c = omega arith
@@ -35,46 +35,46 @@ loop-holds c =
     let a = c .before .before .before .before .before .before .before .before .args in (
       omega arith,
       refl,
-      begun (a .m .now) (a .step) (a .gap) (a .knots .now) (a .out .now) _
-          (first-window (a .m .now) (a .step) (a .gap) (a .knots .now) _ (a .out .now) _ (c .before .before .before .sums .ensures)
+      begun (a .m .now) (a .step) (a .stride) (a .knots .now) (a .out .now) _
+          (first-window (a .m .now) (a .step) (a .stride) (a .knots .now) _ (a .out .now) _ (c .before .before .before .sums .ensures)
           (c .before .before .put-last .ensures)),
     )
 
-turned : (c : tie.In-loop Inv-loop μ-loop)
-    → Turn (length (c .before .before .before .before .before .before .before .before .before .before .args .knots .now))
+places-at : (c : tie.In-loop Inv-loop μ-loop)
+    → WindowPlaces (length (c .before .before .before .before .before .before .before .before .before .before .args .knots .now))
     (c .before .before .before .before .before .before .before .before .before .before .args .step)
-    (c .before .before .before .before .before .before .before .before .before .before .args .gap)
+    (c .before .before .before .before .before .before .before .before .before .before .args .stride)
     (length (c .before .before .before .before .before .before .before .before .before .before .args .out .now)) (c .before .loop .s)
-turned c = let p = c .before .before .before .before .before .before .before .before .before .before .pre
-    in turn _ _ _ _ _ (p .3) (p .4) (p .2) (p .5) (c .loop-test .taken)
+places-at c = let p = c .before .before .before .before .before .before .before .before .before .before .pre
+    in window-places _ _ _ _ _ (p .3) (p .4) (p .2) (p .5) (c .loop-test .taken)
 
 mul-at : tie.Need-mul-at Inv-loop μ-loop
-mul-at c = let t = turned c in omega arith
+mul-at c = let t = places-at c in omega arith
 
 add-at : tie.Need-add-at Inv-loop μ-loop
-add-at c = let t = turned c in omega arith
+add-at c = let t = places-at c in omega arith
 
 add-s : tie.Need-add-s Inv-loop μ-loop
-add-s c = let t = turned c in omega arith
+add-s c = let t = places-at c in omega arith
 
 mul-start : tie.Need-mul-start Inv-loop μ-loop
-mul-start c = let t = turned c in omega arith
+mul-start c = let t = places-at c in omega arith
 
 mul-put-window : tie.Need-mul-put-window Inv-loop μ-loop
-mul-put-window c = let t = turned (c .before) in omega arith
+mul-put-window c = let t = places-at (c .before) in omega arith
 
 sub-put-window : tie.Need-sub-put-window Inv-loop μ-loop
-sub-put-window c = let t = turned (c .before) in omega arith
+sub-put-window c = let t = places-at (c .before) in omega arith
 
 part-put-window-start : tie.Need-part-put-window-start Inv-loop μ-loop
-part-put-window-start c = let t = turned (c .before) in omega arith
+part-put-window-start c = let t = places-at (c .before) in omega arith
 
 part-put-window-end : tie.Need-part-put-window-end Inv-loop μ-loop
-part-put-window-end c = let t = turned (c .before) in omega arith
+part-put-window-end c = let t = places-at (c .before) in omega arith
 
 put-window-requires : tie.Need-put-window-requires Inv-loop μ-loop
 put-window-requires c κs =
-    let t = turned (c .before .before) in
+    let t = places-at (c .before .before) in
     let p = c .before .before .before .before .before .before .before .before .before .before .before .before .pre in
     (p .1, p .2, simp (length-take, length-drop) (omega arith), omega arith)
 
@@ -87,23 +87,23 @@ loop-again c =
     let l = c .before .before .before .before .before .before .loop in (
       omega arith,
       c .before .before .put-window .kept .0 ∙ l .inv .1,
-      next-window (o .args .m .now) (o .args .step) (o .args .gap) (o .args .knots .now) (l .s) _ _ _ (o .pre .2) (l .inv .2)
+      next-window (o .args .m .now) (o .args .step) (o .args .stride) (o .args .knots .now) (l .s) _ _ _ (o .pre .2) (l .inv .2)
           (c .before .before .put-window .ensures),
     )
 
-few-turns : (c : tie.After-loop Inv-loop μ-loop)
+few-windows : (c : tie.After-loop Inv-loop μ-loop)
     → (length (c .before .before .before .before .before .before .before .before .before .before .args .knots .now) - 4) / c .before .before .before .before
     .before .before .before .before .before .before .args .step * c .before .before .before .before .before .before .before .before .before .before
-    .args .gap ≤ 16384
-few-turns c =
+    .args .stride ≤ 16384
+few-windows c =
     few-steps _ _ _ (c .before .before .before .before .before .before .before .before .before .before .pre .4)
     (c .before .before .before .before .before .before .before .before .before .before .pre .2)
 
 mul-result : tie.Need-mul-result Inv-loop μ-loop
-mul-result c = let h = few-turns c in omega arith
+mul-result c = let h = few-windows c in omega arith
 
 add-result : tie.Need-add-result Inv-loop μ-loop
-add-result c = let h = few-turns c in omega arith
+add-result c = let h = few-windows c in omega arith
 
 same-length : tie.Need-same-length Inv-loop μ-loop
 same-length c = c .before .loop .inv .1 ∙ c .before .before .before .before .put-last .kept .0
@@ -113,9 +113,9 @@ returns c =
     let a = c .before .before .before .before .before .before .before .before .before .before .args in
     let l = c .before .loop in (
       refl,
-      all-windows (a .m .now) (a .step) (a .gap) (a .knots .now) (l .s) _ _ _ _
+      all-windows (a .m .now) (a .step) (a .stride) (a .knots .now) (l .s) _ _ _ _
           (c .before .before .before .before .before .before .before .before .before .before .pre .2) (omega arith)
-          (first-window (a .m .now) (a .step) (a .gap) (a .knots .now) _ (a .out .now) _ (c .before .before .before .before .before .sums .ensures)
+          (first-window (a .m .now) (a .step) (a .stride) (a .knots .now) _ (a .out .now) _ (c .before .before .before .before .before .sums .ensures)
           (c .before .before .before .before .put-last .ensures)) (l .inv .2),
     )
 

@@ -12,7 +12,7 @@ is-apart-requires c κs = search needs
 returns : tie.Need-returns
 returns c =
     let a = c .before .before .before .args in
-    yes-11 (a .allowance) (a .w) (a .h) (a .gap) (c .before .before .if1 .taken) (sym (c .before .is-apart .ensures) ∙ c .if2 .taken)
+    yes-11 (a .allowance) (a .w) (a .h) (a .stride) (c .before .before .if1 .taken) (sym (c .before .is-apart .ensures) ∙ c .if2 .taken)
 
 is-apart-requires-2 : tie.Need-is-apart-requires-2
 is-apart-requires-2 c κs = search needs
@@ -20,7 +20,7 @@ is-apart-requires-2 c κs = search needs
 returns-2 : tie.Need-returns-2
 returns-2 c =
     let a = c .before .before .before .before .before .args in
-    yes-12 (a .allowance) (a .w) (a .h) (a .gap) (c .before .before .before .before .if1 .taken)
+    yes-12 (a .allowance) (a .w) (a .h) (a .stride) (c .before .before .before .before .if1 .taken)
     (sym (c .before .before .before .is-apart .ensures) ∙ c .before .before .if2 .left) (sym (c .before .is-apart2 .ensures) ∙ c .if3 .taken)
 
 is-apart-requires-3 : tie.Need-is-apart-requires-3
@@ -29,7 +29,7 @@ is-apart-requires-3 c κs = search needs
 returns-3 : tie.Need-returns-3
 returns-3 c =
     let a = c .before .before .before .before .before .before .args in
-    yes-13 (a .allowance) (a .w) (a .h) (a .gap) (c .before .before .before .before .before .if1 .taken)
+    yes-13 (a .allowance) (a .w) (a .h) (a .stride) (c .before .before .before .before .before .if1 .taken)
     (sym (c .before .before .before .before .is-apart .ensures) ∙ c .before .before .before .if2 .left)
     (sym (c .before .before .is-apart2 .ensures) ∙ c .before .if3 .left) (c .is-apart3 .ensures)
 
@@ -39,7 +39,7 @@ is-apart-requires-4 c κs = search needs
 returns-4 : tie.Need-returns-4
 returns-4 c =
     let a = c .before .before .before .before .args in
-    yes-21 (a .allowance) (a .w) (a .h) (a .gap) (c .before .before .if4 .taken) (sym (c .before .is-apart4 .ensures) ∙ c .if5 .taken)
+    yes-21 (a .allowance) (a .w) (a .h) (a .stride) (c .before .before .if4 .taken) (sym (c .before .is-apart4 .ensures) ∙ c .if5 .taken)
 
 is-apart-requires-5 : tie.Need-is-apart-requires-5
 is-apart-requires-5 c κs = search needs
@@ -47,7 +47,7 @@ is-apart-requires-5 c κs = search needs
 returns-5 : tie.Need-returns-5
 returns-5 c =
     let a = c .before .before .before .before .before .args in
-    yes-22 (a .allowance) (a .w) (a .h) (a .gap) (c .before .before .before .if4 .taken)
+    yes-22 (a .allowance) (a .w) (a .h) (a .stride) (c .before .before .before .if4 .taken)
     (sym (c .before .before .is-apart4 .ensures) ∙ c .before .if5 .left) (c .is-apart5 .ensures)
 
 is-apart-requires-6 : tie.Need-is-apart-requires-6
@@ -56,12 +56,12 @@ is-apart-requires-6 c κs = search needs
 returns-6 : tie.Need-returns-6
 returns-6 c =
     let a = c .before .before .before .before .args in
-    yes-31 (a .allowance) (a .w) (a .h) (a .gap) (c .before .if6 .taken) (c .is-apart6 .ensures)
+    yes-31 (a .allowance) (a .w) (a .h) (a .stride) (c .before .if6 .taken) (c .is-apart6 .ensures)
 
 returns-7 : tie.Need-returns-7
 returns-7 c =
     let a = c .before .before .before .args in
-    none-4 (a .allowance) (a .w) (a .h) (a .gap) (omega (arith, c .if6 .left, c .before .if4 .left, c .before .before .if1 .left))
+    none-4 (a .allowance) (a .w) (a .h) (a .stride) (omega (arith, c .if6 .left, c .before .if4 .left, c .before .before .if1 .left))
 
 pub loses-spec : {M : Type 1} → statement M
 loses-spec =

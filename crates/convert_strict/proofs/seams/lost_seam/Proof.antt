@@ -7,18 +7,18 @@ use native.Mathlib.Omega.{arith}
 use lib.ListN.{length, drop, length-take, length-drop}
 use Rattle.spline.proofs.Parts.{few}
 use Rattle.convert.specs.Output.{windows}
-use Rattle.convert.specs.Shown.{listOf}
-use Rattle.convert.proofs.Writing.{turn}
+use Rattle.convert.specs.Contract.{listOf}
+use Rattle.convert.proofs.Writing.{window-places}
 use Rattle.convert_strict.proofs.Scan.{Searched, first-held, begun, next-held, seam-lost, seam-kept, none-lost}
 use Rattle.convert_strict.proofs.seams.lost_seam.Statement.{statement}
 use Rattle.convert_strict.proofs.seams.lost_seam.Tie as tie
 
 abbrev Inv-loop : tie.InvT-loop
-Inv-loop m step knots gap allowance last held₀ s₀ held s = (s ≤ last) × (listOf held ≡ drop (s * gap) (windows m step gap knots s)) × Searched m step
-    gap allowance knots last s
+Inv-loop m step knots stride allowance last held₀ s₀ held s = (s ≤ last) × (listOf held ≡ drop (s * stride) (windows m step stride knots s)) × Searched m step
+    stride allowance knots last s
 
 abbrev μ-loop : tie.MeasureT-loop
-μ-loop m step knots gap allowance last held₀ s₀ held s = last - s
+μ-loop m step knots stride allowance last held₀ s₀ held s = last - s
 
 sub-last : tie.Need-sub-last Inv-loop μ-loop
 sub-last c = omega arith
@@ -33,15 +33,15 @@ loop-holds : tie.Need-loop-holds Inv-loop μ-loop
 loop-holds c =
     let a = c .before .before .args in (
       omega arith,
-      first-held (a .m) (a .step) (a .gap) (a .allowance) (a .knots .now) 0 _ (c .sums .ensures),
-      begun (a .m) (a .step) (a .gap)
+      first-held (a .m) (a .step) (a .stride) (a .allowance) (a .knots .now) 0 _ (c .sums .ensures),
+      begun (a .m) (a .step) (a .stride)
           (a .allowance) (a .knots .now) _,
     )
 
 add-s : tie.Need-add-s Inv-loop μ-loop
 add-s c =
     let a = c .before .before .before .before .args in
-    let t = turn (length (a .knots .now)) (a .step) (a .gap) (4 + (length (a .knots .now) - 4) / a .step * a .gap) (c .before .loop .s)
+    let t = window-places (length (a .knots .now)) (a .step) (a .stride) (4 + (length (a .knots .now) - 4) / a .step * a .stride) (c .before .loop .s)
     (c .before .before .before .before .pre .3) (c .before .before .before .before .pre .4) (c .before .before .before .before .pre .2)
     (le-of-eq refl) (c .loop-test .taken) in
     omega arith
@@ -49,7 +49,7 @@ add-s c =
 mul-start : tie.Need-mul-start Inv-loop μ-loop
 mul-start c =
     let a = c .before .before .before .before .args in
-    let t = turn (length (a .knots .now)) (a .step) (a .gap) (4 + (length (a .knots .now) - 4) / a .step * a .gap) (c .before .loop .s)
+    let t = window-places (length (a .knots .now)) (a .step) (a .stride) (4 + (length (a .knots .now) - 4) / a .step * a .stride) (c .before .loop .s)
     (c .before .before .before .before .pre .3) (c .before .before .before .before .pre .4) (c .before .before .before .before .pre .2)
     (le-of-eq refl) (c .loop-test .taken) in
     omega arith
@@ -57,7 +57,7 @@ mul-start c =
 mul-sums : tie.Need-mul-sums Inv-loop μ-loop
 mul-sums c =
     let a = c .before .before .before .before .args in
-    let t = turn (length (a .knots .now)) (a .step) (a .gap) (4 + (length (a .knots .now) - 4) / a .step * a .gap) (c .before .loop .s)
+    let t = window-places (length (a .knots .now)) (a .step) (a .stride) (4 + (length (a .knots .now) - 4) / a .step * a .stride) (c .before .loop .s)
     (c .before .before .before .before .pre .3) (c .before .before .before .before .pre .4) (c .before .before .before .before .pre .2)
     (le-of-eq refl) (c .loop-test .taken) in
     omega arith
@@ -65,7 +65,7 @@ mul-sums c =
 sub-sums : tie.Need-sub-sums Inv-loop μ-loop
 sub-sums c =
     let a = c .before .before .before .before .args in
-    let t = turn (length (a .knots .now)) (a .step) (a .gap) (4 + (length (a .knots .now) - 4) / a .step * a .gap) (c .before .loop .s)
+    let t = window-places (length (a .knots .now)) (a .step) (a .stride) (4 + (length (a .knots .now) - 4) / a .step * a .stride) (c .before .loop .s)
     (c .before .before .before .before .pre .3) (c .before .before .before .before .pre .4) (c .before .before .before .before .pre .2)
     (le-of-eq refl) (c .loop-test .taken) in
     omega arith
@@ -73,7 +73,7 @@ sub-sums c =
 part-sums-start : tie.Need-part-sums-start Inv-loop μ-loop
 part-sums-start c =
     let a = c .before .before .before .before .args in
-    let t = turn (length (a .knots .now)) (a .step) (a .gap) (4 + (length (a .knots .now) - 4) / a .step * a .gap) (c .before .loop .s)
+    let t = window-places (length (a .knots .now)) (a .step) (a .stride) (4 + (length (a .knots .now) - 4) / a .step * a .stride) (c .before .loop .s)
     (c .before .before .before .before .pre .3) (c .before .before .before .before .pre .4) (c .before .before .before .before .pre .2)
     (le-of-eq refl) (c .loop-test .taken) in
     omega arith
@@ -81,7 +81,7 @@ part-sums-start c =
 part-sums-end : tie.Need-part-sums-end Inv-loop μ-loop
 part-sums-end c =
     let a = c .before .before .before .before .args in
-    let t = turn (length (a .knots .now)) (a .step) (a .gap) (4 + (length (a .knots .now) - 4) / a .step * a .gap) (c .before .loop .s)
+    let t = window-places (length (a .knots .now)) (a .step) (a .stride) (4 + (length (a .knots .now) - 4) / a .step * a .stride) (c .before .loop .s)
     (c .before .before .before .before .pre .3) (c .before .before .before .before .pre .4) (c .before .before .before .before .pre .2)
     (le-of-eq refl) (c .loop-test .taken) in
     omega arith
@@ -89,7 +89,7 @@ part-sums-end c =
 sums-requires-2 : tie.Need-sums-requires-2 Inv-loop μ-loop
 sums-requires-2 c κs =
     let a = c .before .before .before .before .before .args in
-    let t = turn (length (a .knots .now)) (a .step) (a .gap) (4 + (length (a .knots .now) - 4) / a .step * a .gap) (c .before .before .loop .s)
+    let t = window-places (length (a .knots .now)) (a .step) (a .stride) (4 + (length (a .knots .now) - 4) / a .step * a .stride) (c .before .before .loop .s)
     (c .before .before .before .before .before .pre .3) (c .before .before .before .before .before .pre .4)
     (c .before .before .before .before .before .pre .2) (le-of-eq refl) (c .before .loop-test .taken) in
     simp (length-take, length-drop) (omega arith)
@@ -100,7 +100,7 @@ loses-requires c κs = (c .before .before .before .before .before .before .pre .
 returns : tie.Need-returns Inv-loop μ-loop
 returns c =
     let a = c .before .before .before .before .before .before .before .before .args in (
-      seam-lost (a .m) (a .step) (a .gap) (a .allowance) (a .knots .now) _ (c .before .before .before .before .before .loop .s)
+      seam-lost (a .m) (a .step) (a .stride) (a .allowance) (a .knots .now) _ (c .before .before .before .before .before .loop .s)
           (c .before .before .before .before .before .loop .held) (c .before .before .sums2 .result)
           (c .before .before .before .before .before .before .before .before .pre .2) (c .before .before .before .before .loop-test .taken)
           (c .before .before .before .before .before .loop .inv .1) (c .before .before .sums2 .ensures)
@@ -124,14 +124,14 @@ loop-less c = omega arith
 loop-again : tie.Need-loop-again Inv-loop μ-loop
 loop-again c =
     let a = c .before .before .before .before .before .before .before .before .before .args in
-    let u = next-held (a .m) (a .step) (a .gap) (a .allowance) (a .knots .now) _ (c .before .before .before .before .before .before .loop .s)
+    let u = next-held (a .m) (a .step) (a .stride) (a .allowance) (a .knots .now) _ (c .before .before .before .before .before .before .loop .s)
     (c .before .before .before .before .before .before .loop .held) (c .before .before .before .sums2 .result)
     (c .before .before .before .before .before .before .before .before .before .pre .2)
     (c .before .before .before .before .before .loop-test .taken) (c .before .before .before .before .before .before .loop .inv .1)
     (c .before .before .before .sums2 .ensures) _ (c .shifted .ensures) in (
       omega arith,
       u,
-      seam-kept (a .m) (a .step) (a .gap) (a .allowance) (a .knots .now) _ (c .before .before .before .before .before .before .loop .s)
+      seam-kept (a .m) (a .step) (a .stride) (a .allowance) (a .knots .now) _ (c .before .before .before .before .before .before .loop .s)
           (c .before .before .before .before .before .before .loop .held) (c .before .before .before .sums2 .result)
           (c .before .before .before .before .before .before .before .before .before .pre .2)
           (c .before .before .before .before .before .loop-test .taken) (c .before .before .before .before .before .before .loop .inv .1)
@@ -142,7 +142,7 @@ loop-again c =
 returns-2 : tie.Need-returns-2 Inv-loop μ-loop
 returns-2 c =
     let a = c .before .before .before .before .args in
-    (none-lost (a .m) (a .step) (a .gap) (a .allowance) (a .knots .now) _ (c .before .loop .s) (omega arith) (c .before .loop .inv .2), omega arith)
+    (none-lost (a .m) (a .step) (a .stride) (a .allowance) (a .knots .now) _ (c .before .loop .s) (omega arith) (c .before .loop .inv .2), omega arith)
 
 pub lost-seam-spec : {M : Type 1} → statement M
 lost-seam-spec =

@@ -5,16 +5,16 @@ use Rattle.convert_strict.proofs.seams.shifted.Statement.{statement}
 use Rattle.convert_strict.proofs.seams.shifted.Tie as tie
 
 returns : tie.Need-returns
-returns c = shift-1 (c .before .args .gap) (c .before .args .h) (c .before .args .w) (c .if1 .taken)
+returns c = shift-1 (c .before .args .stride) (c .before .args .h) (c .before .args .w) (c .if1 .taken)
 
 returns-2 : tie.Need-returns-2
-returns-2 c = shift-2 (c .before .before .args .gap) (c .before .before .args .h) (c .before .before .args .w) (c .if2 .taken)
+returns-2 c = shift-2 (c .before .before .args .stride) (c .before .before .args .h) (c .before .before .args .w) (c .if2 .taken)
 
 returns-3 : tie.Need-returns-3
-returns-3 c = shift-3 (c .before .before .before .args .gap) (c .before .before .before .args .h) (c .before .before .before .args .w) (c .if3 .taken)
+returns-3 c = shift-3 (c .before .before .before .args .stride) (c .before .before .before .args .h) (c .before .before .before .args .w) (c .if3 .taken)
 
 returns-4 : tie.Need-returns-4
-returns-4 c = shift-4 (c .before .before .before .args .gap) (c .before .before .before .args .h) (c .before .before .before .args .w)
+returns-4 c = shift-4 (c .before .before .before .args .stride) (c .before .before .before .args .h) (c .before .before .before .args .w)
     (omega (arith, c .if3 .left, c .before .if2 .left, c .before .before .if1 .left))
 
 pub shifted-spec : {M : Type 1} → statement M

@@ -4,7 +4,7 @@ use mathlib.Core.Bool.{Bool}
 use Prim.Native.Nat.{_-_}
 use native.Mathlib.Omega.{arith}
 use lib.ListN.{length, drop}
-use Rattle.inverse.specs.Scan.{kept}
+use Rattle.inverse.specs.ContractOrder.{kept}
 use Rattle.inverse.proofs.Verdicts.{sound-in, sound-out}
 use borrow.Author.Needs.{needs}
 use Rattle.inverse.proofs.order.is_sound.Statement.{statement}

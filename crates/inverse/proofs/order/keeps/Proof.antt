@@ -2,7 +2,7 @@
 use mathlib.Core.Path.{sym, ap, _∙_}
 use mathlib.Core.Bool.{Bool}
 use lib.ListN.{drop}
-use Rattle.inverse.specs.Scan.{kept}
+use Rattle.inverse.specs.ContractOrder.{kept}
 use borrow.Author.Needs.{needs}
 use Rattle.inverse.proofs.order.keeps.Statement.{statement}
 use Rattle.inverse.proofs.order.keeps.Tie as tie

@@ -6,7 +6,7 @@ use Prim.Native.Nat.{_+_, _-_, _≤_}
 use native.Mathlib.Omega.{arith}
 use borrow.Author.Needs.{needs}
 use lib.ListN.{length, drop}
-use Rattle.inverse.specs.Scan.{kept}
+use Rattle.inverse.specs.ContractOrder.{kept}
 use Rattle.inverse.proofs.Scan.{scanned, scanned-all}
 use Rattle.inverse.proofs.order.scanned.Statement.{statement}
 use Rattle.inverse.proofs.order.scanned.Tie as tie

@@ -5,15 +5,15 @@ use Rattle.basis.specs.declared.Basis.{Basis}
 use Rattle.table.specs.Calls.{tableSplineOf}
 use Rattle.table.proofs.Spans.{spline-base, spline-spanless}
 use Rattle.exports_table.specs.Tables.{tableOf}
-use Rattle.exports_reply.specs.declared.Chosen.{Chosen}
-use Rattle.exports_reply.specs.declared.Chosen.the-variants.{Known, Unknown}
+use Rattle.exports_reply.specs.declared.BasisChoice.{BasisChoice}
+use Rattle.exports_reply.specs.declared.BasisChoice.the-variants.{Known, Unknown}
 use Rattle.exports_reply.specs.Replies.{chosenOf, chosen, noBasis, valueLeft, evaluatedReply}
 use Rattle.exports_reply.proofs.Found.{found}
 use borrow.Author.Needs.{needs}
 use Rattle.simmerstoat.proofs.spans.simmerstoat_table_spline.Statement.{statement}
 use Rattle.simmerstoat.proofs.spans.simmerstoat_table_spline.Tie as tie
 
-same-for-each : {A : Type 0} (k : Chosen) (d : A) (f g : Basis → A) → ((b : Basis) → f b ≡ g b) → chosen k d f ≡ chosen k d g
+same-for-each : {A : Type 0} (k : BasisChoice) (d : A) (f g : Basis → A) → ((b : Basis) → f b ≡ g b) → chosen k d f ≡ chosen k d g
 same-for-each (Known b) d f g same = same b
 same-for-each Unknown d f g same = refl
 

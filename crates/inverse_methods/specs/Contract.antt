@@ -1,0 +1,41 @@
+-- The rule's results as the code has them: the width allowed stands for the round's number. Definitions only.
+use mathlib.Core.Path.{_≡_}
+use mathlib.Core.Bool.{Bool}
+use Prim.Native.Nat.{ℕ}
+use lib.ListN.{length}
+use lib.Ieee.{Float}
+use Rattle.spline.specs.declared.RowSums.{RowSums}
+use Rattle.spline.specs.Segment.{hornerOf}
+use Rattle.inverse_segment.specs.declared.Bracket.{Bracket}
+use Rattle.inverse_segment.specs.declared.State.{State}
+use Rattle.inverse_segment.specs.declared.RoundResult.{RoundResult}
+use Rattle.inverse_segment.specs.declared.Stop.{Stop}
+use Rattle.inverse_segment.specs.Evaluations.{Evaluations}
+use Rattle.inverse_segment.specs.Round.{on, roundOf}
+use Rattle.inverse_segment.specs.Rounds.{rounds}
+use Rattle.inverse_segment.specs.Segment.{start, entered}
+use Rattle.inverse_segment.specs.Contract.{shown, stopOf}
+use Rattle.inverse_methods.specs.declared.NextPlace.{NextPlace}
+use Rattle.inverse_methods.specs.declared.Method.{Method}
+use Rattle.inverse_methods.specs.Steady.{allowed, steady}
+use Rattle.inverse_methods.specs.Method.{ruleOf}
+
+abbrev pub NextPlaceIs : Float → Float → State → NextPlace → Type 0
+NextPlaceIs y width st r = (limit i : ℕ) → width ≡ allowed i
+    → (r .bracket ≡ steady limit i y st .bracket) × (r .place ≡ steady limit i y st .place)
+
+abbrev pub RoundIs : RowSums → Float → Float → Bool → Float → State → ℕ → RoundResult → Type 0
+RoundIs w y ε rising width st n r = (limit i : ℕ) → width ≡ allowed i → (s : ℕ) (ev : Evaluations) → length ev ≡ n
+    → r ≡ shown (roundOf steady (hornerOf w) s y ε rising limit i st ev)
+
+abbrev pub RoundsIs : RowSums → Float → Float → Bool → Bracket → ℕ → ℕ → Stop → Type 0
+RoundsIs w y ε rising b limit n r = (s : ℕ) (ev : Evaluations) → length ev ≡ n
+    → r ≡ stopOf (rounds steady (hornerOf w) s y ε rising limit limit 0 (on (start b) ev))
+
+abbrev pub EnteredIs : RowSums → Float → Float → ℕ → Float → Float → ℕ → Stop → Type 0
+EnteredIs w y ε limit v0 v1 n r = (s : ℕ) (ev : Evaluations) → length ev ≡ n
+    → r ≡ stopOf (entered steady (hornerOf w) s y ε limit v0 v1 ev)
+
+abbrev pub EnteredBy : Method → RowSums → Float → Float → ℕ → Float → Float → ℕ → Stop → Type 0
+EnteredBy how w y ε limit v0 v1 n r = (s : ℕ) (ev : Evaluations) → length ev ≡ n
+    → r ≡ stopOf (entered (ruleOf how) (hornerOf w) s y ε limit v0 v1 ev)

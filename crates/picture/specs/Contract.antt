@@ -1,0 +1,15 @@
+-- How code holds what is drawn. Definitions only.
+use mathlib.Core.List.{List}
+use Prim.Native.Nat.{ℕ}
+use lib.Ieee.{Float}
+use Rattle.lines_answer.specs.Contract.{curveOf}
+use Rattle.lines_answer.specs.Contract.{countOf as knotsOf}
+use Rattle.picture.specs.declared.PictureState.{PictureState}
+use Rattle.picture.specs.Program.{Drawing}
+
+-- the knots are the first doubles of the table
+abbrev pub drawingOf : PictureState → List Float → Drawing
+drawingOf h table = record { curve = curveOf (h .curve) table; finds = h .finds; fault = h .fault }
+
+abbrev pub countOf : PictureState → ℕ
+countOf h = knotsOf (h .curve)
