@@ -15,7 +15,9 @@ pub enum Basis {
 }
 
 pub fn step(b: Basis) -> usize
-    ensures { λ r. ⌜ (r ≡ stepOf b) × (0 < r) × (r ≤ 4) ⌝ }
+    ensures answer { λ r. ⌜ r ≡ stepOf b ⌝ }
+    ensures positive { λ r. ⌜ 0 < r ⌝ }
+    ensures most { λ r. ⌜ r ≤ 4 ⌝ }
 {
     match b {
         Basis::Bspline => 1,

@@ -20,7 +20,8 @@ pub enum ClaimAnswer {
 
 // The segment is evaluated only where the place lies in 0 to 1.
 fn is_accepted(b: Basis, y: f64, s: usize, x: f64, precision: f64, knots: &[f64]) -> bool
-    requires { ⌜ (s * stepOf b + 4 ≤ length (now knots)) × (length (now knots) ≤ 4096) ⌝ }
+    requires inside { ⌜ s * stepOf b + 4 ≤ length (now knots) ⌝ }
+    requires most { ⌜ length (now knots) ≤ 4096 ⌝ }
     ensures { λ r. ⌜ r ≡ accepts y x (segmentOf b (now (knots .entry)) s x) precision ⌝ }
 {
     if 0.0 <= x {

@@ -137,7 +137,8 @@ fn said_of(len: usize, line: &[u8]) -> ClaimRecord
 
 fn put_claimed(out: &mut [u8], at: usize, c: ClaimAnswer) -> usize
     requires { ⌜ at + 18 ≤ length (now out) ⌝ }
-    ensures { λ r. ⌜ Wrote (now (out .entry)) at (claimText c) (now (out .exit)) r × (r ≤ at + 18) ⌝ }
+    ensures text { λ r. ⌜ Wrote (now (out .entry)) at (claimText c) (now (out .exit)) r ⌝ }
+    ensures short { λ r. ⌜ r ≤ at + 18 ⌝ }
 {
     match c {
         ClaimAnswer::Refused(r) => lines_reply::put_refused(out, at, r),
@@ -157,7 +158,8 @@ fn checked(
     out: &mut [u8],
     at: usize,
 ) -> usize
-    requires table { ⌜ (countOf held ≤ places) × (length (now table) ≡ places) ⌝ }
+    requires held { ⌜ countOf held ≤ places ⌝ }
+    requires table { ⌜ length (now table) ≡ places ⌝ }
     requires room { ⌜ at + longest ≤ length (now out) ⌝ }
     ensures wrote { λ r. ⌜ Wrote (now (out .entry)) at (checkText (curveOf held (now (table .entry))) y s x precision) (now (out .exit))
         r ⌝ }
@@ -187,7 +189,9 @@ pub fn line(
     at: usize,
 ) -> LineResult
     requires line { ⌜ length (now line) ≡ widest ⌝ }
-    requires table { ⌜ (countOf held ≤ places) × (length (now table) ≡ places) × (length (now converted) ≡ places) ⌝ }
+    requires held { ⌜ countOf held ≤ places ⌝ }
+    requires table { ⌜ length (now table) ≡ places ⌝ }
+    requires converted { ⌜ length (now converted) ≡ places ⌝ }
     requires room { ⌜ at + longest ≤ length (now out) ⌝ }
     ensures state { λ r. ⌜ curveOf (r .held) (now (table .exit)) ≡ claimsProgram .after (curveOf held (now (table .entry)))
         (openOf len (now (line .entry))) ⌝ }

@@ -36,7 +36,8 @@ fn rank(b: Basis) -> u32
 // The line of the bases, where they differ.
 fn put_bases(out: &mut [u8], at: usize, b: Basis, c: Basis) -> usize
     requires { ⌜ at + 28 ≤ length (now out) ⌝ }
-    ensures { λ r. ⌜ Wrote (now (out .entry)) at (linesText (basisDifference b c)) (now (out .exit)) r × (r ≤ at + 28) ⌝ }
+    ensures text { λ r. ⌜ Wrote (now (out .entry)) at (linesText (basisDifference b c)) (now (out .exit)) r ⌝ }
+    ensures short { λ r. ⌜ r ≤ at + 28 ⌝ }
 {
     if rank(b) == rank(c) {
         return at;
@@ -51,7 +52,8 @@ fn put_bases(out: &mut [u8], at: usize, b: Basis, c: Basis) -> usize
 // The line of the spans, where they differ.
 fn put_spans(out: &mut [u8], at: usize, r: u32, s: u32) -> usize
     requires { ⌜ at + 27 ≤ length (now out) ⌝ }
-    ensures { λ n. ⌜ Wrote (now (out .entry)) at (linesText (spanDifference r s)) (now (out .exit)) n × (n ≤ at + 27) ⌝ }
+    ensures text { λ n. ⌜ Wrote (now (out .entry)) at (linesText (spanDifference r s)) (now (out .exit)) n ⌝ }
+    ensures short { λ n. ⌜ n ≤ at + 27 ⌝ }
 {
     if r == s {
         return at;
@@ -65,8 +67,10 @@ fn put_spans(out: &mut [u8], at: usize, r: u32, s: u32) -> usize
 
 // The line of a place where both have a knot.
 fn put_knot(out: &mut [u8], at: usize, i: usize, old: u64, new: u64) -> usize
-    requires { ⌜ (i < most) × (at + 44 ≤ length (now out)) ⌝ }
-    ensures { λ r. ⌜ Wrote (now (out .entry)) at (differenceText (knot i old new)) (now (out .exit)) r × (r ≤ at + 44) ⌝ }
+    requires number { ⌜ i < most ⌝ }
+    requires room { ⌜ at + 44 ≤ length (now out) ⌝ }
+    ensures text { λ r. ⌜ Wrote (now (out .entry)) at (differenceText (knot i old new)) (now (out .exit)) r ⌝ }
+    ensures short { λ r. ⌜ r ≤ at + 44 ⌝ }
 {
     let w = text::put_word(&mut *out, at, b"knot\t");
     let x = text::put_decimal(&mut *out, w, i as u32, 3);
@@ -79,8 +83,10 @@ fn put_knot(out: &mut [u8], at: usize, i: usize, old: u64, new: u64) -> usize
 
 // The line of a place that one table alone has.
 fn put_only(out: &mut [u8], at: usize, i: usize, knot: u64) -> usize
-    requires { ⌜ (i < most) × (at + 44 ≤ length (now out)) ⌝ }
-    ensures { λ r. ⌜ Wrote (now (out .entry)) at (differenceText (only i knot)) (now (out .exit)) r × (r ≤ at + 44) ⌝ }
+    requires number { ⌜ i < most ⌝ }
+    requires room { ⌜ at + 44 ≤ length (now out) ⌝ }
+    ensures text { λ r. ⌜ Wrote (now (out .entry)) at (differenceText (only i knot)) (now (out .exit)) r ⌝ }
+    ensures short { λ r. ⌜ r ≤ at + 44 ⌝ }
 {
     let w = text::put_word(&mut *out, at, b"only\t");
     let x = text::put_decimal(&mut *out, w, i as u32, 3);
@@ -98,11 +104,15 @@ fn put_place(
     old: &[u64],
     new: &[u64],
 ) -> DifferenceCount
-    requires { ⌜ (n ≤ i) × (i < most) × (at + 44 ≤ length (now out)) × (length (now old) ≤ i → i < length (now new)) ⌝ }
+    requires behind { ⌜ n ≤ i ⌝ }
+    requires number { ⌜ i < most ⌝ }
+    requires room { ⌜ at + 44 ≤ length (now out) ⌝ }
+    requires either { ⌜ (length (now old) ≤ i → i < length (now new)) ⌝ }
     ensures wrote { λ r. ⌜ Wrote (now (out .entry)) at (linesText (atPlace i (now (old .entry)) (now (new .entry)))) (now (out .exit))
         (r .at) ⌝ }
     ensures count { λ r. ⌜ r .places ≡ n + placesIn (atPlace i (now (old .entry)) (now (new .entry))) ⌝ }
-    ensures short { λ r. ⌜ (r .at ≤ at + 44) × (r .places ≤ i + 1) ⌝ }
+    ensures short { λ r. ⌜ r .at ≤ at + 44 ⌝ }
+    ensures places { λ r. ⌜ r .places ≤ i + 1 ⌝ }
 {
     if i < old.len() {
         if i < new.len() {
@@ -134,11 +144,14 @@ fn longer(m: usize, n: usize) -> usize
 
 // The lines of all places, lowest first.
 fn put_places(out: &mut [u8], at: usize, old: &[u64], new: &[u64]) -> DifferenceCount
-    requires { ⌜ (length (now old) ≤ most) × (length (now new) ≤ most) × (at + 180224 ≤ length (now out)) ⌝ }
+    requires old { ⌜ length (now old) ≤ most ⌝ }
+    requires new { ⌜ length (now new) ≤ most ⌝ }
+    requires room { ⌜ at + 180224 ≤ length (now out) ⌝ }
     ensures wrote { λ r. ⌜ Wrote (now (out .entry)) at (linesText (knotsFrom 0 (now (old .entry)) (now (new .entry)))) (now (out .exit))
         (r .at) ⌝ }
     ensures count { λ r. ⌜ r .places ≡ placesIn (knotsFrom 0 (now (old .entry)) (now (new .entry))) ⌝ }
-    ensures short { λ r. ⌜ (r .at ≤ at + 180224) × (r .places ≤ most) ⌝ }
+    ensures short { λ r. ⌜ r .at ≤ at + 180224 ⌝ }
+    ensures places { λ r. ⌜ r .places ≤ most ⌝ }
 {
     let end = longer(old.len(), new.len());
     let mut i = 0;
@@ -155,7 +168,8 @@ fn put_places(out: &mut [u8], at: usize, old: &[u64], new: &[u64]) -> Difference
 
 // The last line: `same` where nothing was written before it from `start` on, else how many places were told.
 fn put_last(out: &mut [u8], start: usize, c: DifferenceCount) -> usize
-    requires { ⌜ (c .places ≤ most) × (c .at + 5 ≤ length (now out)) ⌝ }
+    requires places { ⌜ c .places ≤ most ⌝ }
+    requires room { ⌜ c .at + 5 ≤ length (now out) ⌝ }
     ensures wrote { λ r. ⌜ Wrote (now (out .entry)) (c .at) (lastLine (eqb (c .at) start) (c .places)) (now (out .exit)) r ⌝ }
     ensures short { λ r. ⌜ r ≤ c .at + 5 ⌝ }
 {
@@ -176,9 +190,11 @@ pub fn put_comparison(
     out: &mut [u8],
     at: usize,
 ) -> usize
-    requires { ⌜ (length (now old) ≤ most) × (length (now new) ≤ most) × (at + longest ≤ length (now out)) ⌝ }
-    ensures { λ r. ⌜ Wrote (now (out .entry)) at (comparisonText t (now (old .entry)) u (now (new .entry))) (now (out .exit)) r
-        × (r ≤ at + longest) ⌝ }
+    requires old { ⌜ length (now old) ≤ most ⌝ }
+    requires new { ⌜ length (now new) ≤ most ⌝ }
+    requires room { ⌜ at + longest ≤ length (now out) ⌝ }
+    ensures text { λ r. ⌜ Wrote (now (out .entry)) at (comparisonText t (now (old .entry)) u (now (new .entry))) (now (out .exit)) r ⌝ }
+    ensures short { λ r. ⌜ r ≤ at + longest ⌝ }
 {
     let b = t.basis;
     let c = u.basis;

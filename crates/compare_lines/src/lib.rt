@@ -191,7 +191,8 @@ fn spanned(t: Table, n: usize, s: u32, knots: &[u64]) -> EntryResult
 
 // A knot's bits, into the next place, if there is one.
 fn add(t: Table, n: usize, x: u64, knots: &mut [u64]) -> EntryResult
-    requires { ⌜ (n ≤ places) × (length (now knots) ≡ places) ⌝ }
+    requires count { ⌜ n ≤ places ⌝ }
+    requires knots { ⌜ length (now knots) ≡ places ⌝ }
     ensures { λ e. ⌜ Enters (on t (take n (now (knots .entry)))) (Knot x) e (now (knots .exit)) ⌝ }
 {
     if n < 4096 {
@@ -210,7 +211,8 @@ fn add(t: Table, n: usize, x: u64, knots: &mut [u64]) -> EntryResult
 
 // A record after the listing's `curve`, which has n knots.
 fn later(t: Table, n: usize, s: CompareRecord, knots: &mut [u64]) -> EntryResult
-    requires { ⌜ (n ≤ places) × (length (now knots) ≡ places) ⌝ }
+    requires count { ⌜ n ≤ places ⌝ }
+    requires knots { ⌜ length (now knots) ≡ places ⌝ }
     ensures { λ e. ⌜ Enters (on t (take n (now (knots .entry)))) s e (now (knots .exit)) ⌝ }
 {
     let bad = EntryResult {
@@ -231,7 +233,8 @@ fn later(t: Table, n: usize, s: CompareRecord, knots: &mut [u64]) -> EntryResult
 
 // A record that comes upon a listing.
 fn enter(l: Listing, s: CompareRecord, knots: &mut [u64]) -> EntryResult
-    requires { ⌜ (knotsOf l ≤ places) × (length (now knots) ≡ places) ⌝ }
+    requires knots_l { ⌜ knotsOf l ≤ places ⌝ }
+    requires knots { ⌜ length (now knots) ≡ places ⌝ }
     ensures { λ e. ⌜ Enters (listingOf l (now (knots .entry))) s e (now (knots .exit)) ⌝ }
 {
     match l {
@@ -242,7 +245,9 @@ fn enter(l: Listing, s: CompareRecord, knots: &mut [u64]) -> EntryResult
 
 // A record that comes upon both listings.
 fn take_in(h: Comparison, s: CompareRecord, old: &mut [u64], new: &mut [u64]) -> TakeResult
-    requires { ⌜ (countOf h ≤ places) × (length (now old) ≡ places) × (length (now new) ≡ places) ⌝ }
+    requires held { ⌜ countOf h ≤ places ⌝ }
+    requires old { ⌜ length (now old) ≡ places ⌝ }
+    requires new { ⌜ length (now new) ≡ places ⌝ }
     ensures { λ t. ⌜ Takes (bothOf h (now (old .entry)) (now (new .entry))) s t (now (old .exit)) (now (new .exit)) ⌝ }
 {
     match h {
@@ -275,7 +280,8 @@ fn take_in(h: Comparison, s: CompareRecord, old: &mut [u64], new: &mut [u64]) ->
 
 fn put_verdict(v: Verdict, out: &mut [u8], at: usize) -> usize
     requires { ⌜ at + 18 ≤ length (now out) ⌝ }
-    ensures { λ r. ⌜ Wrote (now (out .entry)) at (verdictText v) (now (out .exit)) r × (r ≤ at + 18) ⌝ }
+    ensures text { λ r. ⌜ Wrote (now (out .entry)) at (verdictText v) (now (out .exit)) r ⌝ }
+    ensures short { λ r. ⌜ r ≤ at + 18 ⌝ }
 {
     match v {
         Verdict::Passed => at,
@@ -294,7 +300,9 @@ pub fn line(
     at: usize,
 ) -> LineResult
     requires line { ⌜ length (now line) ≡ widest ⌝ }
-    requires listings { ⌜ (countOf h ≤ places) × (length (now old) ≡ places) × (length (now new) ≡ places) ⌝ }
+    requires held { ⌜ countOf h ≤ places ⌝ }
+    requires old { ⌜ length (now old) ≡ places ⌝ }
+    requires new { ⌜ length (now new) ≡ places ⌝ }
     requires room { ⌜ at + 18 ≤ length (now out) ⌝ }
     ensures state { λ r. ⌜ bothOf (r .held) (now (old .exit)) (now (new .exit)) ≡ compareProgram .after
         (bothOf h (now (old .entry)) (now (new .entry))) (openOf len (now (line .entry))) ⌝ }
@@ -325,10 +333,14 @@ fn end_on(
     out: &mut [u8],
     at: usize,
 ) -> usize
-    requires { ⌜ (n ≤ places) × (knotsOf l ≤ places) × (length (now old) ≡ places) × (length (now new) ≡ places)
-        × (at + longest ≤ length (now out)) ⌝ }
-    ensures { λ r. ⌜ Wrote (now (out .entry)) at (endsOf (parted (on t (take n (now (old .entry)))) (listingOf l (now (new .entry)))))
-        (now (out .exit)) r × (r ≤ at + longest) ⌝ }
+    requires count { ⌜ n ≤ places ⌝ }
+    requires knots_l { ⌜ knotsOf l ≤ places ⌝ }
+    requires old { ⌜ length (now old) ≡ places ⌝ }
+    requires new { ⌜ length (now new) ≡ places ⌝ }
+    requires room { ⌜ at + longest ≤ length (now out) ⌝ }
+    ensures text { λ r. ⌜ Wrote (now (out .entry)) at (endsOf (parted (on t (take n (now (old .entry)))) (listingOf l (now (new .entry)))))
+        (now (out .exit)) r ⌝ }
+    ensures short { λ r. ⌜ r ≤ at + longest ⌝ }
 {
     match l {
         Listing::Nothing => lines_reply::put_refused(out, at, Refusal::NoComparison),
@@ -338,10 +350,14 @@ fn end_on(
 
 // The end after an `other`.
 fn end_parted(k: Listing, l: Listing, old: &[u64], new: &[u64], out: &mut [u8], at: usize) -> usize
-    requires { ⌜ (knotsOf k ≤ places) × (knotsOf l ≤ places) × (length (now old) ≡ places) × (length (now new) ≡ places)
-        × (at + longest ≤ length (now out)) ⌝ }
-    ensures { λ r. ⌜ Wrote (now (out .entry)) at (endsOf (parted (listingOf k (now (old .entry))) (listingOf l (now (new .entry)))))
-        (now (out .exit)) r × (r ≤ at + longest) ⌝ }
+    requires knots_k { ⌜ knotsOf k ≤ places ⌝ }
+    requires knots_l { ⌜ knotsOf l ≤ places ⌝ }
+    requires old { ⌜ length (now old) ≡ places ⌝ }
+    requires new { ⌜ length (now new) ≡ places ⌝ }
+    requires room { ⌜ at + longest ≤ length (now out) ⌝ }
+    ensures text { λ r. ⌜ Wrote (now (out .entry)) at (endsOf (parted (listingOf k (now (old .entry))) (listingOf l (now (new .entry)))))
+        (now (out .exit)) r ⌝ }
+    ensures short { λ r. ⌜ r ≤ at + longest ⌝ }
 {
     match k {
         Listing::Nothing => lines_reply::put_refused(out, at, Refusal::NoComparison),
@@ -351,9 +367,12 @@ fn end_parted(k: Listing, l: Listing, old: &[u64], new: &[u64], out: &mut [u8], 
 
 // The end of the input: what differs, or 20 in its place.
 pub fn end(h: Comparison, old: &[u64], new: &[u64], out: &mut [u8], at: usize) -> usize
-    requires { ⌜ (countOf h ≤ places) × (length (now old) ≡ places) × (length (now new) ≡ places) × (at + longest ≤ length (now out)) ⌝ }
-    ensures { λ r. ⌜ Wrote (now (out .entry)) at (endsOf (bothOf h (now (old .entry)) (now (new .entry)))) (now (out .exit)) r
-        × (r ≤ at + longest) ⌝ }
+    requires held { ⌜ countOf h ≤ places ⌝ }
+    requires old { ⌜ length (now old) ≡ places ⌝ }
+    requires new { ⌜ length (now new) ≡ places ⌝ }
+    requires room { ⌜ at + longest ≤ length (now out) ⌝ }
+    ensures text { λ r. ⌜ Wrote (now (out .entry)) at (endsOf (bothOf h (now (old .entry)) (now (new .entry)))) (now (out .exit)) r ⌝ }
+    ensures short { λ r. ⌜ r ≤ at + longest ⌝ }
 {
     match h {
         Comparison::Before(_) => lines_reply::put_refused(out, at, Refusal::NoComparison),

@@ -17,8 +17,9 @@ pub enum ConversionAnswer {
 
 // One segment: four doubles are written.
 pub fn convert_segment(from: Basis, to: Basis, cv: &[f64], out: &mut [f64]) -> ConversionAnswer
-    ensures { λ r. ⌜ (r ≡ answerOf (convertedSegmentOf from to (now (cv .entry)) (length (now (out .entry)))))
-        × (now (out .exit) ≡ bufferOf (convertedSegmentOf from to (now (cv .entry)) (length (now (out .entry)))) (now (out .entry))) ⌝ }
+    ensures answer { λ r. ⌜ r ≡ answerOf (convertedSegmentOf from to (now (cv .entry)) (length (now (out .entry)))) ⌝ }
+    ensures out { λ _. ⌜ now (out .exit) ≡ bufferOf (convertedSegmentOf from to (now (cv .entry)) (length (now (out .entry)))) (now
+        (out .entry)) ⌝ }
 {
     let v = refusals::segment_verdict(to, cv, out.len());
     match v {
@@ -33,8 +34,9 @@ pub fn convert_segment(from: Basis, to: Basis, cv: &[f64], out: &mut [f64]) -> C
 
 // A curve of k segments: 4 + (k - 1) * STEP doubles are written, by the STEP of the output's basis.
 pub fn convert_spline(from: Basis, to: Basis, knots: &[f64], out: &mut [f64]) -> ConversionAnswer
-    ensures { λ r. ⌜ (r ≡ answerOf (convertedOf from to (now (knots .entry)) (length (now (out .entry)))))
-        × (now (out .exit) ≡ bufferOf (convertedOf from to (now (knots .entry)) (length (now (out .entry)))) (now (out .entry))) ⌝ }
+    ensures answer { λ r. ⌜ r ≡ answerOf (convertedOf from to (now (knots .entry)) (length (now (out .entry)))) ⌝ }
+    ensures out { λ _. ⌜ now (out .exit) ≡ bufferOf (convertedOf from to (now (knots .entry)) (length (now (out .entry)))) (now
+        (out .entry)) ⌝ }
 {
     let v = refusals::spline_verdict(from, to, knots, out.len());
     match v {

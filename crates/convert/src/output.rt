@@ -13,7 +13,9 @@ use spline::RowSums;
 
 // Writes the last `stride` doubles of a window, from place `at` on.
 pub fn put_last(out: &mut [f64], at: usize, w: RowSums, stride: usize)
-    requires { ⌜ (0 < stride) × (stride ≤ 4) × (at + stride ≤ length (now out)) ⌝ }
+    requires some { ⌜ 0 < stride ⌝ }
+    requires few { ⌜ stride ≤ 4 ⌝ }
+    requires room { ⌜ at + stride ≤ length (now out) ⌝ }
     ensures { λ _. ⌜ now (out .exit) ≡ placed at (drop (4 - stride) (listOf w)) (now (out .entry)) ⌝ }
 {
     if stride == 1 {
@@ -47,7 +49,10 @@ fn last_sum(m: &[[f64; 4]; 4], cv: &[f64]) -> f64
 
 // The last `stride` of a window's four. Where one is written the other three are not worked out: to Bspline and CatmullRom this halves the time.
 fn put_window(out: &mut [f64], at: usize, m: &[[f64; 4]; 4], cv: &[f64], stride: usize)
-    requires { ⌜ (0 < stride) × (stride ≤ 4) × (4 ≤ length (now cv)) × (at + stride ≤ length (now out)) ⌝ }
+    requires some { ⌜ 0 < stride ⌝ }
+    requires few { ⌜ stride ≤ 4 ⌝ }
+    requires enough { ⌜ 4 ≤ length (now cv) ⌝ }
+    requires room { ⌜ at + stride ≤ length (now out) ⌝ }
     ensures { λ _. ⌜ now (out .exit)
         ≡ placed at (drop (4 - stride) (listOf (rowSumsOf (now (m .entry)) (now (cv .entry))))) (now (out .entry)) ⌝ }
 {
@@ -66,12 +71,16 @@ pub fn put_windows(
     stride: usize,
     out: &mut [f64],
 ) -> usize
-    requires { ⌜ (0 < step) × (0 < stride) × (stride ≤ 4) × (4 ≤ length (now knots)) × (length (now knots) ≤ 4096)
-        × (4 + (length (now knots) - 4) / step * stride ≤ length (now out)) ⌝ }
-    ensures { λ r. ⌜ (r ≡ 4 + (length (now (knots .entry)) - 4) / step * stride)
-        × (now (out .exit) ≡ bufferOf
+    requires step { ⌜ 0 < step ⌝ }
+    requires some { ⌜ 0 < stride ⌝ }
+    requires few { ⌜ stride ≤ 4 ⌝ }
+    requires enough { ⌜ 4 ≤ length (now knots) ⌝ }
+    requires most { ⌜ length (now knots) ≤ 4096 ⌝ }
+    requires room { ⌜ 4 + (length (now knots) - 4) / step * stride ≤ length (now out) ⌝ }
+    ensures answer { λ r. ⌜ r ≡ 4 + (length (now (knots .entry)) - 4) / step * stride ⌝ }
+    ensures out { λ _. ⌜ now (out .exit) ≡ bufferOf
         (gives (windows (now (m .entry)) step stride (now (knots .entry)) ((length (now (knots .entry)) - 4) / step)))
-        (now (out .entry))) ⌝ }
+        (now (out .entry)) ⌝ }
 {
     let last = (knots.len() - 4) / step;
     put_last(&mut *out, 0, spline::segment::sums(*m, knots), 4);

@@ -35,7 +35,8 @@ pub fn segment_verdict(to: Basis, cv: &[f64], room: usize) -> Verdict
 
 // The places that n knots fill once they are converted.
 pub fn output_length(from: Basis, to: Basis, n: usize) -> usize
-    requires { ⌜ (4 ≤ n) × (n ≤ 4096) ⌝ }
+    requires enough { ⌜ 4 ≤ n ⌝ }
+    requires most { ⌜ n ≤ 4096 ⌝ }
     ensures { λ r. ⌜ r ≡ outputLength from to n ⌝ }
 {
     4 + (n - 4) / basis::step(from) * basis::step(to)

@@ -51,7 +51,8 @@ fn with_identity(m: [[f64; 4]; 4]) -> [[f64; 8]; 4]
 
 fn pivot_row(a: [[f64; 8]; 4], i: usize) -> Pivot
     requires { ⌜ i < 4 ⌝ }
-    ensures { λ r. ⌜ (r ≡ pivotOf a i) × Found r ⌝ }
+    ensures answer { λ r. ⌜ r ≡ pivotOf a i ⌝ }
+    ensures found { λ r. ⌜ Found r ⌝ }
 {
     let mut k = i;
     while k < 4 {
@@ -65,7 +66,8 @@ fn pivot_row(a: [[f64; 8]; 4], i: usize) -> Pivot
 }
 
 fn swap(a: [[f64; 8]; 4], i: usize, k: usize) -> [[f64; 8]; 4]
-    requires { ⌜ (i < 4) × (k < 4) ⌝ }
+    requires row { ⌜ i < 4 ⌝ }
+    requires column { ⌜ k < 4 ⌝ }
     ensures { λ r. ⌜ r ≡ swapped a i k ⌝ }
 {
     let mut b = a;
@@ -111,7 +113,8 @@ fn reduce(r: [f64; 8], f: f64, p: [f64; 8]) -> [f64; 8]
 }
 
 fn clear_row(a: [[f64; 8]; 4], i: usize, k: usize) -> [f64; 8]
-    requires { ⌜ (i < 4) × (k < 4) ⌝ }
+    requires row { ⌜ i < 4 ⌝ }
+    requires column { ⌜ k < 4 ⌝ }
     ensures { λ r. ⌜ r ≡ clearedRow a i k ⌝ }
 {
     if k == i {
@@ -136,7 +139,8 @@ fn clear(a: [[f64; 8]; 4], i: usize) -> [[f64; 8]; 4]
 
 // Column i, with its pivot in row k.
 fn eliminate(a: [[f64; 8]; 4], i: usize, k: usize) -> [[f64; 8]; 4]
-    requires { ⌜ (i < 4) × (k < 4) ⌝ }
+    requires row { ⌜ i < 4 ⌝ }
+    requires column { ⌜ k < 4 ⌝ }
     ensures { λ r. ⌜ r ≡ cleared (divided (swapped a i k) i) i ⌝ }
 {
     clear(divide(swap(a, i, k), i), i)

@@ -19,7 +19,8 @@ pub fn is_allowance(x: f64) -> bool
 
 // The rows after those of the lengths: that of the allowance comes between that of the output's basis and that of its room.
 fn later_verdict(from: Basis, to: Basis, knots: &[f64], allowance: f64, room: usize) -> Verdict
-    requires { ⌜ (4 ≤ length (now knots)) × (length (now knots) ≤ 4096) ⌝ }
+    requires enough { ⌜ 4 ≤ length (now knots) ⌝ }
+    requires most { ⌜ length (now knots) ≤ 4096 ⌝ }
     ensures { λ r. ⌜ r ≡ first
         (outputUses to (now (knots .entry)) (outputLength from to (length (now (knots .entry)))) room ++ (badAllowance allowance ∷ []))
         ⌝ }

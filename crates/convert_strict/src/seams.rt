@@ -16,7 +16,8 @@ fn is_apart(allowance: f64, a: f64, b: f64) -> bool
 
 // Whether a double that the window w drops lies apart from the one that the output has in its place; h holds the output's last four.
 fn loses(allowance: f64, stride: usize, w: RowSums, h: RowSums) -> bool
-    requires { ⌜ (0 < stride) × (stride ≤ 4) ⌝ }
+    requires some { ⌜ 0 < stride ⌝ }
+    requires few { ⌜ stride ≤ 4 ⌝ }
     ensures { λ r. ⌜ r ≡ any (4 - stride) (λ j. isApart allowance (getD (listOf w) j nan) (getD (listOf h) (stride + j) nan)) ⌝ }
 {
     if stride == 1 {
@@ -42,7 +43,8 @@ fn loses(allowance: f64, stride: usize, w: RowSums, h: RowSums) -> bool
 
 // The output's last four doubles once the last `stride` ones of the window w are written behind h.
 fn shifted(stride: usize, h: RowSums, w: RowSums) -> RowSums
-    requires { ⌜ (0 < stride) × (stride ≤ 4) ⌝ }
+    requires some { ⌜ 0 < stride ⌝ }
+    requires few { ⌜ stride ≤ 4 ⌝ }
     ensures { λ r. ⌜ listOf r ≡ drop stride (listOf h) ++ drop (4 - stride) (listOf w) ⌝ }
 {
     if stride == 1 {
@@ -81,7 +83,11 @@ pub fn lost_seam(
     stride: usize,
     allowance: f64,
 ) -> usize
-    requires { ⌜ (0 < step) × (0 < stride) × (stride ≤ 4) × (4 ≤ length (now knots)) × (length (now knots) ≤ 4096) ⌝ }
+    requires step { ⌜ 0 < step ⌝ }
+    requires some { ⌜ 0 < stride ⌝ }
+    requires few { ⌜ stride ≤ 4 ⌝ }
+    requires enough { ⌜ 4 ≤ length (now knots) ⌝ }
+    requires most { ⌜ length (now knots) ≤ 4096 ⌝ }
     ensures lowest { λ r. ⌜ r ≡ lostSeam m step stride allowance (now (knots .entry)) ((length (now (knots .entry)) - 4) / step) ⌝ }
     ensures small { λ r. ⌜ r ≤ 4092 ⌝ }
 {

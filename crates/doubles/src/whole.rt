@@ -51,7 +51,8 @@ fn by_halving(m: usize, y: f64) -> usize
 // The same: the guess, where y lies from it up to the next whole number, and else by halving.
 pub fn whole_up_to(m: usize, y: f64) -> usize
     requires { ⌜ m ≤ 4096 ⌝ }
-    ensures { λ r. ⌜ (r ≡ wholeUpTo m y) × (r ≤ m) ⌝ }
+    ensures answer { λ r. ⌜ r ≡ wholeUpTo m y ⌝ }
+    ensures most { λ r. ⌜ r ≤ m ⌝ }
 {
     let n = guess(y);
     if double_of(n) <= y {

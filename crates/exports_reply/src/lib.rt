@@ -54,7 +54,8 @@ pub fn ground_number(g: Ground) -> usize
 
 // A value is written and answered by 0; a refusal writes nothing.
 pub fn value_told(e: Evaluation, value: &mut f64) -> u32
-    ensures { λ r. ⌜ (r ≡ evaluatedReply e) × (now (value .exit) ≡ valueLeft e (now (value .entry))) ⌝ }
+    ensures answer { λ r. ⌜ r ≡ evaluatedReply e ⌝ }
+    ensures value { λ _. ⌜ now (value .exit) ≡ valueLeft e (now (value .entry)) ⌝ }
 {
     match e {
         Evaluation::Value(v) => {
@@ -67,8 +68,9 @@ pub fn value_told(e: Evaluation, value: &mut f64) -> u32
 
 // A place leaves parameter, local place, lower and upper end, and ground, segment and count; refusal 11 its count.
 pub fn place_told(a: Inversion, place: &mut [f64; 4], whole: &mut [usize; 3]) -> u32
-    ensures { λ r. ⌜ (r ≡ invertedReply a) × (now (place .exit) ≡ placeLeft a (now (place .entry)))
-        × (now (whole .exit) ≡ wholeLeft a (now (whole .entry))) ⌝ }
+    ensures answer { λ r. ⌜ r ≡ invertedReply a ⌝ }
+    ensures place { λ _. ⌜ now (place .exit) ≡ placeLeft a (now (place .entry)) ⌝ }
+    ensures whole { λ _. ⌜ now (whole .exit) ≡ wholeLeft a (now (whole .entry)) ⌝ }
 {
     match a {
         Inversion::At(p) => {
@@ -87,7 +89,8 @@ pub fn place_told(a: Inversion, place: &mut [f64; 4], whole: &mut [usize; 3]) ->
 
 // The length is written and answered by 0; a refusal writes nothing.
 pub fn length_told(a: ConversionAnswer, written: &mut usize) -> u32
-    ensures { λ r. ⌜ (r ≡ convertedReply a) × (now (written .exit) ≡ lengthLeft a (now (written .entry))) ⌝ }
+    ensures answer { λ r. ⌜ r ≡ convertedReply a ⌝ }
+    ensures written { λ _. ⌜ now (written .exit) ≡ lengthLeft a (now (written .entry)) ⌝ }
 {
     match a {
         ConversionAnswer::Written(n) => {

@@ -28,8 +28,9 @@ use table::TableInversion;
 
 // A place leaves what it leaves without a span, and its second; refusal 11 its count.
 pub fn timed_told(a: TableInversion, place: &mut [f64; 4], whole: &mut [usize; 4]) -> u32
-    ensures { λ r. ⌜ (r ≡ timedReply a) × (now (place .exit) ≡ timedPlace a (now (place .entry)))
-        × (now (whole .exit) ≡ timedWhole a (now (whole .entry))) ⌝ }
+    ensures answer { λ r. ⌜ r ≡ timedReply a ⌝ }
+    ensures place { λ _. ⌜ now (place .exit) ≡ timedPlace a (now (place .entry)) ⌝ }
+    ensures whole { λ _. ⌜ now (whole .exit) ≡ timedWhole a (now (whole .entry)) ⌝ }
 {
     match a {
         TableInversion::At(p, s) => {
@@ -52,8 +53,9 @@ pub fn timed_told(a: TableInversion, place: &mut [f64; 4], whole: &mut [usize; 4
 }
 
 fn handed_told(a: TableConversion, handed: &mut u32, written: &mut usize) -> u32
-    ensures { λ r. ⌜ (r ≡ handedReply a) × (now (handed .exit) ≡ handedSpan a (now (handed .entry)))
-        × (now (written .exit) ≡ handedLength a (now (written .entry))) ⌝ }
+    ensures answer { λ r. ⌜ r ≡ handedReply a ⌝ }
+    ensures handed { λ _. ⌜ now (handed .exit) ≡ handedSpan a (now (handed .entry)) ⌝ }
+    ensures written { λ _. ⌜ now (written .exit) ≡ handedLength a (now (written .entry)) ⌝ }
 {
     match a {
         TableConversion::On(t, n) => {

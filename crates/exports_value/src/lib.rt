@@ -53,7 +53,8 @@ pub fn spline_segment(basis: u8, x: f64, cv: &[f64], value: &mut f64) -> u32
 
 // Whether the claim holds is written and answered by 0; a refusal writes nothing.
 fn claimed_told(c: ClaimAnswer, holds: &mut bool) -> u32
-    ensures { λ r. ⌜ (r ≡ claimedReply c) × (now (holds .exit) ≡ holdsLeft c (now (holds .entry))) ⌝ }
+    ensures answer { λ r. ⌜ r ≡ claimedReply c ⌝ }
+    ensures holds { λ _. ⌜ now (holds .exit) ≡ holdsLeft c (now (holds .entry)) ⌝ }
 {
     match c {
         ClaimAnswer::Holds => {

@@ -80,7 +80,9 @@ fn is_at_high(e: Ends, y: f64) -> bool
 
 // By the curve's own ends, of k segments: two evaluations.
 fn curve_ends(b: Basis, knots: &[f64], k: usize) -> Ends
-    requires { ⌜ (k ≡ segmentsOf b (length (now knots))) × (4 ≤ length (now knots)) × (length (now knots) ≤ 4096) ⌝ }
+    requires segments { ⌜ k ≡ segmentsOf b (length (now knots)) ⌝ }
+    requires enough { ⌜ 4 ≤ length (now knots) ⌝ }
+    requires most { ⌜ length (now knots) ≤ 4096 ⌝ }
     ensures { λ r. ⌜ r ≡ curveRule (segmentOf b (now (knots .entry))) k .ends ⌝ }
 {
     let start = spline::segment::horner(inverse_search::row_sums_at(b, knots, 0), 0.0);
@@ -108,7 +110,8 @@ fn end_place(s: usize, x: f64, n: u32) -> Inversion
 }
 
 fn parameter(k: usize, s: usize, x: f64) -> f64
-    requires { ⌜ (k ≤ 4096) × (s ≤ 4096) ⌝ }
+    requires segments { ⌜ k ≤ 4096 ⌝ }
+    requires segment { ⌜ s ≤ 4096 ⌝ }
     ensures { λ r. ⌜ r ≡ parameterOf k s x ⌝ }
 {
     (doubles::whole::double_of(s) + x) * (1.0 / doubles::whole::double_of(k))
@@ -126,8 +129,12 @@ fn searched(
     k: usize,
     n: u32,
 ) -> Inversion
-    requires { ⌜ (k ≡ segmentsOf b (length (now knots))) × (4 ≤ length (now knots)) × (length (now knots) ≤ 4096) × (isNan y ≡ false)
-        × (allInRange (now knots) ≡ true) × (n ≤ 1000) ⌝ }
+    requires segments { ⌜ k ≡ segmentsOf b (length (now knots)) ⌝ }
+    requires enough { ⌜ 4 ≤ length (now knots) ⌝ }
+    requires most { ⌜ length (now knots) ≤ 4096 ⌝ }
+    requires number { ⌜ isNan y ≡ false ⌝ }
+    requires range { ⌜ allInRange (now knots) ≡ true ⌝ }
+    requires count { ⌜ n ≤ 1000 ⌝ }
     ensures { λ r. ⌜ SearchedIs how b y (now (knots .entry)) limit precision rising k n r ⌝ }
 {
     let a = inverse_search::find(how, b, knots, y, precision, limit, rising, k, n);
@@ -149,8 +156,12 @@ fn located(
     precision: f64,
     k: usize,
 ) -> Inversion
-    requires { ⌜ (k ≡ segmentsOf b (length (now knots))) × (4 ≤ length (now knots)) × (length (now knots) ≤ 4096) × (isNan y ≡ false)
-        × (allInRange (now knots) ≡ true) × (n ≤ 1000) ⌝ }
+    requires segments { ⌜ k ≡ segmentsOf b (length (now knots)) ⌝ }
+    requires enough { ⌜ 4 ≤ length (now knots) ⌝ }
+    requires most { ⌜ length (now knots) ≤ 4096 ⌝ }
+    requires number { ⌜ isNan y ≡ false ⌝ }
+    requires range { ⌜ allInRange (now knots) ≡ true ⌝ }
+    requires count { ⌜ n ≤ 1000 ⌝ }
     ensures { λ r. ⌜ LocatedIs how e b y (now (knots .entry)) limit precision k n r ⌝ }
 {
     if is_at_low(e, y) {
@@ -164,7 +175,9 @@ fn located(
 
 // What the end rule goes by. It stands apart so that `locate` calls `located` in one place alone, and the compiler can inline it there.
 fn ends_by(ends: EndsBy, b: Basis, knots: &[f64], k: usize) -> Ends
-    requires { ⌜ (k ≡ segmentsOf b (length (now knots))) × (4 ≤ length (now knots)) × (length (now knots) ≤ 4096) ⌝ }
+    requires segments { ⌜ k ≡ segmentsOf b (length (now knots)) ⌝ }
+    requires enough { ⌜ 4 ≤ length (now knots) ⌝ }
+    requires most { ⌜ length (now knots) ≤ 4096 ⌝ }
     ensures { λ r. ⌜ r ≡ endRuleOf ends b (now (knots .entry)) (segmentOf b (now (knots .entry))) .ends ⌝ }
 {
     match ends {
@@ -174,7 +187,8 @@ fn ends_by(ends: EndsBy, b: Basis, knots: &[f64], k: usize) -> Ends
 }
 
 fn evaluations(ends: EndsBy) -> u32
-    ensures { λ r. ⌜ (r ≡ own ends) × (r ≤ 2) ⌝ }
+    ensures answer { λ r. ⌜ r ≡ own ends ⌝ }
+    ensures most { λ r. ⌜ r ≤ 2 ⌝ }
 {
     match ends {
         EndsBy::Knots => 0,
@@ -192,7 +206,10 @@ fn locate(
     limit: u16,
     precision: f64,
 ) -> Inversion
-    requires { ⌜ (4 ≤ length (now knots)) × (length (now knots) ≤ 4096) × (isNan y ≡ false) × (allInRange (now knots) ≡ true) ⌝ }
+    requires enough { ⌜ 4 ≤ length (now knots) ⌝ }
+    requires most { ⌜ length (now knots) ≤ 4096 ⌝ }
+    requires number { ⌜ isNan y ≡ false ⌝ }
+    requires range { ⌜ allInRange (now knots) ≡ true ⌝ }
     ensures { λ r. ⌜ r ≡ located (ruleOf how) (endRuleOf ends b (now (knots .entry)) (segmentOf b (now (knots .entry))) .ends)
         (endRuleOf ends b (now (knots .entry)) (segmentOf b (now (knots .entry))) .made) (segmentOf b (now (knots .entry)))
         (segmentsOf b (length (now (knots .entry)))) y precision limit ⌝ }

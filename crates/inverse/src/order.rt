@@ -63,7 +63,8 @@ pub fn is_sound(knots: &[f64]) -> bool
 // From knot 1 on, the first whose step to the next goes against the direction; the last where none does.
 fn first_turn(rising: bool, knots: &[f64]) -> usize
     requires { ⌜ 4 ≤ length (now knots) ⌝ }
-    ensures { λ r. ⌜ (r ≡ turnsAt rising 1 (drop 1 (now (knots .entry)))) × (r ≤ length (now (knots .entry))) ⌝ }
+    ensures answer { λ r. ⌜ r ≡ turnsAt rising 1 (drop 1 (now (knots .entry))) ⌝ }
+    ensures most { λ r. ⌜ r ≤ length (now (knots .entry)) ⌝ }
 {
     let mut i = 1;
     while i + 1 < knots.len() {
@@ -77,7 +78,8 @@ fn first_turn(rising: bool, knots: &[f64]) -> usize
 
 // Refusal 10, with the knot that turns back: looked for only where there is one.
 pub fn turning_knot(knots: &[f64]) -> Refusal
-    requires { ⌜ (4 ≤ length (now knots)) × (length (now knots) ≤ 4096) ⌝ }
+    requires enough { ⌜ 4 ≤ length (now knots) ⌝ }
+    requires most { ⌜ length (now knots) ≤ 4096 ⌝ }
     ensures { λ r. ⌜ r ≡ TurnsBack (turningKnot (now (knots .entry))) ⌝ }
 {
     Refusal::TurnsBack(first_turn(rising(knots), knots) as u16)

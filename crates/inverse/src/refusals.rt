@@ -12,7 +12,8 @@ use error::Verdict;
 
 // Refusals 4 and 10. With the order check, one scan serves both where nothing is wrong; where something is, they are tested one by one.
 fn knots_verdict(knots: &[f64], check: bool) -> Verdict
-    requires { ⌜ (4 ≤ length (now knots)) × (length (now knots) ≤ 4096) ⌝ }
+    requires enough { ⌜ 4 ≤ length (now knots) ⌝ }
+    requires most { ⌜ length (now knots) ≤ 4096 ⌝ }
     ensures { λ r. ⌜ r ≡ first (badKnot (now (knots .entry)) ∷ turnBack check (now (knots .entry)) ∷ []) ⌝ }
 {
     if !check {

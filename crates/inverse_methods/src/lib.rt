@@ -88,8 +88,11 @@ pub fn round(
     st: State,
     n: u32,
 ) -> RoundResult
-    requires { ⌜ (st .repeats < 65536) × (n < 2000000) ⌝ }
-    ensures { λ r. ⌜ (RoundIs w y precision rising width st n r) × (repeatsAfter r ≤ st .repeats + 1) × (countAfter r ≤ n + 1) ⌝ }
+    requires repeats { ⌜ st .repeats < 65536 ⌝ }
+    requires count { ⌜ n < 2000000 ⌝ }
+    ensures answer { λ r. ⌜ RoundIs w y precision rising width st n r ⌝ }
+    ensures repeats_after { λ r. ⌜ repeatsAfter r ≤ st .repeats + 1 ⌝ }
+    ensures count_after { λ r. ⌜ countAfter r ≤ n + 1 ⌝ }
 {
     let b = st.bracket;
     if inverse_segment::round::is_narrow(precision, b) {

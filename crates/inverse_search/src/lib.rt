@@ -30,7 +30,8 @@ pub fn count_of(a: SearchResult) -> u32
 
 // How many binary digits k has, up to its highest 1.
 pub fn bits(k: usize) -> u32
-    ensures { λ r. ⌜ (r ≡ bitsOf k) × (r ≤ 64) ⌝ }
+    ensures answer { λ r. ⌜ r ≡ bitsOf k ⌝ }
+    ensures most { λ r. ⌜ r ≤ 64 ⌝ }
 {
     64 - usize::leading_zeros(k)
 }
@@ -48,7 +49,8 @@ pub fn most_evaluations(k: usize, limit: u16) -> u32
 
 // The row sums of segment s: the part of the knots that starts at its place is lent, and nothing copied.
 pub fn row_sums_at(b: Basis, knots: &[f64], s: usize) -> RowSums
-    requires { ⌜ (s * stepOf b + 4 ≤ length (now knots)) × (length (now knots) ≤ 4096) ⌝ }
+    requires inside { ⌜ s * stepOf b + 4 ≤ length (now knots) ⌝ }
+    requires most { ⌜ length (now knots) ≤ 4096 ⌝ }
     ensures { λ r. ⌜ r ≡ rowSumsOf (matrixOf b) (drop (s * stepOf b) (now (knots .entry))) ⌝ }
 {
     let start = s * basis::step(b);
@@ -66,10 +68,15 @@ pub fn tries(
     made: &mut u32,
     ends: &mut [f64; 6],
 ) -> usize
-    requires { ⌜ (end * stepOf b + 4 ≤ length (now knots) + stepOf b) × (length (now knots) ≤ 4096) × (end ≤ k) × (k ≤ 4096)
-        × (first ≤ end) × (now made ≤ 100000) ⌝ }
-    ensures { λ r. ⌜ (TriesIs b (now (knots .entry)) y (end - first) first k (now (made .entry)) r (now (made .exit))
-        (now (ends .exit))) × (now (made .exit) ≤ now (made .entry) + 2 * (end - first)) ⌝ }
+    requires inside { ⌜ end * stepOf b + 4 ≤ length (now knots) + stepOf b ⌝ }
+    requires most { ⌜ length (now knots) ≤ 4096 ⌝ }
+    requires last { ⌜ end ≤ k ⌝ }
+    requires segments { ⌜ k ≤ 4096 ⌝ }
+    requires first { ⌜ first ≤ end ⌝ }
+    requires count { ⌜ now made ≤ 100000 ⌝ }
+    ensures answer { λ r. ⌜ TriesIs b (now (knots .entry)) y (end - first) first k (now (made .entry)) r (now (made .exit))
+        (now (ends .exit)) ⌝ }
+    ensures count_after { λ _. ⌜ now (made .exit) ≤ now (made .entry) + 2 * (end - first) ⌝ }
 {
     let mut s = first;
     while s < end {
@@ -99,10 +106,14 @@ pub fn last_tries(
     made: &mut u32,
     ends: &mut [f64; 6],
 ) -> usize
-    requires { ⌜ (k * stepOf b + 4 ≤ length (now knots) + stepOf b) × (length (now knots) ≤ 4096) × (0 < k) × (k ≤ 4096) × (left ≤ k)
-        × (now made ≤ 90000) ⌝ }
-    ensures { λ r. ⌜ (LastIs b (now (knots .entry)) y k left (now (made .entry)) r (now (made .exit)) (now (ends .exit)))
-        × (now (made .exit) ≤ now (made .entry) + 4) ⌝ }
+    requires inside { ⌜ k * stepOf b + 4 ≤ length (now knots) + stepOf b ⌝ }
+    requires most { ⌜ length (now knots) ≤ 4096 ⌝ }
+    requires some { ⌜ 0 < k ⌝ }
+    requires segments { ⌜ k ≤ 4096 ⌝ }
+    requires left { ⌜ left ≤ k ⌝ }
+    requires count { ⌜ now made ≤ 90000 ⌝ }
+    ensures answer { λ r. ⌜ LastIs b (now (knots .entry)) y k left (now (made .entry)) r (now (made .exit)) (now (ends .exit)) ⌝ }
+    ensures count_after { λ _. ⌜ now (made .exit) ≤ now (made .entry) + 4 ⌝ }
 {
     let first = one_less(left);
     let end = doubles::whole::lesser(first + 2, k);
@@ -129,10 +140,15 @@ pub fn halve(
     made: &mut u32,
     ends: &mut [f64; 6],
 ) -> usize
-    requires { ⌜ (k * stepOf b + 4 ≤ length (now (now knots)) + stepOf b) × (length (now (now knots)) ≤ 4096) × (0 < k) × (k ≤ 4096)
-        × (left + wide ≤ k) × (now made + 2 * wide ≤ 90000) ⌝ }
-    ensures { λ r. ⌜ (HalveIs b (now (now (knots .entry))) y rising k left wide (now (made .entry)) r (now (made .exit))
-        (now (ends .exit))) × (now (made .exit) ≤ now (made .entry) + 2 * wide + 4) ⌝ }
+    requires inside { ⌜ k * stepOf b + 4 ≤ length (now (now knots)) + stepOf b ⌝ }
+    requires most { ⌜ length (now (now knots)) ≤ 4096 ⌝ }
+    requires some { ⌜ 0 < k ⌝ }
+    requires segments { ⌜ k ≤ 4096 ⌝ }
+    requires open { ⌜ left + wide ≤ k ⌝ }
+    requires count { ⌜ now made + 2 * wide ≤ 90000 ⌝ }
+    ensures answer { λ r. ⌜ HalveIs b (now (now (knots .entry))) y rising k left wide (now (made .entry)) r (now (made .exit))
+        (now (ends .exit)) ⌝ }
+    ensures count_after { λ _. ⌜ now (made .exit) ≤ now (made .entry) + 2 * wide + 4 ⌝ }
 {
     if wide == 0 {
         return last_tries(b, *knots, y, k, left, made, ends);
@@ -161,10 +177,13 @@ fn sought(
     made: &mut u32,
     ends: &mut [f64; 6],
 ) -> usize
-    requires { ⌜ (k * stepOf b + 4 ≤ length (now knots) + stepOf b) × (length (now knots) ≤ 4096) × (0 < k) × (k ≤ 4096)
-        × (now made ≤ 1000) ⌝ }
-    ensures { λ r. ⌜ (SoughtIs b (now (knots .entry)) y rising k (now (made .entry)) r (now (made .exit)) (now (ends .exit)))
-        × (now (made .exit) ≤ 10000) ⌝ }
+    requires inside { ⌜ k * stepOf b + 4 ≤ length (now knots) + stepOf b ⌝ }
+    requires most { ⌜ length (now knots) ≤ 4096 ⌝ }
+    requires some { ⌜ 0 < k ⌝ }
+    requires segments { ⌜ k ≤ 4096 ⌝ }
+    requires count { ⌜ now made ≤ 1000 ⌝ }
+    ensures answer { λ r. ⌜ SoughtIs b (now (knots .entry)) y rising k (now (made .entry)) r (now (made .exit)) (now (ends .exit)) ⌝ }
+    ensures count_after { λ _. ⌜ now (made .exit) ≤ 10000 ⌝ }
 {
     if k <= 12 {
         return tries(b, knots, y, k, 0, k, made, ends);
@@ -185,8 +204,11 @@ pub fn find(
     k: usize,
     count: u32,
 ) -> SearchResult
-    requires { ⌜ (k * stepOf b + 4 ≤ length (now knots) + stepOf b) × (length (now knots) ≤ 4096) × (0 < k) × (k ≤ 4096)
-        × (count ≤ 1000) ⌝ }
+    requires inside { ⌜ k * stepOf b + 4 ≤ length (now knots) + stepOf b ⌝ }
+    requires most { ⌜ length (now knots) ≤ 4096 ⌝ }
+    requires some { ⌜ 0 < k ⌝ }
+    requires segments { ⌜ k ≤ 4096 ⌝ }
+    requires count { ⌜ count ≤ 1000 ⌝ }
     ensures { λ r. ⌜ FindIs how b (now (knots .entry)) y precision limit rising k count r ⌝ }
 {
     let mut made = count;

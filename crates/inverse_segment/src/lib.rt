@@ -213,7 +213,8 @@ fn settle_by(b: Basis, cv: &[f64], y: f64, ends: &mut [f64; 6]) -> bool
 
 // Segment s is tried: both its ends are evaluated, and kept behind its row sums.
 pub fn probe(b: Basis, knots: &[f64], s: usize, y: f64, ends: &mut [f64; 6]) -> bool
-    requires { ⌜ (s * stepOf b + 4 ≤ length (now knots)) × (length (now knots) ≤ 4096) ⌝ }
+    requires inside { ⌜ s * stepOf b + 4 ≤ length (now knots) ⌝ }
+    requires most { ⌜ length (now knots) ≤ 4096 ⌝ }
     ensures { λ r. ⌜ TestedIs b (now (knots .entry)) s y (now (ends .exit)) r ⌝ }
 {
     let start = s * basis::step(b);

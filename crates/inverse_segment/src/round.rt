@@ -106,7 +106,8 @@ pub fn fraction(y: f64, regula_falsi: bool, b: Bracket) -> f64
 
 pub fn moved(lower_moves: bool, b: Bracket, st: State, x: f64, v: f64) -> State
     requires { ⌜ st .repeats < 65536 ⌝ }
-    ensures { λ r. ⌜ (r ≡ moved «lower_moves» b st x v) × (r .repeats ≤ st .repeats + 1) ⌝ }
+    ensures answer { λ r. ⌜ r ≡ moved «lower_moves» b st x v ⌝ }
+    ensures repeats_after { λ r. ⌜ r .repeats ≤ st .repeats + 1 ⌝ }
 {
     if lower_moves {
         let n = Bracket {
@@ -168,9 +169,11 @@ pub fn round(
     st: State,
     n: u32,
 ) -> RoundResult
-    requires { ⌜ (st .repeats < 65536) × (n < 2000000) ⌝ }
-    ensures { λ r. ⌜ (RoundIs m w y precision rising «regula_falsi» st n r) × (repeatsAfter r ≤ st .repeats + 1)
-        × (countAfter r ≤ n + 1) ⌝ }
+    requires repeats { ⌜ st .repeats < 65536 ⌝ }
+    requires count { ⌜ n < 2000000 ⌝ }
+    ensures answer { λ r. ⌜ RoundIs m w y precision rising «regula_falsi» st n r ⌝ }
+    ensures repeats_after { λ r. ⌜ repeatsAfter r ≤ st .repeats + 1 ⌝ }
+    ensures count_after { λ r. ⌜ countAfter r ≤ n + 1 ⌝ }
 {
     let b = st.bracket;
     if is_narrow(precision, b) {

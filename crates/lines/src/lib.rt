@@ -39,7 +39,9 @@ pub fn answered(
     out: &mut [u8],
     at: usize,
 ) -> LineResult
-    requires table { ⌜ (countOf held ≤ places) × (length (now table) ≡ places) × (length (now converted) ≡ places) ⌝ }
+    requires held { ⌜ countOf held ≤ places ⌝ }
+    requires table { ⌜ length (now table) ≡ places ⌝ }
+    requires converted { ⌜ length (now converted) ≡ places ⌝ }
     requires room { ⌜ at + longest ≤ length (now out) ⌝ }
     ensures state { λ r. ⌜ curveOf (r .held) (now (table .exit)) ≡ afterOf (curveOf held (now (table .entry))) said ⌝ }
     ensures few { λ r. ⌜ countOf (r .held) ≤ places ⌝ }
@@ -68,7 +70,9 @@ pub fn line(
     at: usize,
 ) -> LineResult
     requires line { ⌜ length (now line) ≡ widest ⌝ }
-    requires table { ⌜ (countOf held ≤ places) × (length (now table) ≡ places) × (length (now converted) ≡ places) ⌝ }
+    requires held { ⌜ countOf held ≤ places ⌝ }
+    requires table { ⌜ length (now table) ≡ places ⌝ }
+    requires converted { ⌜ length (now converted) ≡ places ⌝ }
     requires room { ⌜ at + longest ≤ length (now out) ⌝ }
     ensures state { λ r. ⌜ curveOf (r .held) (now (table .exit)) ≡ lineProgram .after (curveOf held (now (table .entry)))
         (openOf len (now (line .entry))) ⌝ }

@@ -37,7 +37,8 @@ pub struct SessionReply {
 
 // The value at x.
 fn value_at(b: Basis, x: f64, knots: &[f64]) -> LineReply
-    ensures { λ r. ⌜ ((l : List Float) → replyOf r l ≡ valueReply (splineOf b x (now (knots .entry)))) × (lentOf r ≡ 0) ⌝ }
+    ensures reply { λ r. ⌜ ((l : List Float) → replyOf r l ≡ valueReply (splineOf b x (now (knots .entry)))) ⌝ }
+    ensures lent { λ r. ⌜ lentOf r ≡ 0 ⌝ }
 {
     let e = spline::spline(b, x, knots);
     match e {
@@ -48,8 +49,8 @@ fn value_at(b: Basis, x: f64, knots: &[f64]) -> LineReply
 
 // The place of y, with the order check.
 fn place_of(t: Table, m: EndsBy, y: f64, knots: &[f64]) -> LineReply
-    ensures { λ r. ⌜ ((l : List Float) → replyOf r l ≡ placeReply (t .span) (foundOf m (t .basis) y (now (knots .entry))))
-        × (lentOf r ≡ 0) ⌝ }
+    ensures reply { λ r. ⌜ ((l : List Float) → replyOf r l ≡ placeReply (t .span) (foundOf m (t .basis) y (now (knots .entry)))) ⌝ }
+    ensures lent { λ r. ⌜ lentOf r ≡ 0 ⌝ }
 {
     let b = t.basis;
     let o = Options {
@@ -74,8 +75,9 @@ fn place_of(t: Table, m: EndsBy, y: f64, knots: &[f64]) -> LineReply
 // The curve over another basis, into the lent places.
 fn converted_to(t: Table, c: Basis, knots: &[f64], converted: &mut [f64]) -> LineReply
     requires { ⌜ length (now converted) ≡ places ⌝ }
-    ensures { λ r. ⌜ (replyOf r (now (converted .exit)) ≡ curveReply (t .span) c (convertedOf (t .basis) c (now (knots .entry)) places))
-        × (lentOf r ≤ places) ⌝ }
+    ensures reply { λ r. ⌜ replyOf r (now (converted .exit)) ≡ curveReply (t .span) c (convertedOf (t .basis) c (now
+        (knots .entry)) places) ⌝ }
+    ensures lent { λ r. ⌜ lentOf r ≤ places ⌝ }
 {
     let b = t.basis;
     let i = convert::convert_spline(b, c, knots, &mut *converted);
@@ -93,7 +95,8 @@ fn converted_to(t: Table, c: Basis, knots: &[f64], converted: &mut [f64]) -> Lin
 
 // The answer that says 12 and leaves all as it is.
 fn bad_line(h: Session) -> SessionReply
-    ensures { λ a. ⌜ (a .held ≡ h) × (a .told ≡ Refused BadLine) ⌝ }
+    ensures session { λ a. ⌜ a .held ≡ h ⌝ }
+    ensures reply { λ a. ⌜ a .told ≡ Refused BadLine ⌝ }
 {
     SessionReply {
         held: h,
@@ -122,7 +125,8 @@ fn first(r: Record, table: &[f64], converted: &[f64]) -> SessionReply
 
 // A knot, where n stand in the table: into the next place, if there is one.
 fn add(t: Table, m: EndsBy, n: usize, x: f64, table: &mut [f64]) -> SessionReply
-    requires { ⌜ (n ≤ places) × (length (now table) ≡ places) ⌝ }
+    requires count { ⌜ n ≤ places ⌝ }
+    requires table { ⌜ length (now table) ≡ places ⌝ }
     ensures { λ a. ⌜ ((l : List Float) → Answers (on t m (take n (now (table .entry)))) (Knot x) a (now (table .exit)) l) ⌝ }
 {
     if n < 4096 {
@@ -167,7 +171,9 @@ fn later(
     table: &mut [f64],
     converted: &mut [f64],
 ) -> SessionReply
-    requires { ⌜ (n ≤ places) × (length (now table) ≡ places) × (length (now converted) ≡ places) ⌝ }
+    requires count { ⌜ n ≤ places ⌝ }
+    requires table { ⌜ length (now table) ≡ places ⌝ }
+    requires converted { ⌜ length (now converted) ≡ places ⌝ }
     ensures { λ a. ⌜ Answers (on t m (take n (now (table .entry)))) r a (now (table .exit)) (now (converted .exit)) ⌝ }
 {
     let b = t.basis;
@@ -204,7 +210,9 @@ fn later(
 
 // The reply to a record, and the curve after it; a converted curve stands in `converted`.
 pub fn answer(h: Session, r: Record, table: &mut [f64], converted: &mut [f64]) -> SessionReply
-    requires { ⌜ (countOf h ≤ places) × (length (now table) ≡ places) × (length (now converted) ≡ places) ⌝ }
+    requires held { ⌜ countOf h ≤ places ⌝ }
+    requires table { ⌜ length (now table) ≡ places ⌝ }
+    requires converted { ⌜ length (now converted) ≡ places ⌝ }
     ensures { λ a. ⌜ Answers (curveOf h (now (table .entry))) r a (now (table .exit)) (now (converted .exit)) ⌝ }
 {
     match h {

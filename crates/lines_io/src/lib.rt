@@ -50,11 +50,12 @@ fn feed_all(
     new: &mut [u64],
     out: &mut [u8],
 ) -> RunResult
-    requires { ⌜ Good st (now line) (now table) (now old) (now new) × (length (now converted) ≡ places)
-        × (longest + lastRoom ≤ length (now out)) ⌝ }
-    ensures { λ r. ⌜ Good (r .st) (now (line .exit)) (now (table .exit)) (now (old .exit)) (now (new .exit))
-        × (stateOf (r .st) (now (line .exit)) (now (table .exit)) (now (old .exit)) (now (new .exit)) ≡ ranOf running
-        (stateOf st (now (line .entry)) (now (table .entry)) (now (old .entry)) (now (new .entry))) (now (chunk .entry))) ⌝ }
+    requires good { ⌜ Good st (now line) (now table) (now old) (now new) ⌝ }
+    requires converted { ⌜ length (now converted) ≡ places ⌝ }
+    requires room { ⌜ longest + lastRoom ≤ length (now out) ⌝ }
+    ensures good_after { λ r. ⌜ Good (r .st) (now (line .exit)) (now (table .exit)) (now (old .exit)) (now (new .exit)) ⌝ }
+    ensures state { λ r. ⌜ stateOf (r .st) (now (line .exit)) (now (table .exit)) (now (old .exit)) (now (new .exit)) ≡ ranOf running
+        (stateOf st (now (line .entry)) (now (table .entry)) (now (old .entry)) (now (new .entry))) (now (chunk .entry)) ⌝ }
 {
     let mut s = st;
     let mut from = 0;
@@ -96,8 +97,9 @@ fn read_once(
     new: &mut [u64],
     out: &mut [u8],
 ) -> RunResult
-    requires { ⌜ Good st (now line) (now table) (now old) (now new) × (length (now converted) ≡ places)
-        × (longest + lastRoom ≤ length (now out)) ⌝ }
+    requires good { ⌜ Good st (now line) (now table) (now old) (now new) ⌝ }
+    requires converted { ⌜ length (now converted) ≡ places ⌝ }
+    requires room { ⌜ longest + lastRoom ≤ length (now out) ⌝ }
     ensures { λ r. ⌜ Good (r .st) (now (line .exit)) (now (table .exit)) (now (old .exit)) (now (new .exit)) ⌝ }
 {
     let got = libc::read(STDIN_FILENO, &mut *chunk);
@@ -123,9 +125,13 @@ fn read_all(
     new: &mut [u64],
     out: &mut [u8],
 ) -> RunResult
-    requires { ⌜ (countOf (first .job) ≡ 0) × (length (now line) ≡ widest) × (length (now table) ≡ places)
-        × (length (now converted) ≡ places) × (length (now old) ≡ places) × (length (now new) ≡ places)
-        × (longest + lastRoom ≤ length (now out)) ⌝ }
+    requires first { ⌜ countOf (first .job) ≡ 0 ⌝ }
+    requires line { ⌜ length (now line) ≡ widest ⌝ }
+    requires table { ⌜ length (now table) ≡ places ⌝ }
+    requires converted { ⌜ length (now converted) ≡ places ⌝ }
+    requires old { ⌜ length (now old) ≡ places ⌝ }
+    requires new { ⌜ length (now new) ≡ places ⌝ }
+    requires room { ⌜ longest + lastRoom ≤ length (now out) ⌝ }
     ensures { λ r. ⌜ Good (r .st) (now (line .exit)) (now (table .exit)) (now (old .exit)) (now (new .exit)) ⌝ }
 {
     let mut st = first;
@@ -163,8 +169,9 @@ pub fn close(
     new: &mut [u64],
     out: &mut [u8],
 )
-    requires { ⌜ Good st (now line) (now table) (now old) (now new) × (length (now converted) ≡ places)
-        × (longest + lastRoom ≤ length (now out)) ⌝ }
+    requires good { ⌜ Good st (now line) (now table) (now old) (now new) ⌝ }
+    requires converted { ⌜ length (now converted) ≡ places ⌝ }
+    requires room { ⌜ longest + lastRoom ≤ length (now out) ⌝ }
 {
     let at = lines_programs::finish(st, line, table, converted, old, new, &mut *out, 0);
     written(&out[0..at]);
@@ -181,9 +188,13 @@ fn whole(
     new: &mut [u64],
     out: &mut [u8],
 )
-    requires { ⌜ (countOf (first .job) ≡ 0) × (length (now line) ≡ widest) × (length (now table) ≡ places)
-        × (length (now converted) ≡ places) × (length (now old) ≡ places) × (length (now new) ≡ places)
-        × (longest + lastRoom ≤ length (now out)) ⌝ }
+    requires first { ⌜ countOf (first .job) ≡ 0 ⌝ }
+    requires line { ⌜ length (now line) ≡ widest ⌝ }
+    requires table { ⌜ length (now table) ≡ places ⌝ }
+    requires converted { ⌜ length (now converted) ≡ places ⌝ }
+    requires old { ⌜ length (now old) ≡ places ⌝ }
+    requires new { ⌜ length (now new) ≡ places ⌝ }
+    requires room { ⌜ longest + lastRoom ≤ length (now out) ⌝ }
 {
     let r = read_all(
         first,

@@ -104,12 +104,13 @@ fn ended(
     out: &mut [u8],
     at: usize,
 ) -> StepResult
-    requires { ⌜ Good st (now line) (now table) (now old) (now new) × (length (now converted) ≡ places)
-        × (at + longest ≤ length (now out)) ⌝ }
-    ensures { λ s. ⌜ Went (closed running (stateOf st (now (line .entry)) (now (table .entry)) (now (old .entry)) (now (new .entry))))
+    requires good { ⌜ Good st (now line) (now table) (now old) (now new) ⌝ }
+    requires converted { ⌜ length (now converted) ≡ places ⌝ }
+    requires room { ⌜ at + longest ≤ length (now out) ⌝ }
+    ensures state { λ s. ⌜ Went (closed running (stateOf st (now (line .entry)) (now (table .entry)) (now (old .entry)) (now (new .entry))))
         (closeText running (stateOf st (now (line .entry)) (now (table .entry)) (now (old .entry)) (now (new .entry)))) (s .st)
-        (now (line .entry)) (now (table .exit)) (now (old .exit)) (now (new .exit)) (now (out .entry)) at (now (out .exit)) (s .at)
-        × (s .at ≤ at + longest) ⌝ }
+        (now (line .entry)) (now (table .exit)) (now (old .exit)) (now (new .exit)) (now (out .entry)) at (now (out .exit)) (s .at) ⌝ }
+    ensures short { λ s. ⌜ s .at ≤ at + longest ⌝ }
 {
     let len = st.len;
     let job = st.job;
@@ -182,10 +183,14 @@ fn ended(
 
 // What the end prints.
 fn ends(job: Job, table: &[f64], old: &[u64], new: &[u64], out: &mut [u8], at: usize) -> usize
-    requires { ⌜ (countOf job ≤ places) × (length (now table) ≡ places) × (length (now old) ≡ places) × (length (now new) ≡ places)
-        × (at + lastRoom ≤ length (now out)) ⌝ }
-    ensures { λ r. ⌜ Wrote (now (out .entry)) at (endsOf (runningOf job (now (table .entry)) (now (old .entry)) (now (new .entry))))
-        (now (out .exit)) r × (r ≤ at + lastRoom) ⌝ }
+    requires held { ⌜ countOf job ≤ places ⌝ }
+    requires table { ⌜ length (now table) ≡ places ⌝ }
+    requires old { ⌜ length (now old) ≡ places ⌝ }
+    requires new { ⌜ length (now new) ≡ places ⌝ }
+    requires room { ⌜ at + lastRoom ≤ length (now out) ⌝ }
+    ensures text { λ r. ⌜ Wrote (now (out .entry)) at (endsOf (runningOf job (now (table .entry)) (now (old .entry)) (now (new .entry))))
+        (now (out .exit)) r ⌝ }
+    ensures short { λ r. ⌜ r ≤ at + lastRoom ⌝ }
 {
     match job {
         Job::Asking(_) => at,
@@ -209,12 +214,13 @@ pub fn step(
     out: &mut [u8],
     at: usize,
 ) -> StepResult
-    requires { ⌜ Good st (now line) (now table) (now old) (now new) × (length (now converted) ≡ places)
-        × (at + longest ≤ length (now out)) ⌝ }
-    ensures { λ s. ⌜ Went (nextOf running (stateOf st (now (line .entry)) (now (table .entry)) (now (old .entry)) (now (new .entry)))
+    requires good { ⌜ Good st (now line) (now table) (now old) (now new) ⌝ }
+    requires converted { ⌜ length (now converted) ≡ places ⌝ }
+    requires room { ⌜ at + longest ≤ length (now out) ⌝ }
+    ensures state { λ s. ⌜ Went (nextOf running (stateOf st (now (line .entry)) (now (table .entry)) (now (old .entry)) (now (new .entry)))
         byte) (tellOf running (stateOf st (now (line .entry)) (now (table .entry)) (now (old .entry)) (now (new .entry))) byte) (s .st)
-        (now (line .exit)) (now (table .exit)) (now (old .exit)) (now (new .exit)) (now (out .entry)) at (now (out .exit)) (s .at)
-        × (s .at ≤ at + longest) ⌝ }
+        (now (line .exit)) (now (table .exit)) (now (old .exit)) (now (new .exit)) (now (out .entry)) at (now (out .exit)) (s .at) ⌝ }
+    ensures short { λ s. ⌜ s .at ≤ at + longest ⌝ }
 {
     if byte == b'\n' {
         return ended(st, &line[..], table, converted, old, new, out, at);
@@ -242,11 +248,12 @@ pub fn finish(
     out: &mut [u8],
     at: usize,
 ) -> usize
-    requires { ⌜ Good st (now line) (now table) (now old) (now new) × (length (now converted) ≡ places)
-        × (at + longest + lastRoom ≤ length (now out)) ⌝ }
-    ensures { λ r. ⌜ Wrote (now (out .entry)) at
-        (endOf running (stateOf st (now (line .entry)) (now (table .entry)) (now (old .entry)) (now (new .entry)))) (now (out .exit)) r
-        × (r ≤ at + longest + lastRoom) ⌝ }
+    requires good { ⌜ Good st (now line) (now table) (now old) (now new) ⌝ }
+    requires converted { ⌜ length (now converted) ≡ places ⌝ }
+    requires room { ⌜ at + longest + lastRoom ≤ length (now out) ⌝ }
+    ensures text { λ r. ⌜ Wrote (now (out .entry)) at
+        (endOf running (stateOf st (now (line .entry)) (now (table .entry)) (now (old .entry)) (now (new .entry)))) (now (out .exit)) r ⌝ }
+    ensures short { λ r. ⌜ r ≤ at + longest + lastRoom ⌝ }
 {
     let len = st.len;
     if len == 0 {
@@ -286,14 +293,16 @@ pub fn feed(
     new: &mut [u64],
     out: &mut [u8],
 ) -> FeedResult
-    requires { ⌜ Good st (now line) (now table) (now old) (now new) × (length (now converted) ≡ places) ⌝ }
-    ensures { λ r. ⌜ Went (ranOf running (stateOf st (now (line .entry)) (now (table .entry)) (now (old .entry)) (now (new .entry)))
+    requires good { ⌜ Good st (now line) (now table) (now old) (now new) ⌝ }
+    requires converted { ⌜ length (now converted) ≡ places ⌝ }
+    ensures state { λ r. ⌜ Went (ranOf running (stateOf st (now (line .entry)) (now (table .entry)) (now (old .entry)) (now (new .entry)))
         (take (r .next) (now (chunk .entry))))
         (toldOf running (stateOf st (now (line .entry)) (now (table .entry)) (now (old .entry)) (now (new .entry)))
         (take (r .next) (now (chunk .entry)))) (r .st) (now (line .exit)) (now (table .exit)) (now (old .exit))
-        (now (new .exit)) (now (out .entry)) 0 (now (out .exit)) (r .at) × (r .next ≤ length (now (chunk .entry)))
-        × (r .at ≤ length (now (out .exit)))
-        × (0 < length (now (chunk .entry)) → longest ≤ length (now (out .entry)) → 0 < r .next) ⌝ }
+        (now (new .exit)) (now (out .entry)) 0 (now (out .exit)) (r .at) ⌝ }
+    ensures taken { λ r. ⌜ r .next ≤ length (now (chunk .entry)) ⌝ }
+    ensures short { λ r. ⌜ r .at ≤ length (now (out .exit)) ⌝ }
+    ensures progress { λ r. ⌜ (0 < length (now (chunk .entry)) → longest ≤ length (now (out .entry)) → 0 < r .next) ⌝ }
 {
     let mut s = st;
     let mut at = 0;

@@ -41,7 +41,8 @@ pub enum LineReply {
 // The number of a knot or a segment, after a tab.
 fn put_knot(out: &mut [u8], at: usize, i: u16) -> usize
     requires { ⌜ at + 6 ≤ length (now out) ⌝ }
-    ensures { λ n. ⌜ Wrote (now (out .entry)) at (placesText (i ∷ [])) (now (out .exit)) n × (n ≤ at + 6) ⌝ }
+    ensures text { λ n. ⌜ Wrote (now (out .entry)) at (placesText (i ∷ [])) (now (out .exit)) n ⌝ }
+    ensures short { λ n. ⌜ n ≤ at + 6 ⌝ }
 {
     let a = text::put_byte(&mut *out, at, b'\t');
     text::put_decimal(out, a, i as u32, 4)
@@ -82,7 +83,8 @@ fn knot_of(r: Refusal) -> Where
 
 fn put_places(out: &mut [u8], at: usize, w: Where) -> usize
     requires { ⌜ at + 6 ≤ length (now out) ⌝ }
-    ensures { λ n. ⌜ Wrote (now (out .entry)) at (placesText (placesIn w)) (now (out .exit)) n × (n ≤ at + 6) ⌝ }
+    ensures text { λ n. ⌜ Wrote (now (out .entry)) at (placesText (placesIn w)) (now (out .exit)) n ⌝ }
+    ensures short { λ n. ⌜ n ≤ at + 6 ⌝ }
 {
     match w {
         Where::Knot(i) => put_knot(out, at, i),
@@ -92,7 +94,8 @@ fn put_places(out: &mut [u8], at: usize, w: Where) -> usize
 
 pub fn put_refused(out: &mut [u8], at: usize, r: Refusal) -> usize
     requires { ⌜ at + 18 ≤ length (now out) ⌝ }
-    ensures { λ n. ⌜ Wrote (now (out .entry)) at (refusedText r) (now (out .exit)) n × (n ≤ at + 18) ⌝ }
+    ensures text { λ n. ⌜ Wrote (now (out .entry)) at (refusedText r) (now (out .exit)) n ⌝ }
+    ensures short { λ n. ⌜ n ≤ at + 18 ⌝ }
 {
     let a = text::put_word(&mut *out, at, b"refused\t");
     let b = text::put_decimal(&mut *out, a, error::number(r) as u32, 2);
@@ -103,8 +106,8 @@ pub fn put_refused(out: &mut [u8], at: usize, r: Refusal) -> usize
 // A word and a double.
 fn put_line(out: &mut [u8], at: usize, w: &[u8], x: f64) -> usize
     requires { ⌜ at + length (now w) + 17 ≤ length (now out) ⌝ }
-    ensures { λ r. ⌜ Wrote (now (out .entry)) at (lineText (now (w .entry)) x) (now (out .exit)) r
-        × (r ≡ at + length (now (w .entry)) + 17) ⌝ }
+    ensures text { λ r. ⌜ Wrote (now (out .entry)) at (lineText (now (w .entry)) x) (now (out .exit)) r ⌝ }
+    ensures long { λ r. ⌜ r ≡ at + length (now (w .entry)) + 17 ⌝ }
 {
     let a = text::put_word(&mut *out, at, w);
     let b = text::put_double(&mut *out, a, x);
@@ -113,7 +116,8 @@ fn put_line(out: &mut [u8], at: usize, w: &[u8], x: f64) -> usize
 
 fn put_ground(out: &mut [u8], at: usize, g: Ground) -> usize
     requires { ⌜ at + 5 ≤ length (now out) ⌝ }
-    ensures { λ r. ⌜ Wrote (now (out .entry)) at (groundName g) (now (out .exit)) r × (r ≤ at + 5) ⌝ }
+    ensures text { λ r. ⌜ Wrote (now (out .entry)) at (groundName g) (now (out .exit)) r ⌝ }
+    ensures short { λ r. ⌜ r ≤ at + 5 ⌝ }
 {
     match g {
         Ground::End => text::put_word(out, at, b"end"),
@@ -126,7 +130,8 @@ fn put_ground(out: &mut [u8], at: usize, g: Ground) -> usize
 
 fn put_second(out: &mut [u8], at: usize, s: u32) -> usize
     requires { ⌜ at + 11 ≤ length (now out) ⌝ }
-    ensures { λ r. ⌜ Wrote (now (out .entry)) at (secondsText (s ∷ [])) (now (out .exit)) r × (r ≤ at + 11) ⌝ }
+    ensures text { λ r. ⌜ Wrote (now (out .entry)) at (secondsText (s ∷ [])) (now (out .exit)) r ⌝ }
+    ensures short { λ r. ⌜ r ≤ at + 11 ⌝ }
 {
     let a = text::put_byte(&mut *out, at, b'\t');
     text::put_decimal(out, a, s, 9)
@@ -135,7 +140,8 @@ fn put_second(out: &mut [u8], at: usize, s: u32) -> usize
 // The second of a place, after a tab.
 fn put_seconds(out: &mut [u8], at: usize, s: Seconds) -> usize
     requires { ⌜ at + 11 ≤ length (now out) ⌝ }
-    ensures { λ r. ⌜ Wrote (now (out .entry)) at (secondsText (secondsIn s)) (now (out .exit)) r × (r ≤ at + 11) ⌝ }
+    ensures text { λ r. ⌜ Wrote (now (out .entry)) at (secondsText (secondsIn s)) (now (out .exit)) r ⌝ }
+    ensures short { λ r. ⌜ r ≤ at + 11 ⌝ }
 {
     match s {
         Seconds::At(n) => put_second(out, at, n),
@@ -145,7 +151,8 @@ fn put_seconds(out: &mut [u8], at: usize, s: Seconds) -> usize
 
 fn put_place(out: &mut [u8], at: usize, x: f64, g: Ground, n: u32, s: Seconds) -> usize
     requires { ⌜ at + 51 ≤ length (now out) ⌝ }
-    ensures { λ r. ⌜ Wrote (now (out .entry)) at (placeText x g n (secondsIn s)) (now (out .exit)) r × (r ≤ at + 51) ⌝ }
+    ensures text { λ r. ⌜ Wrote (now (out .entry)) at (placeText x g n (secondsIn s)) (now (out .exit)) r ⌝ }
+    ensures short { λ r. ⌜ r ≤ at + 51 ⌝ }
 {
     let a = text::put_word(&mut *out, at, b"place\t");
     let b = text::put_double(&mut *out, a, x);
@@ -159,7 +166,8 @@ fn put_place(out: &mut [u8], at: usize, x: f64, g: Ground, n: u32, s: Seconds) -
 
 pub fn put_basis(out: &mut [u8], at: usize, b: Basis) -> usize
     requires { ⌜ at + 10 ≤ length (now out) ⌝ }
-    ensures { λ r. ⌜ Wrote (now (out .entry)) at (nameOf b) (now (out .exit)) r × (r ≤ at + 10) ⌝ }
+    ensures text { λ r. ⌜ Wrote (now (out .entry)) at (nameOf b) (now (out .exit)) r ⌝ }
+    ensures short { λ r. ⌜ r ≤ at + 10 ⌝ }
 {
     match b {
         Basis::Bspline => text::put_word(out, at, b"Bspline"),
@@ -173,8 +181,8 @@ pub fn put_basis(out: &mut [u8], at: usize, b: Basis) -> usize
 
 fn put_knots(out: &mut [u8], at: usize, knots: &[f64]) -> usize
     requires { ⌜ at + 22 * length (now knots) ≤ length (now out) ⌝ }
-    ensures { λ r. ⌜ Wrote (now (out .entry)) at (knotsText (now (knots .entry))) (now (out .exit)) r
-        × (r ≡ at + 22 * length (now (knots .entry))) ⌝ }
+    ensures text { λ r. ⌜ Wrote (now (out .entry)) at (knotsText (now (knots .entry))) (now (out .exit)) r ⌝ }
+    ensures long { λ r. ⌜ r ≡ at + 22 * length (now (knots .entry)) ⌝ }
 {
     let mut i = 0;
     let mut p = at;
@@ -188,7 +196,8 @@ fn put_knots(out: &mut [u8], at: usize, knots: &[f64]) -> usize
 // The line of a span, where the table has one.
 fn put_span(out: &mut [u8], at: usize, span: u32) -> usize
     requires { ⌜ at + 16 ≤ length (now out) ⌝ }
-    ensures { λ r. ⌜ Wrote (now (out .entry)) at (spansText (spansOf span)) (now (out .exit)) r × (r ≤ at + 16) ⌝ }
+    ensures text { λ r. ⌜ Wrote (now (out .entry)) at (spansText (spansOf span)) (now (out .exit)) r ⌝ }
+    ensures short { λ r. ⌜ r ≤ at + 16 ⌝ }
 {
     if table::is_span(span) {
         let a = text::put_word(&mut *out, at, b"span\t");
@@ -199,9 +208,11 @@ fn put_span(out: &mut [u8], at: usize, span: u32) -> usize
 }
 
 fn put_curve(out: &mut [u8], at: usize, t: Table, knots: &[f64]) -> usize
-    requires { ⌜ (length (now knots) ≤ 4096) × (at + longest ≤ length (now out)) ⌝ }
-    ensures { λ r. ⌜ Wrote (now (out .entry)) at (curveText (t .basis) (spansOf (t .span)) (now (knots .entry))) (now (out .exit)) r
-        × (r ≤ at + longest) ⌝ }
+    requires most { ⌜ length (now knots) ≤ 4096 ⌝ }
+    requires room { ⌜ at + longest ≤ length (now out) ⌝ }
+    ensures text { λ r. ⌜ Wrote (now (out .entry)) at (curveText (t .basis) (spansOf (t .span)) (now (knots .entry))) (now
+        (out .exit)) r ⌝ }
+    ensures short { λ r. ⌜ r ≤ at + longest ⌝ }
 {
     let b = t.basis;
     let span = t.span;
@@ -214,8 +225,11 @@ fn put_curve(out: &mut [u8], at: usize, t: Table, knots: &[f64]) -> usize
 
 // The text of a reply, from place `at` on.
 pub fn put_reply(t: LineReply, converted: &[f64], out: &mut [u8], at: usize) -> usize
-    requires { ⌜ (lentOf t ≤ length (now converted)) × (length (now converted) ≡ 4096) × (at + longest ≤ length (now out)) ⌝ }
-    ensures { λ r. ⌜ Wrote (now (out .entry)) at (textOf (replyOf t (now (converted .entry)))) (now (out .exit)) r × (r ≤ at + longest) ⌝ }
+    requires lent { ⌜ lentOf t ≤ length (now converted) ⌝ }
+    requires converted { ⌜ length (now converted) ≡ 4096 ⌝ }
+    requires room { ⌜ at + longest ≤ length (now out) ⌝ }
+    ensures text { λ r. ⌜ Wrote (now (out .entry)) at (textOf (replyOf t (now (converted .entry)))) (now (out .exit)) r ⌝ }
+    ensures short { λ r. ⌜ r ≤ at + longest ⌝ }
 {
     match t {
         LineReply::Nothing => at,

@@ -21,8 +21,10 @@ use picture_scale::Extent;
 
 // A height as a decimal.
 fn put_label(out: &mut [u8], at: usize, h: u64) -> usize
-    requires { ⌜ (h ≤ 9000000000000000) × (at + 18 ≤ length (now out)) ⌝ }
-    ensures { λ r. ⌜ Wrote (now (out .entry)) at (labelText h) (now (out .exit)) r × (r ≤ at + 18) ⌝ }
+    requires height { ⌜ h ≤ 9000000000000000 ⌝ }
+    requires room { ⌜ at + 18 ≤ length (now out) ⌝ }
+    ensures text { λ r. ⌜ Wrote (now (out .entry)) at (labelText h) (now (out .exit)) r ⌝ }
+    ensures short { λ r. ⌜ r ≤ at + 18 ⌝ }
 {
     if h < 2000000000000000 {
         let a = text::put_word(&mut *out, at, b"-");
@@ -32,8 +34,11 @@ fn put_label(out: &mut [u8], at: usize, h: u64) -> usize
 }
 
 fn put_depth(out: &mut [u8], at: usize, e: Extent, h: u64) -> usize
-    requires { ⌜ Open e × (h ≤ highest) × (at + 128 ≤ length (now out)) ⌝ }
-    ensures { λ r. ⌜ Wrote (now (out .entry)) at (depthText e h) (now (out .exit)) r × (r ≤ at + 128) ⌝ }
+    requires open { ⌜ Open e ⌝ }
+    requires height { ⌜ h ≤ highest ⌝ }
+    requires room { ⌜ at + 128 ≤ length (now out) ⌝ }
+    ensures text { λ r. ⌜ Wrote (now (out .entry)) at (depthText e h) (now (out .exit)) r ⌝ }
+    ensures short { λ r. ⌜ r ≤ at + 128 ⌝ }
 {
     let y = picture_scale::row(e, h);
     let a = put_number(&mut *out, at, b"<path class=\"g\" d=\"M950,", y);
@@ -49,8 +54,10 @@ fn put_depth(out: &mut [u8], at: usize, e: Extent, h: u64) -> usize
 }
 
 fn put_depth_label(out: &mut [u8], at: usize, e: Extent, h: u64) -> usize
-    requires { ⌜ Open e × (at + 128 ≤ length (now out)) ⌝ }
-    ensures { λ r. ⌜ Wrote (now (out .entry)) at (depthLabel e h) (now (out .exit)) r × (r ≤ at + 128) ⌝ }
+    requires open { ⌜ Open e ⌝ }
+    requires room { ⌜ at + 128 ≤ length (now out) ⌝ }
+    ensures text { λ r. ⌜ Wrote (now (out .entry)) at (depthLabel e h) (now (out .exit)) r ⌝ }
+    ensures short { λ r. ⌜ r ≤ at + 128 ⌝ }
 {
     let hi = e.hi;
     if h <= hi {
@@ -61,8 +68,12 @@ fn put_depth_label(out: &mut [u8], at: usize, e: Extent, h: u64) -> usize
 
 // The labels of the depths, at most seven: from the height h on, a step s apart.
 pub fn put_depths(out: &mut [u8], at: usize, e: Extent, s: u64, h: u64) -> usize
-    requires { ⌜ Open e × (s ≤ highest) × (h ≤ highest + highest) × (at + 896 ≤ length (now out)) ⌝ }
-    ensures { λ r. ⌜ Wrote (now (out .entry)) at (depthsText e s h) (now (out .exit)) r × (r ≤ at + 896) ⌝ }
+    requires open { ⌜ Open e ⌝ }
+    requires stride { ⌜ s ≤ highest ⌝ }
+    requires height { ⌜ h ≤ highest + highest ⌝ }
+    requires room { ⌜ at + 896 ≤ length (now out) ⌝ }
+    ensures text { λ r. ⌜ Wrote (now (out .entry)) at (depthsText e s h) (now (out .exit)) r ⌝ }
+    ensures short { λ r. ⌜ r ≤ at + 896 ⌝ }
 {
     let a = put_depth_label(&mut *out, at, e, h);
     let b = put_depth_label(&mut *out, a, e, h + s);
@@ -75,7 +86,8 @@ pub fn put_depths(out: &mut [u8], at: usize, e: Extent, s: u64, h: u64) -> usize
 
 // How long the time axis is: the parameter in thousandths, or thousandths of hours.
 pub fn stretch(span: u32) -> u64
-    ensures { λ r. ⌜ (r ≡ stretchOf span) × (r ≤ 2000000000) ⌝ }
+    ensures answer { λ r. ⌜ r ≡ stretchOf span ⌝ }
+    ensures most { λ r. ⌜ r ≤ 2000000000 ⌝ }
 {
     if span == 0 {
         return 1000;
@@ -94,8 +106,10 @@ fn time_column(span: u32, v: u64) -> u64
 }
 
 fn put_time(out: &mut [u8], at: usize, span: u32, v: u64) -> usize
-    requires { ⌜ (v ≤ 4294967296) × (at + 128 ≤ length (now out)) ⌝ }
-    ensures { λ r. ⌜ Wrote (now (out .entry)) at (timeText span v) (now (out .exit)) r × (r ≤ at + 128) ⌝ }
+    requires value { ⌜ v ≤ 4294967296 ⌝ }
+    requires room { ⌜ at + 128 ≤ length (now out) ⌝ }
+    ensures text { λ r. ⌜ Wrote (now (out .entry)) at (timeText span v) (now (out .exit)) r ⌝ }
+    ensures short { λ r. ⌜ r ≤ at + 128 ⌝ }
 {
     let x = time_column(span, v);
     let a = put_number(&mut *out, at, b"<path class=\"g\" d=\"M", x);
@@ -107,7 +121,8 @@ fn put_time(out: &mut [u8], at: usize, span: u32, v: u64) -> usize
 
 fn put_time_label(out: &mut [u8], at: usize, span: u32, v: u64) -> usize
     requires { ⌜ at + 128 ≤ length (now out) ⌝ }
-    ensures { λ r. ⌜ Wrote (now (out .entry)) at (timeLabel span v) (now (out .exit)) r × (r ≤ at + 128) ⌝ }
+    ensures text { λ r. ⌜ Wrote (now (out .entry)) at (timeLabel span v) (now (out .exit)) r ⌝ }
+    ensures short { λ r. ⌜ r ≤ at + 128 ⌝ }
 {
     if v <= stretch(span) {
         return put_time(out, at, span, v);
@@ -117,8 +132,10 @@ fn put_time_label(out: &mut [u8], at: usize, span: u32, v: u64) -> usize
 
 // The labels of the times, at most seven: from 0 on, a step s apart.
 pub fn put_times(out: &mut [u8], at: usize, span: u32, s: u64) -> usize
-    requires { ⌜ (s ≤ 4294967296) × (at + 896 ≤ length (now out)) ⌝ }
-    ensures { λ r. ⌜ Wrote (now (out .entry)) at (timesText span s) (now (out .exit)) r × (r ≤ at + 896) ⌝ }
+    requires stride { ⌜ s ≤ 4294967296 ⌝ }
+    requires room { ⌜ at + 896 ≤ length (now out) ⌝ }
+    ensures text { λ r. ⌜ Wrote (now (out .entry)) at (timesText span s) (now (out .exit)) r ⌝ }
+    ensures short { λ r. ⌜ r ≤ at + 896 ⌝ }
 {
     let a = put_time_label(&mut *out, at, span, 0);
     let b = put_time_label(&mut *out, a, span, s);
@@ -132,7 +149,8 @@ pub fn put_times(out: &mut [u8], at: usize, span: u32, s: u64) -> usize
 // What the time axis counts.
 pub fn put_time_name(out: &mut [u8], at: usize, span: u32) -> usize
     requires { ⌜ at + 24 ≤ length (now out) ⌝ }
-    ensures { λ r. ⌜ Wrote (now (out .entry)) at (timeName span) (now (out .exit)) r × (r ≤ at + 24) ⌝ }
+    ensures text { λ r. ⌜ Wrote (now (out .entry)) at (timeName span) (now (out .exit)) r ⌝ }
+    ensures short { λ r. ⌜ r ≤ at + 24 ⌝ }
 {
     if span == 0 {
         return text::put_word(out, at, b"parameter</text>\n");

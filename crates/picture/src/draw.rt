@@ -16,8 +16,11 @@ use table::Table;
 
 // The points of the curve, at the parameters 0/p to p/p.
 fn put_points(out: &mut [u8], at: usize, b: Basis, knots: &[f64], e: Extent, p: usize) -> usize
-    requires { ⌜ Open e × (p ≤ 2048) × (at + 20490 ≤ length (now out)) ⌝ }
-    ensures { λ r. ⌜ Wrote (now (out .entry)) at (pointsText b (now (knots .entry)) e p (p + 1)) (now (out .exit)) r × (r ≤ at + 20490) ⌝ }
+    requires open { ⌜ Open e ⌝ }
+    requires parts { ⌜ p ≤ 2048 ⌝ }
+    requires room { ⌜ at + 20490 ≤ length (now out) ⌝ }
+    ensures text { λ r. ⌜ Wrote (now (out .entry)) at (pointsText b (now (knots .entry)) e p (p + 1)) (now (out .exit)) r ⌝ }
+    ensures short { λ r. ⌜ r ≤ at + 20490 ⌝ }
 {
     let mut i = 0;
     let mut a = at;
@@ -32,8 +35,12 @@ fn put_points(out: &mut [u8], at: usize, b: Basis, knots: &[f64], e: Extent, p: 
 
 // Knot j of n, if it is shown.
 fn put_knot(out: &mut [u8], at: usize, b: Basis, n: usize, e: Extent, j: usize, x: f64) -> usize
-    requires { ⌜ (j < n) × (n ≤ 4096) × Open e × (at + 12 ≤ length (now out)) ⌝ }
-    ensures { λ r. ⌜ Wrote (now (out .entry)) at (knotText b n e j x) (now (out .exit)) r × (r ≤ at + 12) ⌝ }
+    requires knot { ⌜ j < n ⌝ }
+    requires most { ⌜ n ≤ 4096 ⌝ }
+    requires open { ⌜ Open e ⌝ }
+    requires room { ⌜ at + 12 ≤ length (now out) ⌝ }
+    ensures text { λ r. ⌜ Wrote (now (out .entry)) at (knotText b n e j x) (now (out .exit)) r ⌝ }
+    ensures short { λ r. ⌜ r ≤ at + 12 ⌝ }
 {
     if picture_scale::is_shown(b, n, j) {
         let c = picture_scale::knot_column(b, n as u64, j as u64);
@@ -43,9 +50,12 @@ fn put_knot(out: &mut [u8], at: usize, b: Basis, n: usize, e: Extent, j: usize, 
 }
 
 fn put_knots(out: &mut [u8], at: usize, b: Basis, knots: &[f64], e: Extent) -> usize
-    requires { ⌜ (length (now knots) ≤ 4096) × Open e × (at + 49152 ≤ length (now out)) ⌝ }
-    ensures { λ r. ⌜ Wrote (now (out .entry)) at (knotsText b (now (knots .entry)) e (length (now (knots .entry)))) (now (out .exit)) r
-        × (r ≤ at + 49152) ⌝ }
+    requires most { ⌜ length (now knots) ≤ 4096 ⌝ }
+    requires open { ⌜ Open e ⌝ }
+    requires room { ⌜ at + 49152 ≤ length (now out) ⌝ }
+    ensures text { λ r. ⌜ Wrote (now (out .entry)) at (knotsText b (now (knots .entry)) e (length (now (knots .entry)))) (now
+        (out .exit)) r ⌝ }
+    ensures short { λ r. ⌜ r ≤ at + 49152 ⌝ }
 {
     let mut j = 0;
     let mut a = at;
@@ -58,8 +68,10 @@ fn put_knots(out: &mut [u8], at: usize, b: Basis, knots: &[f64], e: Extent) -> u
 
 // What is drawn of a table that is not refused: the labels of the depths, the knots, the curve and the finds.
 fn put_curve(out: &mut [u8], at: usize, m: EndsBy, b: Basis, knots: &[f64], f: Finds) -> usize
-    requires { ⌜ (length (now knots) ≤ 4096) × (at + 75000 ≤ length (now out)) ⌝ }
-    ensures { λ r. ⌜ Wrote (now (out .entry)) at (curveText m b (now (knots .entry)) f) (now (out .exit)) r × (r ≤ at + 75000) ⌝ }
+    requires most { ⌜ length (now knots) ≤ 4096 ⌝ }
+    requires room { ⌜ at + 75000 ≤ length (now out) ⌝ }
+    ensures text { λ r. ⌜ Wrote (now (out .entry)) at (curveText m b (now (knots .entry)) f) (now (out .exit)) r ⌝ }
+    ensures short { λ r. ⌜ r ≤ at + 75000 ⌝ }
 {
     let e = picture_scale::extent_of(b, knots);
     let lo = e.lo;
@@ -90,8 +102,10 @@ fn put_body(
     f: Finds,
     v: Evaluation,
 ) -> usize
-    requires { ⌜ (length (now knots) ≤ 4096) × (at + 75000 ≤ length (now out)) ⌝ }
-    ensures { λ r. ⌜ Wrote (now (out .entry)) at (bodyIn m b (now (knots .entry)) f v) (now (out .exit)) r × (r ≤ at + 75000) ⌝ }
+    requires most { ⌜ length (now knots) ≤ 4096 ⌝ }
+    requires room { ⌜ at + 75000 ≤ length (now out) ⌝ }
+    ensures text { λ r. ⌜ Wrote (now (out .entry)) at (bodyIn m b (now (knots .entry)) f v) (now (out .exit)) r ⌝ }
+    ensures short { λ r. ⌜ r ≤ at + 75000 ⌝ }
 {
     match v {
         Evaluation::Value(_) => put_curve(out, at, m, b, knots, f),
@@ -109,7 +123,8 @@ fn put_body(
 
 fn put_head(out: &mut [u8], at: usize) -> usize
     requires { ⌜ at + 900 ≤ length (now out) ⌝ }
-    ensures { λ r. ⌜ Wrote (now (out .entry)) at headText (now (out .exit)) r × (r ≤ at + 900) ⌝ }
+    ensures text { λ r. ⌜ Wrote (now (out .entry)) at headText (now (out .exit)) r ⌝ }
+    ensures short { λ r. ⌜ r ≤ at + 900 ⌝ }
 {
     let a = text::put_word(
         &mut *out,
@@ -148,8 +163,10 @@ pub fn put_picture(
     out: &mut [u8],
     at: usize,
 ) -> usize
-    requires { ⌜ (length (now knots) ≤ 4096) × (at + longest ≤ length (now out)) ⌝ }
-    ensures { λ r. ⌜ Wrote (now (out .entry)) at (pictureText t m (now (knots .entry)) f fault) (now (out .exit)) r × (r ≤ at + longest) ⌝ }
+    requires most { ⌜ length (now knots) ≤ 4096 ⌝ }
+    requires room { ⌜ at + longest ≤ length (now out) ⌝ }
+    ensures text { λ r. ⌜ Wrote (now (out .entry)) at (pictureText t m (now (knots .entry)) f fault) (now (out .exit)) r ⌝ }
+    ensures short { λ r. ⌜ r ≤ at + longest ⌝ }
 {
     let b = t.basis;
     let span = t.span;

@@ -52,7 +52,8 @@ pub struct PictureState {
 
 // Before the first line.
 pub fn blank() -> PictureState
-    ensures { λ h. ⌜ ((t : List Float) → drawingOf h t ≡ nothingDrawn) × (countOf h ≡ 0) ⌝ }
+    ensures drawing { λ h. ⌜ ((t : List Float) → drawingOf h t ≡ nothingDrawn) ⌝ }
+    ensures count_after { λ h. ⌜ countOf h ≡ 0 ⌝ }
 {
     let none = Finds {
         n: 0,
@@ -161,7 +162,9 @@ pub fn line(
     converted: &mut [f64],
 ) -> PictureState
     requires line { ⌜ length (now line) ≡ widest ⌝ }
-    requires table { ⌜ (countOf h ≤ places) × (length (now table) ≡ places) × (length (now converted) ≡ places) ⌝ }
+    requires held { ⌜ countOf h ≤ places ⌝ }
+    requires table { ⌜ length (now table) ≡ places ⌝ }
+    requires converted { ⌜ length (now converted) ≡ places ⌝ }
     ensures state { λ r. ⌜ drawingOf r (now (table .exit)) ≡ pictureProgram .after (drawingOf h (now (table .entry)))
         (openOf len (now (line .entry))) ⌝ }
     ensures few { λ r. ⌜ countOf r ≤ places ⌝ }
@@ -182,9 +185,11 @@ pub fn line(
 
 // The end of the listing: the picture.
 pub fn end(h: PictureState, table: &[f64], out: &mut [u8], at: usize) -> usize
-    requires { ⌜ (countOf h ≤ places) × (length (now table) ≡ places) × (at + longest ≤ length (now out)) ⌝ }
-    ensures { λ r. ⌜ Wrote (now (out .entry)) at (pictureProgram .ends (drawingOf h (now (table .entry)))) (now (out .exit)) r
-        × (r ≤ at + longest) ⌝ }
+    requires held { ⌜ countOf h ≤ places ⌝ }
+    requires table { ⌜ length (now table) ≡ places ⌝ }
+    requires room { ⌜ at + longest ≤ length (now out) ⌝ }
+    ensures text { λ r. ⌜ Wrote (now (out .entry)) at (pictureProgram .ends (drawingOf h (now (table .entry)))) (now (out .exit)) r ⌝ }
+    ensures short { λ r. ⌜ r ≤ at + longest ⌝ }
 {
     let c = h.curve;
     let finds = h.finds;

@@ -34,7 +34,8 @@ fn local_column(k: usize, s: usize, x: f64) -> u64
 
 fn put_mark(out: &mut [u8], at: usize, x: u64, y: u64, l: u64, u: u64) -> usize
     requires { ⌜ at + 160 ≤ length (now out) ⌝ }
-    ensures { λ r. ⌜ Wrote (now (out .entry)) at (markText x y l u) (now (out .exit)) r × (r ≤ at + 160) ⌝ }
+    ensures text { λ r. ⌜ Wrote (now (out .entry)) at (markText x y l u) (now (out .exit)) r ⌝ }
+    ensures short { λ r. ⌜ r ≤ at + 160 ⌝ }
 {
     let a = put_number(&mut *out, at, b"<path class=\"f\" d=\"M1000,", y);
     let b = put_number(&mut *out, a, b"H", x);
@@ -46,8 +47,11 @@ fn put_mark(out: &mut [u8], at: usize, x: u64, y: u64, l: u64, u: u64) -> usize
 }
 
 fn put_place(out: &mut [u8], at: usize, k: usize, e: Extent, y: f64, p: Place) -> usize
-    requires { ⌜ (k ≤ 4097) × Open e × (at + 160 ≤ length (now out)) ⌝ }
-    ensures { λ r. ⌜ Wrote (now (out .entry)) at (placeText k e y p) (now (out .exit)) r × (r ≤ at + 160) ⌝ }
+    requires segments { ⌜ k ≤ 4097 ⌝ }
+    requires open { ⌜ Open e ⌝ }
+    requires room { ⌜ at + 160 ≤ length (now out) ⌝ }
+    ensures text { λ r. ⌜ Wrote (now (out .entry)) at (placeText k e y p) (now (out .exit)) r ⌝ }
+    ensures short { λ r. ⌜ r ≤ at + 160 ⌝ }
 {
     let x = place_column(p.parameter);
     let row = picture_scale::row(e, picture_scale::height(y));
@@ -68,9 +72,12 @@ fn put_found(
     y: f64,
     i: Inversion,
 ) -> usize
-    requires { ⌜ (length (now knots) ≤ 4096) × Open e × (slot ≤ 9) × (at + 160 ≤ length (now out)) ⌝ }
-    ensures { λ r. ⌜ Wrote (now (out .entry)) at (findIn b (length (now (knots .entry))) e slot y i) (now (out .exit)) r
-        × (r ≤ at + 160) ⌝ }
+    requires most { ⌜ length (now knots) ≤ 4096 ⌝ }
+    requires open { ⌜ Open e ⌝ }
+    requires slot { ⌜ slot ≤ 9 ⌝ }
+    requires room { ⌜ at + 160 ≤ length (now out) ⌝ }
+    ensures text { λ r. ⌜ Wrote (now (out .entry)) at (findIn b (length (now (knots .entry))) e slot y i) (now (out .exit)) r ⌝ }
+    ensures short { λ r. ⌜ r ≤ at + 160 ⌝ }
 {
     let n = knots.len();
     match i {
@@ -99,8 +106,13 @@ fn put_find(
     slot: u64,
     y: f64,
 ) -> usize
-    requires { ⌜ (length (now knots) ≤ 4096) × Open e × (2 ≤ slot) × (slot ≤ 9) × (at + 160 ≤ length (now out)) ⌝ }
-    ensures { λ r. ⌜ Wrote (now (out .entry)) at (findText m b (now (knots .entry)) e n slot y) (now (out .exit)) r × (r ≤ at + 160) ⌝ }
+    requires most { ⌜ length (now knots) ≤ 4096 ⌝ }
+    requires open { ⌜ Open e ⌝ }
+    requires finds { ⌜ 2 ≤ slot ⌝ }
+    requires slot { ⌜ slot ≤ 9 ⌝ }
+    requires room { ⌜ at + 160 ≤ length (now out) ⌝ }
+    ensures text { λ r. ⌜ Wrote (now (out .entry)) at (findText m b (now (knots .entry)) e n slot y) (now (out .exit)) r ⌝ }
+    ensures short { λ r. ⌜ r ≤ at + 160 ⌝ }
 {
     if n as u64 <= slot - 2 {
         return at;
@@ -133,8 +145,11 @@ pub fn put_finds(
     e: Extent,
     f: Finds,
 ) -> usize
-    requires { ⌜ (length (now knots) ≤ 4096) × Open e × (at + 1280 ≤ length (now out)) ⌝ }
-    ensures { λ r. ⌜ Wrote (now (out .entry)) at (findsText m b (now (knots .entry)) e f) (now (out .exit)) r × (r ≤ at + 1280) ⌝ }
+    requires most { ⌜ length (now knots) ≤ 4096 ⌝ }
+    requires open { ⌜ Open e ⌝ }
+    requires room { ⌜ at + 1280 ≤ length (now out) ⌝ }
+    ensures text { λ r. ⌜ Wrote (now (out .entry)) at (findsText m b (now (knots .entry)) e f) (now (out .exit)) r ⌝ }
+    ensures short { λ r. ⌜ r ≤ at + 1280 ⌝ }
 {
     let n = f.n;
     let a1 = put_find(&mut *out, at, m, b, knots, e, n, 2, f.a);

@@ -11,8 +11,10 @@ use error::Refusal;
 
 // The knot that is told, and a line through it.
 fn put_knot_tail(out: &mut [u8], at: usize, b: Basis, n: u64, i: u64) -> usize
-    requires { ⌜ (i ≤ 65535) × (at + 80 ≤ length (now out)) ⌝ }
-    ensures { λ r. ⌜ Wrote (now (out .entry)) at (knotTail b n i) (now (out .exit)) r × (r ≤ at + 80) ⌝ }
+    requires number { ⌜ i ≤ 65535 ⌝ }
+    requires room { ⌜ at + 80 ≤ length (now out) ⌝ }
+    ensures text { λ r. ⌜ Wrote (now (out .entry)) at (knotTail b n i) (now (out .exit)) r ⌝ }
+    ensures short { λ r. ⌜ r ≤ at + 80 ⌝ }
 {
     let x = picture_scale::knot_column(b, n, i);
     let a = put_number(&mut *out, at, b" at knot ", i);
@@ -23,7 +25,8 @@ fn put_knot_tail(out: &mut [u8], at: usize, b: Basis, n: u64, i: u64) -> usize
 // 4 and 10 tell a knot.
 fn put_tail(out: &mut [u8], at: usize, b: Basis, n: u64, r: Refusal) -> usize
     requires { ⌜ at + 80 ≤ length (now out) ⌝ }
-    ensures { λ s. ⌜ Wrote (now (out .entry)) at (tailText b n r) (now (out .exit)) s × (s ≤ at + 80) ⌝ }
+    ensures text { λ s. ⌜ Wrote (now (out .entry)) at (tailText b n r) (now (out .exit)) s ⌝ }
+    ensures short { λ s. ⌜ s ≤ at + 80 ⌝ }
 {
     let number = error::number(r);
     if number == 4 {
@@ -45,8 +48,11 @@ pub fn put_note(
     who: &[u8],
     r: Refusal,
 ) -> usize
-    requires { ⌜ (slot ≤ 9) × (length (now who) ≤ 5) × (at + 160 ≤ length (now out)) ⌝ }
-    ensures { λ s. ⌜ Wrote (now (out .entry)) at (noteText b n slot (now (who .entry)) r) (now (out .exit)) s × (s ≤ at + 160) ⌝ }
+    requires slot { ⌜ slot ≤ 9 ⌝ }
+    requires who { ⌜ length (now who) ≤ 5 ⌝ }
+    requires room { ⌜ at + 160 ≤ length (now out) ⌝ }
+    ensures text { λ s. ⌜ Wrote (now (out .entry)) at (noteText b n slot (now (who .entry)) r) (now (out .exit)) s ⌝ }
+    ensures short { λ s. ⌜ s ≤ at + 160 ⌝ }
 {
     let a = put_number(
         &mut *out,
@@ -63,7 +69,8 @@ pub fn put_note(
 
 pub fn put_fault(out: &mut [u8], at: usize, b: Basis, n: u64, f: Fault) -> usize
     requires { ⌜ at + 160 ≤ length (now out) ⌝ }
-    ensures { λ s. ⌜ Wrote (now (out .entry)) at (faultText b n f) (now (out .exit)) s × (s ≤ at + 160) ⌝ }
+    ensures text { λ s. ⌜ Wrote (now (out .entry)) at (faultText b n f) (now (out .exit)) s ⌝ }
+    ensures short { λ s. ⌜ s ≤ at + 160 ⌝ }
 {
     match f {
         Fault::Nothing => at,

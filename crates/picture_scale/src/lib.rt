@@ -53,7 +53,8 @@ fn above(a: u64, b: u64) -> u64
 
 // The height of a depth: whole thousandths, counted from 2·10^12 below 0, so that none is negative.
 pub fn height(x: f64) -> u64
-    ensures { λ r. ⌜ (r ≡ heightOf x) × Between r ⌝ }
+    ensures answer { λ r. ⌜ r ≡ heightOf x ⌝ }
+    ensures between { λ r. ⌜ Between r ⌝ }
 {
     let n = text::to_bits(x);
     let a = lesser(n % 9223372036854775808, 4787326403894837248);
@@ -66,8 +67,10 @@ pub fn height(x: f64) -> u64
 
 // The height of the curve at the parameter i/p.
 pub fn curve_height(b: Basis, knots: &[f64], p: usize, i: usize) -> u64
-    requires { ⌜ (p ≤ 4097) × (i ≤ 4097) ⌝ }
-    ensures { λ r. ⌜ (r ≡ curveHeight b (now (knots .entry)) p i) × Between r ⌝ }
+    requires parts { ⌜ p ≤ 4097 ⌝ }
+    requires part { ⌜ i ≤ 4097 ⌝ }
+    ensures answer { λ r. ⌜ r ≡ curveHeight b (now (knots .entry)) p i ⌝ }
+    ensures between { λ r. ⌜ Between r ⌝ }
 {
     let x = doubles::whole::double_of(i) / doubles::whole::double_of(p);
     let e = spline::spline(b, x, knots);
@@ -80,7 +83,8 @@ pub fn curve_height(b: Basis, knots: &[f64], p: usize, i: usize) -> u64
 // How far across i of m parts of the frame's breadth lie.
 pub fn column(i: u64, m: u64) -> u64
     requires { ⌜ i ≤ 1000000000000 ⌝ }
-    ensures { λ r. ⌜ (r ≡ columnOf i m) × (r ≤ 9600) ⌝ }
+    ensures answer { λ r. ⌜ r ≡ columnOf i m ⌝ }
+    ensures most { λ r. ⌜ r ≤ 9600 ⌝ }
 {
     if m == 0 {
         return 1000;
@@ -89,8 +93,10 @@ pub fn column(i: u64, m: u64) -> u64
 }
 
 pub fn row(e: Extent, h: u64) -> u64
-    requires { ⌜ Open e × (h ≤ highest) ⌝ }
-    ensures { λ r. ⌜ (r ≡ rowOf e h) × (r ≤ 5400) ⌝ }
+    requires open { ⌜ Open e ⌝ }
+    requires height { ⌜ h ≤ highest ⌝ }
+    ensures answer { λ r. ⌜ r ≡ rowOf e h ⌝ }
+    ensures most { λ r. ⌜ r ≤ 5400 ⌝ }
 {
     let lo = e.lo;
     let hi = e.hi;
@@ -99,7 +105,8 @@ pub fn row(e: Extent, h: u64) -> u64
 
 // How many segments n knots make; one where they are too few.
 pub fn segments(b: Basis, n: usize) -> usize
-    ensures { λ r. ⌜ (r ≡ segmentsOf b n) × (r ≤ n + 1) ⌝ }
+    ensures answer { λ r. ⌜ r ≡ segmentsOf b n ⌝ }
+    ensures most { λ r. ⌜ r ≤ n + 1 ⌝ }
 {
     if n < 4 {
         return 1;
@@ -110,7 +117,8 @@ pub fn segments(b: Basis, n: usize) -> usize
 // Into how many pieces the curve is cut.
 pub fn pieces(b: Basis, n: usize) -> usize
     requires { ⌜ n ≤ 4096 ⌝ }
-    ensures { λ r. ⌜ (r ≡ piecesOf b n) × (r ≤ 2048) ⌝ }
+    ensures answer { λ r. ⌜ r ≡ piecesOf b n ⌝ }
+    ensures most { λ r. ⌜ r ≤ 2048 ⌝ }
 {
     doubles::whole::lesser(2048, 256 * segments(b, n))
 }
@@ -143,7 +151,8 @@ pub fn is_shown(b: Basis, n: usize, j: usize) -> bool
 // How far across knot j of n stands.
 pub fn knot_column(b: Basis, n: u64, j: u64) -> u64
     requires { ⌜ j ≤ 65535 ⌝ }
-    ensures { λ r. ⌜ (r ≡ knotColumn b n j) × (r ≤ 9600) ⌝ }
+    ensures answer { λ r. ⌜ r ≡ knotColumn b n j ⌝ }
+    ensures most { λ r. ⌜ r ≤ 9600 ⌝ }
 {
     match b {
         Basis::Bspline => column(above(j, 1), above(n, 3)),
@@ -156,8 +165,10 @@ pub fn knot_column(b: Basis, n: u64, j: u64) -> u64
 }
 
 fn widen(e: Extent, h: u64) -> Extent
-    requires { ⌜ Narrow e × Between h ⌝ }
-    ensures { λ r. ⌜ (r ≡ widened e h) × Narrow r ⌝ }
+    requires narrow { ⌜ Narrow e ⌝ }
+    requires between { ⌜ Between h ⌝ }
+    ensures answer { λ r. ⌜ r ≡ widened e h ⌝ }
+    ensures narrow_after { λ r. ⌜ Narrow r ⌝ }
 {
     Extent {
         lo: lesser(e.lo, h),
@@ -168,7 +179,8 @@ fn widen(e: Extent, h: u64) -> Extent
 // The extent of the curve at the parameters 0/p to p/p.
 fn curve_extent(b: Basis, knots: &[f64], p: usize) -> Extent
     requires { ⌜ p ≤ 4097 ⌝ }
-    ensures { λ r. ⌜ (r ≡ curveExtent b (now (knots .entry)) p p) × Narrow r ⌝ }
+    ensures answer { λ r. ⌜ r ≡ curveExtent b (now (knots .entry)) p p ⌝ }
+    ensures narrow_after { λ r. ⌜ Narrow r ⌝ }
 {
     let h = curve_height(b, knots, p, 0);
     let mut e = Extent { lo: h, hi: h };
@@ -182,8 +194,10 @@ fn curve_extent(b: Basis, knots: &[f64], p: usize) -> Extent
 
 // The extent e, with knot j of n if it is shown.
 fn with_knot(b: Basis, n: usize, j: usize, x: f64, e: Extent) -> Extent
-    requires { ⌜ (j < n) × Narrow e ⌝ }
-    ensures { λ r. ⌜ (r ≡ withKnot b n j x e) × Narrow r ⌝ }
+    requires knot { ⌜ j < n ⌝ }
+    requires narrow { ⌜ Narrow e ⌝ }
+    ensures answer { λ r. ⌜ r ≡ withKnot b n j x e ⌝ }
+    ensures narrow_after { λ r. ⌜ Narrow r ⌝ }
 {
     if is_shown(b, n, j) {
         return widen(e, height(x));
@@ -194,7 +208,8 @@ fn with_knot(b: Basis, n: usize, j: usize, x: f64, e: Extent) -> Extent
 // The extent of the curve, with all knots that are shown.
 fn knots_extent(b: Basis, knots: &[f64], first: Extent) -> Extent
     requires { ⌜ Narrow first ⌝ }
-    ensures { λ r. ⌜ (r ≡ knotsExtent b (now (knots .entry)) first (length (now (knots .entry)))) × Narrow r ⌝ }
+    ensures answer { λ r. ⌜ r ≡ knotsExtent b (now (knots .entry)) first (length (now (knots .entry))) ⌝ }
+    ensures narrow_after { λ r. ⌜ Narrow r ⌝ }
 {
     let mut e = first;
     let mut j = 0;
@@ -208,7 +223,8 @@ fn knots_extent(b: Basis, knots: &[f64], first: Extent) -> Extent
 // The extent of all that is shown, and a thousandth more on either side.
 pub fn extent_of(b: Basis, knots: &[f64]) -> Extent
     requires { ⌜ length (now knots) ≤ 4096 ⌝ }
-    ensures { λ r. ⌜ (r ≡ extentOf b (now (knots .entry))) × Open r ⌝ }
+    ensures answer { λ r. ⌜ r ≡ extentOf b (now (knots .entry)) ⌝ }
+    ensures open_after { λ r. ⌜ Open r ⌝ }
 {
     let p = pieces(b, knots.len());
     let c = curve_extent(b, knots, p);
@@ -221,7 +237,10 @@ pub fn extent_of(b: Basis, knots: &[f64]) -> Extent
 
 // The step from label to label, for a stretch r: 1, 2 or 5 times a power of ten.
 pub fn step(k: usize, r: u64) -> u64
-    ensures { λ s. ⌜ (s ≡ stepOf k r) × (0 < s) × (0 < r → s ≤ r) × (s ≤ r + 1) ⌝ }
+    ensures answer { λ s. ⌜ s ≡ stepOf k r ⌝ }
+    ensures positive { λ s. ⌜ 0 < s ⌝ }
+    ensures divides { λ s. ⌜ (0 < r → s ≤ r) ⌝ }
+    ensures most { λ s. ⌜ s ≤ r + 1 ⌝ }
 {
     if k == 0 {
         return 1;
@@ -240,8 +259,11 @@ pub fn step(k: usize, r: u64) -> u64
 
 // The first multiple of the step above l.
 pub fn multiple_above(l: u64, s: u64) -> u64
-    requires { ⌜ (0 < s) × (l ≤ highest) × (s ≤ highest) ⌝ }
-    ensures { λ r. ⌜ (r ≡ aboveOf l s) × (r ≤ l + s) ⌝ }
+    requires some { ⌜ 0 < s ⌝ }
+    requires lowest { ⌜ l ≤ highest ⌝ }
+    requires stride { ⌜ s ≤ highest ⌝ }
+    ensures answer { λ r. ⌜ r ≡ aboveOf l s ⌝ }
+    ensures most { λ r. ⌜ r ≤ l + s ⌝ }
 {
     l + (s - l % s)
 }

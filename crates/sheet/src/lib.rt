@@ -76,7 +76,8 @@ fn depth_line(l: &[u8]) -> Depth
 
 // The first line.
 fn first(l: &[u8]) -> SheetState
-    ensures { λ r. ⌜ ((t : List Float) → sheetOf r t ≡ named (namedOf (now (l .entry)))) × (countOf r ≤ most) ⌝ }
+    ensures sheet { λ r. ⌜ ((t : List Float) → sheetOf r t ≡ named (namedOf (now (l .entry)))) ⌝ }
+    ensures count_after { λ r. ⌜ countOf r ≤ most ⌝ }
 {
     let BasisName::Is(b) = lines_record::basis_named(l) else {
         return SheetState::Faulty(Refusal::BadSheet);
@@ -86,9 +87,10 @@ fn first(l: &[u8]) -> SheetState
 
 // A depth, into the next place, if there is one.
 fn add(b: Basis, n: usize, l: &[u8], table: &mut [f64]) -> SheetState
-    requires { ⌜ (n ≤ most) × (length (now table) ≡ most) ⌝ }
-    ensures { λ r. ⌜ (sheetOf r (now (table .exit)) ≡ added b (take n (now (table .entry))) (depthLine (now (l .entry))))
-        × (countOf r ≤ most) ⌝ }
+    requires count { ⌜ n ≤ most ⌝ }
+    requires table { ⌜ length (now table) ≡ most ⌝ }
+    ensures sheet { λ r. ⌜ sheetOf r (now (table .exit)) ≡ added b (take n (now (table .entry))) (depthLine (now (l .entry))) ⌝ }
+    ensures count_after { λ r. ⌜ countOf r ≤ most ⌝ }
 {
     let Depth::Is(minus, k) = depth_line(l) else {
         return SheetState::Faulty(Refusal::BadSheet);
@@ -103,9 +105,11 @@ fn add(b: Basis, n: usize, l: &[u8], table: &mut [f64]) -> SheetState
 
 // A line of len bytes, the first ones of the lent 64; 65 for one that is too long.
 pub fn line(h: SheetState, len: usize, line: &[u8], table: &mut [f64]) -> SheetState
-    requires { ⌜ (length (now line) ≡ widest) × (countOf h ≤ most) × (length (now table) ≡ most) ⌝ }
-    ensures { λ r. ⌜ (sheetOf r (now (table .exit)) ≡ afterOf (sheetOf h (now (table .entry))) (openOf len (now (line .entry))))
-        × (countOf r ≤ most) ⌝ }
+    requires line { ⌜ length (now line) ≡ widest ⌝ }
+    requires held { ⌜ countOf h ≤ most ⌝ }
+    requires table { ⌜ length (now table) ≡ most ⌝ }
+    ensures sheet { λ r. ⌜ sheetOf r (now (table .exit)) ≡ afterOf (sheetOf h (now (table .entry))) (openOf len (now (line .entry))) ⌝ }
+    ensures count_after { λ r. ⌜ countOf r ≤ most ⌝ }
 {
     match h {
         SheetState::Unbegun => {
@@ -126,8 +130,11 @@ pub fn line(h: SheetState, len: usize, line: &[u8], table: &mut [f64]) -> SheetS
 
 // The end of the sheet: its records, or the refusal alone.
 pub fn end(h: SheetState, table: &[f64], out: &mut [u8], at: usize) -> usize
-    requires { ⌜ (countOf h ≤ most) × (length (now table) ≡ most) × (at + longest ≤ length (now out)) ⌝ }
-    ensures { λ r. ⌜ Wrote (now (out .entry)) at (endsOf (sheetOf h (now (table .entry)))) (now (out .exit)) r × (r ≤ at + longest) ⌝ }
+    requires held { ⌜ countOf h ≤ most ⌝ }
+    requires table { ⌜ length (now table) ≡ most ⌝ }
+    requires room { ⌜ at + longest ≤ length (now out) ⌝ }
+    ensures text { λ r. ⌜ Wrote (now (out .entry)) at (endsOf (sheetOf h (now (table .entry)))) (now (out .exit)) r ⌝ }
+    ensures short { λ r. ⌜ r ≤ at + longest ⌝ }
 {
     match h {
         SheetState::Unbegun => lines_reply::put_reply(

@@ -16,7 +16,8 @@ pub struct Spot {
 
 // Where a parameter lies on a curve of k segments.
 fn place(k: usize, x: f64) -> Spot
-    requires { ⌜ (0 < k) × (k ≤ 4096) ⌝ }
+    requires some { ⌜ 0 < k ⌝ }
+    requires segments { ⌜ k ≤ 4096 ⌝ }
     ensures { λ r. ⌜ IsSpot k x (r .s) (r .t) ⌝ }
 {
     let p = doubles::clamped(x) * doubles::whole::double_of(k);
@@ -60,7 +61,8 @@ fn value_in(b: Basis, cv: &[f64], t: f64) -> f64
 
 // The segment is the part of the knots that starts at its place: nothing is copied.
 pub fn curve_value(b: Basis, x: f64, knots: &[f64]) -> f64
-    requires { ⌜ (4 ≤ length (now knots)) × (length (now knots) ≤ 4096) ⌝ }
+    requires enough { ⌜ 4 ≤ length (now knots) ⌝ }
+    requires most { ⌜ length (now knots) ≤ 4096 ⌝ }
     ensures { λ r. ⌜ r ≡ curveValue b x (now (knots .entry)) ⌝ }
 {
     let k = basis::segments(b, knots.len());
@@ -72,7 +74,8 @@ pub fn curve_value(b: Basis, x: f64, knots: &[f64]) -> f64
 
 // For a caller that has tested the knots itself. By the function that other callers share: so `curve_value` keeps its one caller.
 pub fn value_at(b: Basis, x: f64, knots: &[f64]) -> f64
-    requires { ⌜ (4 ≤ length (now knots)) × (length (now knots) ≤ 4096) ⌝ }
+    requires enough { ⌜ 4 ≤ length (now knots) ⌝ }
+    requires most { ⌜ length (now knots) ≤ 4096 ⌝ }
     ensures { λ r. ⌜ r ≡ curveValue b x (now (knots .entry)) ⌝ }
 {
     let k = basis::segments(b, knots.len());

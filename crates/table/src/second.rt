@@ -6,7 +6,8 @@ ghost use Rattle.table.specs.Second.{day, secondOf};
 // The largest whole second not above parameter × span, by comparing with whole numbers.
 pub fn second(span: u32, parameter: f64) -> u32
     requires { ⌜ span ≤ day ⌝ }
-    ensures { λ r. ⌜ (r ≡ secondOf span parameter) × (r ≤ span) ⌝ }
+    ensures answer { λ r. ⌜ r ≡ secondOf span parameter ⌝ }
+    ensures most { λ r. ⌜ r ≤ span ⌝ }
 {
     let y = parameter * (span as f64);
     let mut low: u32 = 0;

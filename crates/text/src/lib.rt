@@ -32,7 +32,8 @@ pub fn is_word(s: &[u8], w: &[u8]) -> bool
 
 // Where the first tab of s is; the length where there is none.
 pub fn tab_at(s: &[u8]) -> usize
-    ensures { λ r. ⌜ (r ≡ tabOf (now (s .entry))) × (r ≤ length (now (s .entry))) ⌝ }
+    ensures answer { λ r. ⌜ r ≡ tabOf (now (s .entry)) ⌝ }
+    ensures most { λ r. ⌜ r ≤ length (now (s .entry)) ⌝ }
 {
     let mut i = 0;
     while i < s.len() {
@@ -46,7 +47,8 @@ pub fn tab_at(s: &[u8]) -> usize
 
 // The value of an uppercase hexadecimal digit; 16 for any other byte.
 fn digit(b: u8) -> u64
-    ensures { λ r. ⌜ (r ≡ digitOf b) × (r ≤ 16) ⌝ }
+    ensures answer { λ r. ⌜ r ≡ digitOf b ⌝ }
+    ensures most { λ r. ⌜ r ≤ 16 ⌝ }
 {
     if b < 48 {
         return 16;
@@ -139,7 +141,8 @@ fn glyph(d: u64) -> u8
 // The k lowest hexadecimal digits of n.
 pub fn put_hex(out: &mut [u8], at: usize, n: u64, k: usize) -> usize
     requires { ⌜ at + k ≤ length (now out) ⌝ }
-    ensures { λ r. ⌜ Wrote (now (out .entry)) at (hexText k n) (now (out .exit)) r × (r ≡ at + k) ⌝ }
+    ensures text { λ r. ⌜ Wrote (now (out .entry)) at (hexText k n) (now (out .exit)) r ⌝ }
+    ensures long { λ r. ⌜ r ≡ at + k ⌝ }
 {
     if k == 0 {
         return at;
@@ -150,8 +153,10 @@ pub fn put_hex(out: &mut [u8], at: usize, n: u64, k: usize) -> usize
 
 // n in decimal digits, of which it has at most k + 1.
 pub fn put_decimal(out: &mut [u8], at: usize, n: u32, k: usize) -> usize
-    requires { ⌜ (n < 10 ^ (k + 1)) × (at + k < length (now out)) ⌝ }
-    ensures { λ r. ⌜ Wrote (now (out .entry)) at (decText k n) (now (out .exit)) r × (r ≤ at + k + 1) ⌝ }
+    requires digits { ⌜ n < 10 ^ (k + 1) ⌝ }
+    requires room { ⌜ at + k < length (now out) ⌝ }
+    ensures text { λ r. ⌜ Wrote (now (out .entry)) at (decText k n) (now (out .exit)) r ⌝ }
+    ensures short { λ r. ⌜ r ≤ at + k + 1 ⌝ }
 {
     if n < 10 {
         return put_byte(out, at, 48 + n as u8);
@@ -162,7 +167,8 @@ pub fn put_decimal(out: &mut [u8], at: usize, n: u32, k: usize) -> usize
 
 pub fn put_double(out: &mut [u8], at: usize, x: f64) -> usize
     requires { ⌜ at + 16 ≤ length (now out) ⌝ }
-    ensures { λ r. ⌜ Wrote (now (out .entry)) at (doubleText x) (now (out .exit)) r × (r ≡ at + 16) ⌝ }
+    ensures text { λ r. ⌜ Wrote (now (out .entry)) at (doubleText x) (now (out .exit)) r ⌝ }
+    ensures long { λ r. ⌜ r ≡ at + 16 ⌝ }
 {
     put_hex(out, at, to_bits(x), 16)
 }

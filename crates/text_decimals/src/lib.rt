@@ -7,7 +7,8 @@ use text::HexNumber;
 
 // The value of a decimal digit; 10 for any other byte.
 fn digit_in(b: u8) -> u64
-    ensures { λ r. ⌜ (r ≡ digitIn b) × (r ≤ 10) ⌝ }
+    ensures answer { λ r. ⌜ r ≡ digitIn b ⌝ }
+    ensures most { λ r. ⌜ r ≤ 10 ⌝ }
 {
     if b < 48 {
         return 10;
@@ -44,7 +45,8 @@ pub fn number_in(s: &[u8], most: usize) -> HexNumber
 
 // Where the first b of s is; the length where there is none.
 pub fn place_of(s: &[u8], b: u8) -> usize
-    ensures { λ r. ⌜ (r ≡ placeOf b (now (s .entry))) × (r ≤ length (now (s .entry))) ⌝ }
+    ensures answer { λ r. ⌜ r ≡ placeOf b (now (s .entry)) ⌝ }
+    ensures most { λ r. ⌜ r ≤ length (now (s .entry)) ⌝ }
 {
     let mut i = 0;
     while i < s.len() {

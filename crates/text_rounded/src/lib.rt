@@ -14,7 +14,8 @@ pub const WIDEST: usize = 21;
 
 // b to the power of k.
 fn power(b: u64, k: usize) -> u64
-    requires { ⌜ (0 < b) × (b ^ k < 2 ^ 64) ⌝ }
+    requires base { ⌜ 0 < b ⌝ }
+    requires fits { ⌜ b ^ k < 2 ^ 64 ⌝ }
     ensures { λ r. ⌜ r ≡ b ^ k ⌝ }
 {
     let mut p: u64 = 1;
@@ -28,7 +29,10 @@ fn power(b: u64, k: usize) -> u64
 
 // (high · 2048 + low) / (half · 4096) to the nearest whole number, ties to even.
 fn nearest(high: u64, low: u64, half: u64) -> u64
-    requires { ⌜ (low < 2048) × (high < 2 ^ 63) × (0 < half) × (half ≤ 2 ^ 62) ⌝ }
+    requires low { ⌜ low < 2048 ⌝ }
+    requires high { ⌜ high < 2 ^ 63 ⌝ }
+    requires some { ⌜ 0 < half ⌝ }
+    requires half { ⌜ half ≤ 2 ^ 62 ⌝ }
     ensures { λ r. ⌜ r ≡ closest (high * 2048 + low) (half * 4096) ⌝ }
 {
     let unit = half * 2;
@@ -48,7 +52,8 @@ fn nearest(high: u64, low: u64, half: u64) -> u64
 
 // The significand of a magnitude's pattern.
 fn significand(a: u64) -> u64
-    ensures { λ r. ⌜ (r ≡ significandOf a) × (r < 2 ^ 53) ⌝ }
+    ensures answer { λ r. ⌜ r ≡ significandOf a ⌝ }
+    ensures short { λ r. ⌜ r < 2 ^ 53 ⌝ }
 {
     if a < 4503599627370496 {
         return a;
@@ -59,7 +64,8 @@ fn significand(a: u64) -> u64
 // The power of two that the significand is divided by.
 fn shift(a: u64) -> u64
     requires { ⌜ a ≤ largest ⌝ }
-    ensures { λ r. ⌜ (r ≡ shiftOf a) × (12 ≤ r) ⌝ }
+    ensures answer { λ r. ⌜ r ≡ shiftOf a ⌝ }
+    ensures least { λ r. ⌜ 12 ≤ r ⌝ }
 {
     if a < 4503599627370496 {
         return 1074;
@@ -69,8 +75,10 @@ fn shift(a: u64) -> u64
 
 // How many units of 10^-d a magnitude's pattern is. The product of significand and 10^d may need 73 bits: its lowest 11 stand apart.
 pub fn units(a: u64, d: usize) -> u64
-    requires { ⌜ (a ≤ largest) × (d ≤ 6) ⌝ }
-    ensures { λ r. ⌜ (r ≡ unitsOf d a) × (r ≤ 2 ^ 41 * 10 ^ d) ⌝ }
+    requires magnitude { ⌜ a ≤ largest ⌝ }
+    requires digits { ⌜ d ≤ 6 ⌝ }
+    ensures answer { λ r. ⌜ r ≡ unitsOf d a ⌝ }
+    ensures most { λ r. ⌜ r ≤ 2 ^ 41 * 10 ^ d ⌝ }
 {
     let m = significand(a);
     let s = shift(a);
@@ -85,8 +93,10 @@ pub fn units(a: u64, d: usize) -> u64
 
 // A whole number below 10^13.
 fn put_whole(out: &mut [u8], at: usize, n: u64, k: usize) -> usize
-    requires { ⌜ (n < 10 ^ (k + 1)) × (at + k < length (now out)) ⌝ }
-    ensures { λ r. ⌜ Wrote (now (out .entry)) at (decText k n) (now (out .exit)) r × (r ≤ at + k + 1) ⌝ }
+    requires digits { ⌜ n < 10 ^ (k + 1) ⌝ }
+    requires room { ⌜ at + k < length (now out) ⌝ }
+    ensures text { λ r. ⌜ Wrote (now (out .entry)) at (decText k n) (now (out .exit)) r ⌝ }
+    ensures short { λ r. ⌜ r ≤ at + k + 1 ⌝ }
 {
     if n < 10 {
         return text::put_byte(out, at, 48 + n as u8);
@@ -97,8 +107,10 @@ fn put_whole(out: &mut [u8], at: usize, n: u64, k: usize) -> usize
 
 // n units of 10^-d, with d digits behind the point.
 pub fn put_fixed(out: &mut [u8], at: usize, n: u64, d: usize) -> usize
-    requires { ⌜ (n < 10 ^ (d + 13)) × (at + (d + 14) ≤ length (now out)) ⌝ }
-    ensures { λ r. ⌜ Wrote (now (out .entry)) at (fixedText d n) (now (out .exit)) r × (r ≤ at + (d + 14)) ⌝ }
+    requires digits { ⌜ n < 10 ^ (d + 13) ⌝ }
+    requires room { ⌜ at + (d + 14) ≤ length (now out) ⌝ }
+    ensures text { λ r. ⌜ Wrote (now (out .entry)) at (fixedText d n) (now (out .exit)) r ⌝ }
+    ensures short { λ r. ⌜ r ≤ at + (d + 14) ⌝ }
 {
     if d == 0 {
         let r = put_whole(&mut *out, at, n, 12);
@@ -126,7 +138,8 @@ fn is_below_zero(n: u64, units: u64) -> bool
 
 fn put_sign(out: &mut [u8], at: usize, minus: bool) -> usize
     requires { ⌜ at + 1 ≤ length (now out) ⌝ }
-    ensures { λ r. ⌜ Wrote (now (out .entry)) at (signText minus) (now (out .exit)) r × (r ≤ at + 1) ⌝ }
+    ensures text { λ r. ⌜ Wrote (now (out .entry)) at (signText minus) (now (out .exit)) r ⌝ }
+    ensures short { λ r. ⌜ r ≤ at + 1 ⌝ }
 {
     if minus {
         return text::put_byte(out, at, b'-');
@@ -136,8 +149,10 @@ fn put_sign(out: &mut [u8], at: usize, minus: bool) -> usize
 
 // The double of the pattern n, with d digits behind the point; a word for one that is no number, or above 2^40 in magnitude.
 pub fn put_rounded(out: &mut [u8], at: usize, n: u64, d: usize) -> usize
-    requires { ⌜ (d ≤ 6) × (at + 21 ≤ length (now out)) ⌝ }
-    ensures { λ r. ⌜ Wrote (now (out .entry)) at (roundedText d n) (now (out .exit)) r × (r ≤ at + 21) ⌝ }
+    requires digits { ⌜ d ≤ 6 ⌝ }
+    requires room { ⌜ at + 21 ≤ length (now out) ⌝ }
+    ensures text { λ r. ⌜ Wrote (now (out .entry)) at (roundedText d n) (now (out .exit)) r ⌝ }
+    ensures short { λ r. ⌜ r ≤ at + 21 ⌝ }
 {
     let a = n % 9223372036854775808;
     if a > 9218868437227405312 {

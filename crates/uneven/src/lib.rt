@@ -36,7 +36,9 @@ pub enum DepthAnswer {
 
 // Where no row of the depths applies: so they are not tested a second time.
 fn suited(a: Inversion, db: Basis, depths: &[f64]) -> DepthAnswer
-    requires { ⌜ (countTold a < 4294967295) × (4 ≤ length (now depths)) × (length (now depths) ≤ 4096) ⌝ }
+    requires count { ⌜ countTold a < 4294967295 ⌝ }
+    requires enough { ⌜ 4 ≤ length (now depths) ⌝ }
+    requires most { ⌜ length (now depths) ≤ 4096 ⌝ }
     ensures { λ r. ⌜ r ≡ suited a (λ x. Value (curveValue db x (now (depths .entry)))) ⌝ }
 {
     match a {

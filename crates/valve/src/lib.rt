@@ -41,15 +41,19 @@ fn plus(a: i64, b: i64) -> i64
 
 // A weight times a knot.
 fn term(w: u32, k: i64) -> i64
-    requires { ⌜ (w ≤ 67108864) × (natAbs k ≤ 1000000) ⌝ }
-    ensures { λ r. ⌜ (r ≡ pos w *ℤ k) × (natAbs r ≤ 67108864000000) ⌝ }
+    requires weight { ⌜ w ≤ 67108864 ⌝ }
+    requires knot { ⌜ natAbs k ≤ 1000000 ⌝ }
+    ensures answer { λ r. ⌜ r ≡ pos w *ℤ k ⌝ }
+    ensures small_after { λ r. ⌜ natAbs r ≤ 67108864000000 ⌝ }
 {
     times(wide(w), k)
 }
 
 // The weighted sum, undivided.
 fn weighted_sum(knots: &[i64], step: usize) -> i64
-    requires { ⌜ (step ≤ 256) × (4 ≤ length (now knots)) × SmallKnots (now knots) ⌝ }
+    requires step { ⌜ step ≤ 256 ⌝ }
+    requires enough { ⌜ 4 ≤ length (now knots) ⌝ }
+    requires small { ⌜ SmallKnots (now knots) ⌝ }
     ensures { λ r. ⌜ r ≡ mixOf (now (knots .entry)) step ⌝ }
 {
     let w = weights::row(step);
@@ -69,7 +73,8 @@ fn is_small(k: i64) -> bool
 
 fn first_large(knots: &[i64]) -> usize
     requires { ⌜ 4 ≤ length (now knots) ⌝ }
-    ensures { λ r. ⌜ (r ≡ firstLarge (now (knots .entry))) × (r ≤ 4) ⌝ }
+    ensures answer { λ r. ⌜ r ≡ firstLarge (now (knots .entry)) ⌝ }
+    ensures most { λ r. ⌜ r ≤ 4 ⌝ }
 {
     if is_small(knots[0]) {
         if is_small(knots[1]) {

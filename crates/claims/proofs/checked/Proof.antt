@@ -29,7 +29,7 @@ part-check-claim-start c = search needs
 
 part-check-claim-end : tie.Need-part-check-claim-end
 part-check-claim-end c = let k : c .before .before .held .given .0 .1 .1 .0 ≤ places =
-    rw (c .before .before .held .given .1) at (c .before .before .before .before .before .before .pre .0 .0) in omega arith
+    rw (c .before .before .held .given .1) at (c .before .before .before .before .before .before .pre .0) in omega arith
 
 check-claim-requires : tie.Need-check-claim-requires
 check-claim-requires c κs = search needs

@@ -66,7 +66,7 @@ returns-2 c = let k =
     in (
       claim-leaves k o e l,
       (
-        c .before .before .before .before .before .before .before .before .before .before .before .before .before .pre .1 .0 .0,
+        c .before .before .before .before .before .before .before .before .before .before .before .before .before .pre .1 .0,
         (claim-wrote k o e l (w .0), w .1),
       ),
     )

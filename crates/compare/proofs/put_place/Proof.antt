@@ -87,7 +87,7 @@ mul-put-only-2 : tie.Need-mul-put-only-2
 mul-put-only-2 c = search needs
 
 shared-slice-read-put-only-2 : tie.Need-shared-slice-read-put-only-2
-shared-slice-read-put-only-2 c = omega (arith, c .before .before .before .before .before .before .pre .3 (omega arith))
+shared-slice-read-put-only-2 c = omega (arith, c .before .before .before .before .before .before .pre .1 .1 .1 (omega arith))
 
 put-only-requires-2 : tie.Need-put-only-requires-2
 put-only-requires-2 c κs = search needs

@@ -34,12 +34,12 @@ part-put-comparison-start-2 c = search needs
 
 part-put-comparison-end-2 : tie.Need-part-put-comparison-end-2
 part-put-comparison-end-2 c = let k : c .before .before .l .given .0 .1 .0 ≤ places =
-    rw (c .before .before .l .given .1) at (c .before .before .before .before .before .before .before .pre .1) in omega arith
+    rw (c .before .before .l .given .1) at (c .before .before .before .before .before .before .before .pre .1 .0) in omega arith
 
 put-comparison-requires : tie.Need-put-comparison-requires
 put-comparison-requires c κs = let k : c .before .before .before .before .l .given .0 .1 .0 ≤ places =
-    rw (c .before .before .before .before .l .given .1) at (c .before .before .before .before .before .before .before .before .before .pre .1)
-    in (simp length-take (omega arith), simp length-take (omega arith), omega arith)
+    rw (c .before .before .before .before .l .given .1) at (c .before .before .before .before .before .before .before .before .before .pre .1 .0)
+    in (simp length-take (omega arith), (simp length-take (omega arith), omega arith))
 
 same-length : tie.Need-same-length
 same-length c = search needs

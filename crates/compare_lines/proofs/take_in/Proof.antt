@@ -26,7 +26,7 @@ returns c = let k =
 enter-requires : tie.Need-enter-requires
 enter-requires c κs = (
   rw (c .before .before .before .before .h .given .1) at (c .before .before .before .before .before .before .before .before .pre .0),
-  c .before .before .before .before .before .before .before .before .pre .1,
+  c .before .before .before .before .before .before .before .before .pre .1 .0,
 )
 
 enum-known-h-2 : tie.Need-enum-known-h-2
@@ -35,7 +35,7 @@ enum-known-h-2 c = search needs
 enter-requires-2 : tie.Need-enter-requires-2
 enter-requires-2 c κs = let z : max (knotsOf (c .before .before .h2 .given .0 .0)) (knotsOf (c .before .before .h2 .given .0 .1 .0)) ≤ places =
     rw (c .before .before .h2 .given .1) at (c .before .before .before .before .before .before .pre .0)
-    in (omega arith, c .before .before .before .before .before .before .pre .2)
+    in (omega arith, c .before .before .before .before .before .before .pre .1 .1)
 
 same-length : tie.Need-same-length
 same-length c = search needs

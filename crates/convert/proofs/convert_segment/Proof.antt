@@ -34,7 +34,7 @@ put-last-requires c κs =
     let h =
     segment-passed (a .to) (a .cv .now) (length (a .out .now))
     (sym (c .before .before .before .before .before .segment-verdict .ensures) ∙ c .before .before .before .enum-told .given .1) .1 in
-    (lit< tt, lit≤ tt, h .enough)
+    (lit< tt, (lit≤ tt, h .enough))
 
 returns : tie.Need-returns
 returns c =

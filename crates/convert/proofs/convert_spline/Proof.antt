@@ -33,13 +33,21 @@ put-windows-requires c κs =
     spline-passed (a .from) (a .to) (a .knots .now) (length (a .out .now))
     (sym (c .before .before .before .before .before .before .before .spline-verdict .ensures)
     ∙ c .before .before .before .before .before .enum-told .given .1) in (
-      c .before .before .step .ensures .1,
-      c .before .step2 .ensures .1,
-      c .before .step2 .ensures .2,
-      h .0 .least,
-      h .0 .most,
-      le-trans (le-of-eq (output-steps (a .from) (a .to) (length (a .knots .now)) _ _ (c .before .before .step .ensures .0)
-          (c .before .step2 .ensures .0))) (h .1 .enough),
+      c .before .before .step .ensures .1 .0,
+      (
+        c .before .step2 .ensures .1 .0,
+        (
+          c .before .step2 .ensures .1 .1,
+          (
+            h .0 .least,
+            (
+              h .0 .most,
+              le-trans (le-of-eq (output-steps (a .from) (a .to) (length (a .knots .now)) _ _ (c .before .before .step .ensures .0)
+                  (c .before .step2 .ensures .0))) (h .1 .enough),
+            ),
+          ),
+        ),
+      ),
     )
 
 returns : tie.Need-returns
@@ -62,7 +70,7 @@ returns-2 c =
     ∙ c .before .before .before .before .before .before .before .before .enum-told .given .1)
     (c .before .before .before .before .before .before .before .conversion-matrix .ensures)
     (c .before .before .before .before .before .step .ensures .0) (c .before .before .before .before .step2 .ensures .0)
-    (c .before .before .before .before .step2 .ensures .2) (c .before .before .put-windows .ensures .0)
+    (c .before .before .before .before .step2 .ensures .1 .1) (c .before .before .put-windows .ensures .0)
     (c .before .before .put-windows .ensures .1) in
     (t .answer, t .buffer)
 

@@ -38,7 +38,7 @@ lost-seam-requires c κs =
     let h =
     spline-passed (a .from) (a .to) (a .knots .now) (length (a .out .now))
     (plain-passes (a .from) (a .to) (a .knots .now) (a .allowance) (length (a .out .now)) p) in
-    (c .before .step .ensures .1, c .step2 .ensures .1, c .step2 .ensures .2, h .0 .least, h .0 .most)
+    (c .before .step .ensures .1 .0, (c .step2 .ensures .1 .0, (c .step2 .ensures .1 .1, (h .0 .least, h .0 .most))))
 
 cast-t16 : tie.Need-cast-t16
 cast-t16 c = search needs
@@ -67,14 +67,7 @@ put-windows-requires c κs =
     spline-passed (a .from) (a .to) (a .knots .now) (length (a .out .now))
     (plain-passes (a .from) (a .to) (a .knots .now) (a .allowance) (length (a .out .now)) p) in
     let step = c .before .before .before .before .before .step .ensures in
-    let stride = c .before .before .before .before .step2 .ensures in (
-      step .1,
-      stride .1,
-      stride .2,
-      h .0 .least,
-      h .0 .most,
-      le-trans (le-of-eq (output-steps (a .from) (a .to) (length (a .knots .now)) _ _ (step .0) (stride .0))) (h .1 .enough),
-    )
+    let stride = c .before .before .before .before .step2 .ensures in (step .1 .0, (stride .1 .0, (stride .1 .1, (h .0 .least, (h .0 .most, le-trans (le-of-eq (output-steps (a .from) (a .to) (length (a .knots .now)) _ _ (step .0) (stride .0))) (h .1 .enough))))))
 
 returns-2 : tie.Need-returns-2
 returns-2 c =
@@ -107,7 +100,7 @@ returns-3 c =
     (omega (arith, c .before .before .before .before .before .if1 .left))) in
     let t =
     spline-written (a .from) (a .to) (a .knots .now) (a .out .now) _ _ _ _ _
-    (plain-passes (a .from) (a .to) (a .knots .now) (a .allowance) (length (a .out .now)) p) m (step .0) (stride .0) (stride .2) (wrote .0) (wrote .1) in
+    (plain-passes (a .from) (a .to) (a .knots .now) (a .allowance) (length (a .out .now)) p) m (step .0) (stride .0) (stride .1 .1) (wrote .0) (wrote .1) in
     (t .answer ∙ sym (ap answerOf e), t .buffer ∙ sym (ap (λ (x : Conversion). bufferOf x (a .out .now)) e))
 
 pub convert-spline-strict-spec : {M : Type 1} → statement M

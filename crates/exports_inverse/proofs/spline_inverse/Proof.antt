@@ -49,9 +49,9 @@ returns-2 c =
           (c .place-told .ensures .0 ∙ ap invertedReply call),
       (
         found place (λ b. placeLeft (inverseOf b (args .y) (args .knots .now) (args .check) defaultLimit defaultPrecision) place) asked known
-            (c .place-told .ensures .1 ∙ ap (λ a. placeLeft a place) call),
+            (c .place-told .ensures .1 .0 ∙ ap (λ a. placeLeft a place) call),
         found whole (λ b. wholeLeft (inverseOf b (args .y) (args .knots .now) (args .check) defaultLimit defaultPrecision) whole) asked known
-            (c .place-told .ensures .2 ∙ ap (λ a. wholeLeft a whole) call),
+            (c .place-told .ensures .1 .1 ∙ ap (λ a. wholeLeft a whole) call),
       ),
     )
 

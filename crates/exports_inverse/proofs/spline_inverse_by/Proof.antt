@@ -96,11 +96,11 @@ returns-3 c =
         found place (λ b. way w place (λ e m. placeLeft (inverseBy e m b (args .y) (args .knots .now) (args .check) (args .limit) (args .precision)) place))
             asked known (way-found place
             (λ e m. placeLeft (inverseBy e m basis (args .y) (args .knots .now) (args .check) (args .limit) (args .precision)) place) asked-way
-            known-way (c .place-told .ensures .1 ∙ ap (λ a. placeLeft a place) call)),
+            known-way (c .place-told .ensures .1 .0 ∙ ap (λ a. placeLeft a place) call)),
         found whole (λ b. way w whole (λ e m. wholeLeft (inverseBy e m b (args .y) (args .knots .now) (args .check) (args .limit) (args .precision)) whole))
             asked known (way-found whole
             (λ e m. wholeLeft (inverseBy e m basis (args .y) (args .knots .now) (args .check) (args .limit) (args .precision)) whole) asked-way
-            known-way (c .place-told .ensures .2 ∙ ap (λ a. wholeLeft a whole) call)),
+            known-way (c .place-told .ensures .1 .1 ∙ ap (λ a. wholeLeft a whole) call)),
       ),
     )
 

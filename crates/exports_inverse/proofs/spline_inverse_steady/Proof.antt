@@ -48,9 +48,9 @@ returns-2 c =
           (c .place-told .ensures .0 ∙ ap invertedReply call),
       (
         found place (λ b. placeLeft (steadyOf b (args .y) (args .knots .now) (args .check)) place) asked known
-            (c .place-told .ensures .1 ∙ ap (λ a. placeLeft a place) call),
+            (c .place-told .ensures .1 .0 ∙ ap (λ a. placeLeft a place) call),
         found whole (λ b. wholeLeft (steadyOf b (args .y) (args .knots .now) (args .check)) whole) asked known
-            (c .place-told .ensures .2 ∙ ap (λ a. wholeLeft a whole) call),
+            (c .place-told .ensures .1 .1 ∙ ap (λ a. wholeLeft a whole) call),
       ),
     )
 

@@ -95,11 +95,11 @@ returns-3 c =
         found place (λ b. way w place (λ e m. placeLeft (inverseSegmentBy (ruleOf m) b (args .y) (args .cv .now) (args .limit) (args .precision)) place))
             asked known (way-found place
             (λ e m. placeLeft (inverseSegmentBy (ruleOf m) basis (args .y) (args .cv .now) (args .limit) (args .precision)) place) asked-way known-way
-            (c .place-told .ensures .1 ∙ ap (λ a. placeLeft a place) call)),
+            (c .place-told .ensures .1 .0 ∙ ap (λ a. placeLeft a place) call)),
         found whole (λ b. way w whole (λ e m. wholeLeft (inverseSegmentBy (ruleOf m) b (args .y) (args .cv .now) (args .limit) (args .precision)) whole))
             asked known (way-found whole
             (λ e m. wholeLeft (inverseSegmentBy (ruleOf m) basis (args .y) (args .cv .now) (args .limit) (args .precision)) whole) asked-way known-way
-            (c .place-told .ensures .2 ∙ ap (λ a. wholeLeft a whole) call)),
+            (c .place-told .ensures .1 .1 ∙ ap (λ a. wholeLeft a whole) call)),
       ),
     )
 

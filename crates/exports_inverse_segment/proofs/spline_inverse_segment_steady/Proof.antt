@@ -47,9 +47,9 @@ returns-2 c =
       found noBasis (λ b. invertedReply (steadySegmentOf b (args .y) (args .cv .now))) asked known (c .place-told .ensures .0 ∙ ap invertedReply call),
       (
         found place (λ b. placeLeft (steadySegmentOf b (args .y) (args .cv .now)) place) asked known
-            (c .place-told .ensures .1 ∙ ap (λ a. placeLeft a place) call),
+            (c .place-told .ensures .1 .0 ∙ ap (λ a. placeLeft a place) call),
         found whole (λ b. wholeLeft (steadySegmentOf b (args .y) (args .cv .now)) whole) asked known
-            (c .place-told .ensures .2 ∙ ap (λ a. wholeLeft a whole) call),
+            (c .place-told .ensures .1 .1 ∙ ap (λ a. wholeLeft a whole) call),
       ),
     )
 

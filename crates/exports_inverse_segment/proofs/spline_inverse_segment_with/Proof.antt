@@ -48,9 +48,9 @@ returns-2 c =
           (c .place-told .ensures .0 ∙ ap invertedReply call),
       (
         found place (λ b. placeLeft (inverseSegmentOf b (args .y) (args .cv .now) (args .limit) (args .precision)) place) asked known
-            (c .place-told .ensures .1 ∙ ap (λ a. placeLeft a place) call),
+            (c .place-told .ensures .1 .0 ∙ ap (λ a. placeLeft a place) call),
         found whole (λ b. wholeLeft (inverseSegmentOf b (args .y) (args .cv .now) (args .limit) (args .precision)) whole) asked known
-            (c .place-told .ensures .2 ∙ ap (λ a. wholeLeft a whole) call),
+            (c .place-told .ensures .1 .1 ∙ ap (λ a. wholeLeft a whole) call),
       ),
     )
 

@@ -20,7 +20,7 @@ returns c = search needs
 returns-2 : tie.Need-returns-2
 returns-2 c = let args = c .before .before .before .before .args in
     let is = c .before .before .a2 .given .1 in
-    (c .reply .ensures ∙ sym (ap handedReply is), sym (ap (λ a. handedSpan a (args .handed .now)) is), sym (ap (λ a. handedLength a (args .written .now)) is))
+    (c .reply .ensures ∙ sym (ap handedReply is), (sym (ap (λ a. handedSpan a (args .handed .now)) is), sym (ap (λ a. handedLength a (args .written .now)) is)))
 
 pub handed-told-spec : {M : Type 1} → statement M
 handed-told-spec =

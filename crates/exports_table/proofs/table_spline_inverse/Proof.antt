@@ -59,10 +59,10 @@ returns-2 c =
       (
         found place (λ b. timedPlace
             (tableInverseBy Knots AsCrate (tableOf (args .span) b) (args .y) (args .knots .now) (args .check) defaultLimit defaultPrecision) place) asked
-            known (c .timed-told .ensures .1 ∙ ap (λ a. timedPlace a place) call),
+            known (c .timed-told .ensures .1 .0 ∙ ap (λ a. timedPlace a place) call),
         found whole (λ b. timedWhole
             (tableInverseBy Knots AsCrate (tableOf (args .span) b) (args .y) (args .knots .now) (args .check) defaultLimit defaultPrecision) whole) asked
-            known (c .timed-told .ensures .2 ∙ ap (λ a. timedWhole a whole) call),
+            known (c .timed-told .ensures .1 .1 ∙ ap (λ a. timedWhole a whole) call),
       ),
     )
 

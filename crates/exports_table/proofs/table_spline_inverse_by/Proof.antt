@@ -106,12 +106,12 @@ returns-3 c =
             (λ e m. timedPlace (tableInverseBy e m (tableOf (args .span) b) (args .y) (args .knots .now) (args .check) (args .limit) (args .precision))
             place)) asked known (way-found place
             (λ e m. timedPlace (tableInverseBy e m (tableOf (args .span) basis) (args .y) (args .knots .now) (args .check) (args .limit)
-            (args .precision)) place) asked-way known-way (c .timed-told .ensures .1 ∙ ap (λ a. timedPlace a place) call)),
+            (args .precision)) place) asked-way known-way (c .timed-told .ensures .1 .0 ∙ ap (λ a. timedPlace a place) call)),
         found whole (λ b. way w whole
             (λ e m. timedWhole (tableInverseBy e m (tableOf (args .span) b) (args .y) (args .knots .now) (args .check) (args .limit) (args .precision))
             whole)) asked known (way-found whole
             (λ e m. timedWhole (tableInverseBy e m (tableOf (args .span) basis) (args .y) (args .knots .now) (args .check) (args .limit)
-            (args .precision)) whole) asked-way known-way (c .timed-told .ensures .2 ∙ ap (λ a. timedWhole a whole) call)),
+            (args .precision)) whole) asked-way known-way (c .timed-told .ensures .1 .1 ∙ ap (λ a. timedWhole a whole) call)),
       ),
     )
 

@@ -49,9 +49,9 @@ returns-2 c =
           (c .timed-told .ensures .0 ∙ ap timedReply call),
       (
         found place (λ b. timedPlace (tableSteadyOf (tableOf (args .span) b) (args .y) (args .knots .now) (args .check)) place) asked known
-            (c .timed-told .ensures .1 ∙ ap (λ a. timedPlace a place) call),
+            (c .timed-told .ensures .1 .0 ∙ ap (λ a. timedPlace a place) call),
         found whole (λ b. timedWhole (tableSteadyOf (tableOf (args .span) b) (args .y) (args .knots .now) (args .check)) whole) asked known
-            (c .timed-told .ensures .2 ∙ ap (λ a. timedWhole a whole) call),
+            (c .timed-told .ensures .1 .1 ∙ ap (λ a. timedWhole a whole) call),
       ),
     )
 

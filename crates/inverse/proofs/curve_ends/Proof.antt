@@ -11,9 +11,9 @@ use Rattle.inverse.proofs.curve_ends.Tie as tie
 
 row-sums-at-requires : tie.Need-row-sums-at-requires
 row-sums-at-requires c κs = (
-  segment-fits (c .before .args .b) (length (c .before .args .knots .now)) 0 (c .before .pre .1)
+  segment-fits (c .before .args .b) (length (c .before .args .knots .now)) 0 (c .before .pre .1 .0)
       (omega (arith, c .before .pre .0, segments-some (c .before .args .b) (length (c .before .args .knots .now)))),
-  c .before .pre .2,
+  c .before .pre .1 .1,
 )
 
 horner-requires : tie.Need-horner-requires
@@ -25,13 +25,13 @@ sub-row-sums-at c = search needs
 row-sums-at-requires-2 : tie.Need-row-sums-at-requires-2
 row-sums-at-requires-2 c κs = (
   segment-fits (c .before .before .before .args .b) (length (c .before .before .before .args .knots .now)) (c .before .before .before .args .k - 1)
-      (c .before .before .before .pre .1)
+      (c .before .before .before .pre .1 .0)
       (omega (
         arith,
         c .before .before .before .pre .0,
         segments-some (c .before .before .before .args .b) (length (c .before .before .before .args .knots .now)),
       )),
-  c .before .before .before .pre .2,
+  c .before .before .before .pre .1 .1,
 )
 
 horner-requires-2 : tie.Need-horner-requires-2

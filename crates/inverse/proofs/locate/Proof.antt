@@ -1,4 +1,5 @@
 -- The ends and the evaluations made for them are those of the rule that was chosen (`by-rule`).
+use native.Mathlib.Omega.{arith}
 use Rattle.inverse.proofs.Glue.{by-rule}
 use borrow.Author.Needs.{needs}
 use Rattle.inverse.proofs.locate.Statement.{statement}
@@ -14,7 +15,11 @@ evaluations-requires : tie.Need-evaluations-requires
 evaluations-requires c κs = search needs
 
 located-requires : tie.Need-located-requires
-located-requires c κs = search needs
+located-requires c κs =
+    let p = c .before .before .before .before .pre in (
+      c .before .before .segments .ensures,
+      (p .0, (p .1 .0, (p .1 .1 .0, (p .1 .1 .1, omega (arith, c .evaluations .ensures .1))))),
+    )
 
 returns : tie.Need-returns
 returns c =

@@ -19,7 +19,7 @@ locate-requires c κs = let p =
     admitted (c .before .before .before .before .args .b) (c .before .before .before .before .args .y) (c .before .before .before .before .args .knots .now)
     (c .before .before .before .before .args .o .check) (c .before .before .before .before .args .o .limit)
     (c .before .before .before .before .args .o .precision) (sym (c .before .before .verdict .ensures) ∙ c .enum-told .given .1)
-    in (p .long, p .short, p .number, p .in-range)
+    in (p .long, (p .short, (p .number, p .in-range)))
 
 returns : tie.Need-returns
 returns c =

@@ -20,8 +20,7 @@ unfolding ofBits
 returns c = (
   (λ limit i e s ev k. round-width steady (hornerOf (c .before .before .before .before .args .w)) _ _ _ _ _ limit i s ev k
       (sym (c .before .if1 .taken) ∙ c .before .before .is-narrow .ensures) (c .lerp .ensures)),
-  omega arith,
-  omega arith,
+  (omega arith, omega arith),
 )
 
 choose-requires : tie.Need-choose-requires
@@ -46,8 +45,7 @@ returns-2 c = (
       ∙ c .before .before .before .before .before .before .before .before .is-narrow .ensures)
       (c .before .before .before .before .before .before .choose .ensures limit i e) (c .before .before .before .before .horner .ensures)
       (c .before .before .before .moved .ensures .0) (c .before .before .magnitude .ensures) (c .before .if2 .taken)),
-  omega arith,
-  omega arith,
+  (omega arith, omega arith),
 )
 
 add-t24 : tie.Need-add-t24
@@ -60,8 +58,7 @@ returns-3 c = (
       ∙ c .before .before .before .before .before .before .before .is-narrow .ensures)
       (c .before .before .before .before .before .choose .ensures limit i e) (c .before .before .before .horner .ensures)
       (c .before .before .moved .ensures .0) (c .before .magnitude .ensures) (c .if2 .left)),
-  omega (arith, c .before .before .moved .ensures .1),
-  omega arith,
+  (omega (arith, c .before .before .moved .ensures .1), omega arith),
 )
 
 pub round-spec : {M : Type 1} → statement M

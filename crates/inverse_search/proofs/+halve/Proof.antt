@@ -44,7 +44,7 @@ calls t = (
 halve-last-tries-requires : (t : ℕ) → halve-lts.Need-last-tries-requires (calls t) (halve-at t) halve.Post
 halve-last-tries-requires t c κs =
     let p = c .before .before .before .before .pre .1 in
-    (p .0, p .1, omega arith, omega arith, omega arith, omega arith)
+    (p .0, (p .1 .0, (omega arith, (omega arith, (omega arith, omega arith)))))
 
 halve-returns : (t : ℕ) → halve-lts.Need-returns (calls t) (halve-at t) halve.Post
 halve-returns t c =
@@ -64,7 +64,7 @@ halve-probe-requires : (t : ℕ) → halve-lts.Need-probe-requires (calls t) (ha
 halve-probe-requires t c κs =
     let a = c .before .before .before .args in
     let p = c .before .before .before .pre .1 in
-    (fits-at (a .left + (a .wide - 1) / 2) (a .k) _ _ (omega arith) (p .0), p .1)
+    (fits-at (a .left + (a .wide - 1) / 2) (a .k) _ _ (omega arith) (p .0), p .1 .0)
 
 halve-add-made : (t : ℕ) → halve-lts.Need-add-made (calls t) (halve-at t) halve.Post
 halve-add-made t c = omega arith
@@ -86,7 +86,7 @@ halve-lies-before-requires t c κs = tt
 halve-halve-requires : (t : ℕ) → halve-lts.Need-halve-requires (calls t) (halve-at t) halve.Post
 halve-halve-requires t c κs =
     let p = c .before .before .before .before .before .before .before .before .before .before .before .pre .1 in
-    (omega arith, (p .0, p .1, omega arith, omega arith, omega arith, omega arith))
+    (omega arith, (p .0, (p .1 .0, (omega arith, (omega arith, (omega arith, omega arith))))))
 
 halve-add-halve : (t : ℕ) → halve-lts.Need-add-halve (calls t) (halve-at t) halve.Post
 halve-add-halve t c = omega arith
@@ -100,7 +100,7 @@ halve-sub-halve-2 t c = omega arith
 halve-halve-requires-2 : (t : ℕ) → halve-lts.Need-halve-requires-2 (calls t) (halve-at t) halve.Post
 halve-halve-requires-2 t c κs =
     let p = c .before .before .before .before .before .before .before .before .before .before .before .pre .1 in
-    (omega arith, (p .0, p .1, omega arith, omega arith, omega arith, omega arith))
+    (omega arith, (p .0, (p .1 .0, (omega arith, (omega arith, (omega arith, omega arith))))))
 
 halve-returns-3 : (t : ℕ) → halve-lts.Need-returns-3 (calls t) (halve-at t) halve.Post
 halve-returns-3 t c =

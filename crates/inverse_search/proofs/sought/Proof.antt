@@ -22,7 +22,7 @@ returns-2 : tie.Need-returns-2
 returns-2 c =
     let a = c .before .before .before .before .before .before .args in (
       sought-many (a .b) (a .knots .now) (a .y) (a .rising) (a .k) (c .before .before .before .before .if1 .left)
-          (lt-of-le-of-lt (c .before .before .before .before .before .before .pre .3) (lit< tt)) (c .halve .ensures .0),
+          (lt-of-le-of-lt (c .before .before .before .before .before .before .pre .1 .1 .1 .0) (lit< tt)) (c .halve .ensures .0),
       omega arith,
     )
 

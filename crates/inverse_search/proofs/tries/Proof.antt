@@ -21,7 +21,7 @@ loop-holds c =
 probe-requires : tie.Need-probe-requires Inv-loop μ-loop
 probe-requires c κs =
     let p = c .before .before .before .before .pre in
-    (fits-at (c .before .before .loop .s) (c .before .before .before .before .args .end) _ _ (omega arith) (p .0), p .1)
+    (fits-at (c .before .before .loop .s) (c .before .before .before .before .args .end) _ _ (omega arith) (p .0), p .1 .0)
 
 add-made : tie.Need-add-made Inv-loop μ-loop
 add-made c = omega arith

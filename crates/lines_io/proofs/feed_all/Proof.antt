@@ -24,7 +24,7 @@ abbrev μ-loop : tie.MeasureT-loop
 loop-holds : tie.Need-loop-holds Inv-loop μ-loop
 loop-holds c = (
   omega arith,
-  c .before .before .before .before .before .before .before .pre .1,
+  c .before .before .before .before .before .before .before .pre .1 .0,
   refl,
   c .before .before .before .before .before .before .before .pre .0,
   none _,
@@ -51,7 +51,7 @@ add-from c =
     omega (
       arith,
       simp (length-take, length-drop) at
-          (c .before .before .before .before .before .before .before .before .before .before .before .before .before .feed .ensures .1),
+          (c .before .before .before .before .before .before .before .before .before .before .before .before .before .feed .ensures .1 .0),
       c .before .before .before .before .before .before .before .before .before .before .before .before .before .before .before .before .before
           .before .before .before .before .loop-test .taken,
       c .before .before .before .before .before .before .before .before .before .before .before .before .before .before .before .before
@@ -69,7 +69,7 @@ part-written-start c = search needs
 part-written-end : tie.Need-part-written-end Inv-loop μ-loop
 part-written-end c =
     omega
-    (arith, c .before .before .before .before .before .before .before .before .before .before .before .before .before .before .before .feed .ensures .2)
+    (arith, c .before .before .before .before .before .before .before .before .before .before .before .before .before .before .before .feed .ensures .1 .1 .0)
 
 written-requires : tie.Need-written-requires Inv-loop μ-loop
 written-requires c κs = search needs
@@ -80,9 +80,9 @@ loop-less c =
       arith,
       simp (length-take, length-drop) at
           (c .before .before .before .before .before .before .before .before .before .before .before .before .before .before .before .before .before .feed
-          .ensures .1),
+          .ensures .1 .0),
       c .before .before .before .before .before .before .before .before .before .before .before .before .before .before .before .before
-          .before .feed .ensures .3
+          .before .feed .ensures .1 .1 .1
           (simp (length-take, length-drop)
           (omega (
             arith,
@@ -97,7 +97,7 @@ loop-less c =
             c .before .before .before .before .before .before .before .before .before .before .before
                 .before .before .before .before .before .before .before .before .before .before .before
                 .before .before .before .before .before .before .before .before .before .before
-                .before .before .pre .2,
+                .before .before .pre .1 .1,
           )),
       c .before .before .before .before .before .before .before .before .before
           .before .before .before .before .before .before .before .before .before
@@ -116,19 +116,17 @@ loop-again c = (
     arith,
     simp (length-take, length-drop) at
         (c .before .before .before .before .before .before .before .before .before .before .before .before .before .before .before .before .before .feed
-        .ensures .1),
+        .ensures .1 .0),
     c .before .before .before .before .before .before .before .before .before .before .before .before .before .before .before .before .before
         .before .before .before .before .before .before .before .before .loop-test .taken,
     c .before .before .before .before .before .before .before .before .before .before .before .before .before .before .before .before
         .before .before .before .before .before .before .before .before .before .before .loop .inv .0,
   ),
   omega arith,
-  c .before .before .before .before .before .before .before .before .before .before .before .before .before .before .before .before .before .feed .ensures
-      .0 .wrote .long
+  c .before .before .before .before .before .before .before .before .before .before .before .before .before .before .before .before .before .feed .ensures .0 .wrote .long
       ∙ c .before .before .before .before .before .before .before .before .before .before .before .before .before .before .before .before .before
       .before .before .before .before .before .before .before .before .before .loop .inv .2,
-  c .before .before .before .before .before .before .before .before .before .before .before .before .before .before .before .before .before .feed .ensures
-      .0 .good,
+  c .before .before .before .before .before .before .before .before .before .before .before .before .before .before .before .before .before .feed .ensures .0 .good,
   on _ _ _ (c .before .before .before .before .before .before .before .before .before .before .before .before .before .before .before .before .before
       .before .before .before .before .before .before .before .before .before .before .before .before .before .before .before .before .before .args .chunk
       .now) (c .before .before .before .before .before .before .before .before .before .before .before .before .before .before .before .before .before
@@ -146,8 +144,8 @@ loop-less-2 c =
     omega (
       arith,
       simp (length-take, length-drop) at
-          (c .before .before .before .before .before .before .before .before .before .before .before .before .before .before .feed .ensures .1),
-      c .before .before .before .before .before .before .before .before .before .before .before .before .before .before .feed .ensures .3
+          (c .before .before .before .before .before .before .before .before .before .before .before .before .before .before .feed .ensures .1 .0),
+      c .before .before .before .before .before .before .before .before .before .before .before .before .before .before .feed .ensures .1 .1 .1
           (simp (length-take, length-drop)
           (omega (
             arith,
@@ -160,7 +158,7 @@ loop-less-2 c =
                 .before .before .before .before .before .before .before .before .before .before .loop .inv .2,
             c .before .before .before .before .before .before .before .before .before .before .before .before
                 .before .before .before .before .before .before .before .before .before .before .before .before
-                .before .before .before .before .before .before .before .pre .2,
+                .before .before .before .before .before .before .before .pre .1 .1,
           )),
       c .before .before .before .before .before .before .before .before .before .before .before
           .before .before .before .before .before .before .before .before .before .before .before
@@ -175,7 +173,7 @@ loop-again-2 c = (
   omega (
     arith,
     simp (length-take, length-drop) at
-        (c .before .before .before .before .before .before .before .before .before .before .before .before .before .before .feed .ensures .1),
+        (c .before .before .before .before .before .before .before .before .before .before .before .before .before .before .feed .ensures .1 .0),
     c .before .before .before .before .before .before .before .before .before .before .before .before .before .before .before .before .before
         .before .before .before .before .before .loop-test .taken,
     c .before .before .before .before .before .before .before .before .before .before .before .before .before .before .before .before
@@ -192,8 +190,7 @@ loop-again-2 c = (
       .before .before .before .before .before .loop .«from») _
       (c .before .before .before .before .before .before .before .before .before .before .before .before .before .before .before .before .before
       .before .before .before .before .before .before .loop .inv .4)
-      (c .before .before .before .before .before .before .before .before .before .before .before .before .before .before .feed .ensures
-      .0 .state),
+      (c .before .before .before .before .before .before .before .before .before .before .before .before .before .before .feed .ensures .0 .state),
   c .before .before .before .before .before .before .before .before .before .before .before .before .before .before .before .before .before .before .before
       .before .before .before .before .loop .inv .5,
 )
@@ -205,7 +202,7 @@ same-length-2 : tie.Need-same-length-2 Inv-loop μ-loop
 same-length-2 c = c .before .loop .inv .3 .full ∙ sym (c .before .before .before .before .before .before .before .before .before .pre .0 .full)
 
 same-length-3 : tie.Need-same-length-3 Inv-loop μ-loop
-same-length-3 c = c .before .loop .inv .1 ∙ sym (c .before .before .before .before .before .before .before .before .before .pre .1)
+same-length-3 c = c .before .loop .inv .1 ∙ sym (c .before .before .before .before .before .before .before .before .before .pre .1 .0)
 
 same-length-4 : tie.Need-same-length-4 Inv-loop μ-loop
 same-length-4 c = c .before .loop .inv .3 .older ∙ sym (c .before .before .before .before .before .before .before .before .before .pre .0 .older)

@@ -19,7 +19,7 @@ loop-holds : tie.Need-loop-holds Inv-loop μ-loop
 loop-holds c = (refl, omega arith, refl, record { few = omega arith; full = omega arith; older = omega arith; newer = omega arith; wide = omega arith })
 
 read-once-requires : tie.Need-read-once-requires Inv-loop μ-loop
-read-once-requires c κs = (c .before .before .before .before .before .before .before .before .loop .inv .3, omega arith, omega arith)
+read-once-requires c κs = (c .before .before .before .before .before .before .before .before .loop .inv .3, (omega arith, omega arith))
 
 sub-left : tie.Need-sub-left Inv-loop μ-loop
 sub-left c = search needs

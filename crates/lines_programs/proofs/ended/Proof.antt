@@ -24,21 +24,21 @@ enum-known-job c = search needs
 
 line-requires : tie.Need-line-requires
 line-requires c κs = let pre = c .before .before .before .before .before .before .before .before .before .before .before .before .pre
-    in (pre .0 .wide, ((rw (c .before .before .before .before .job .given .1) at (pre .0 .few), pre .0 .full, pre .1), pre .2))
+    in (pre .0 .wide, (rw (c .before .before .before .before .job .given .1) at (pre .0 .few), (pre .0 .full, (pre .1 .0, pre .1 .1))))
 
 enum-known-job-2 : tie.Need-enum-known-job-2
 enum-known-job-2 c = search needs
 
 line-requires-2 : tie.Need-line-requires-2
 line-requires-2 c κs = let pre = c .before .before .before .before .before .before .before .before .before .before .pre
-    in (pre .0 .wide, rw (c .before .before .job2 .given .1) at (pre .0 .few), pre .0 .full)
+    in (pre .0 .wide, (rw (c .before .before .job2 .given .1) at (pre .0 .few), pre .0 .full))
 
 enum-known-job-3 : tie.Need-enum-known-job-3
 enum-known-job-3 c = search needs
 
 line-requires-3 : tie.Need-line-requires-3
 line-requires-3 c κs = let pre = c .before .before .before .before .before .before .before .before .before .before .before .before .pre
-    in (pre .0 .wide, ((rw (c .before .before .before .before .job3 .given .1) at (pre .0 .few), pre .0 .full, pre .1), pre .2))
+    in (pre .0 .wide, (rw (c .before .before .before .before .job3 .given .1) at (pre .0 .few), (pre .0 .full, (pre .1 .0, pre .1 .1))))
 
 enum-told : tie.Need-enum-told
 enum-told c = search needs
@@ -51,7 +51,7 @@ enum-known-job-4 c = search needs
 
 line-requires-5 : tie.Need-line-requires-5
 line-requires-5 c κs = let pre = c .before .before .before .before .before .before .before .before .before .before .before .before .pre
-    in (pre .0 .wide, ((rw (c .before .before .before .before .job4 .given .1) at (pre .0 .few), pre .0 .older, pre .0 .newer), omega (arith, pre .2)))
+    in (pre .0 .wide, (rw (c .before .before .before .before .job4 .given .1) at (pre .0 .few), (pre .0 .older, (pre .0 .newer, omega (arith, pre .1 .1)))))
 
 same-length : tie.Need-same-length
 same-length c = search needs
@@ -195,8 +195,7 @@ line-requires-6 c κs = (
   (
     rw (c .before .before .before .job5 .given .1) at
         (c .before .before .before .before .before .before .before .before .before .before .before .pre .0 .few),
-    c .before .before .before .before .before .before .before .before .before .before .before .pre .0 .full,
-    c .before .before .before .before .before .before .before .before .before .before .before .pre .1,
+    (c .before .before .before .before .before .before .before .before .before .before .before .pre .0 .full, c .before .before .before .before .before .before .before .before .before .before .before .pre .1 .0),
   ),
 )
 
@@ -220,8 +219,7 @@ returns-6 c = let s =
             full =
                 omega (
                   arith,
-                  c .before .before .before .before .before .before .before .before .before .before .before .before .before .before .before .before .pre
-                      .0 .full,
+                  c .before .before .before .before .before .before .before .before .before .before .before .before .before .before .before .before .pre .0 .full,
                 );
             older =
                 omega (

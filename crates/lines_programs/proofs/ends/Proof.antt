@@ -19,7 +19,7 @@ enum-known-job c = search needs
 end-requires : tie.Need-end-requires
 end-requires c κs = let k : countOf (Reading (c .before .before .job .given .0 .0)) ≤ places =
     rw (c .before .before .job .given .1) at (c .before .before .before .before .before .before .before .before .pre .0)
-    in (k, c .before .before .before .before .before .before .before .before .pre .1, omega arith)
+    in (k, (c .before .before .before .before .before .before .before .before .pre .1 .0, omega arith))
 
 enum-told-2 : tie.Need-enum-told-2
 enum-told-2 c = search needs
@@ -33,12 +33,7 @@ enum-known-job-2 c = search needs
 end-requires-2 : tie.Need-end-requires-2
 end-requires-2 c κs = let k : countOf (Comparing (c .before .before .job2 .given .0 .0)) ≤ places =
     rw (c .before .before .job2 .given .1) at (c .before .before .before .before .before .before .before .before .pre .0)
-    in (
-      k,
-      c .before .before .before .before .before .before .before .before .pre .2,
-      c .before .before .before .before .before .before .before .before .pre .3,
-      c .before .before .before .before .before .before .before .before .pre .4,
-    )
+    in (k, (c .before .before .before .before .before .before .before .before .pre .1 .1 .0, (c .before .before .before .before .before .before .before .before .pre .1 .1 .1 .0, c .before .before .before .before .before .before .before .before .pre .1 .1 .1 .1)))
 
 returns : tie.Need-returns
 unfolding endsOf
@@ -73,7 +68,7 @@ enum-known-job-3 c = search needs
 end-requires-3 : tie.Need-end-requires-3
 end-requires-3 c κs = let k : countOf (Drawing (c .before .before .job3 .given .0 .0)) ≤ places =
     rw (c .before .before .job3 .given .1) at (c .before .before .before .before .before .before .before .before .pre .0)
-    in (k, c .before .before .before .before .before .before .before .before .pre .1, omega arith)
+    in (k, (c .before .before .before .before .before .before .before .before .pre .1 .0, omega arith))
 
 same-length-3 : tie.Need-same-length-3
 same-length-3 c = search needs

@@ -59,17 +59,13 @@ same-length-6 : tie.Need-same-length-6 Inv-loop μ-loop
 same-length-6 c = c .before .before .loop .inv .4 .wrote .long
 
 returns : tie.Need-returns Inv-loop μ-loop
-returns c = (c .before .before .loop .inv .4, omega arith, omega arith, λ p q. omega (arith, c .before .before .loop .inv .4 .wrote .long))
+returns c = (c .before .before .loop .inv .4, (omega arith, (omega arith, λ p q. omega (arith, c .before .before .loop .inv .4 .wrote .long))))
 
 shared-slice-read-step : tie.Need-shared-slice-read-step Inv-loop μ-loop
 shared-slice-read-step c = search needs
 
 step-requires : tie.Need-step-requires Inv-loop μ-loop
-step-requires c κs = (
-  c .before .before .before .before .before .before .before .before .before .loop .inv .4 .good,
-  c .before .before .before .before .before .before .before .before .before .loop .inv .3,
-  omega arith,
-)
+step-requires c κs = (c .before .before .before .before .before .before .before .before .before .loop .inv .4 .good, (c .before .before .before .before .before .before .before .before .before .loop .inv .3, omega arith))
 
 add-i : tie.Need-add-i Inv-loop μ-loop
 add-i c =
@@ -120,7 +116,7 @@ same-length-12 : tie.Need-same-length-12 Inv-loop μ-loop
 same-length-12 c = c .before .loop .inv .4 .wrote .long
 
 returns-2 : tie.Need-returns-2 Inv-loop μ-loop
-returns-2 c = (c .before .loop .inv .4, omega arith, omega arith, λ p q. omega arith)
+returns-2 c = (c .before .loop .inv .4, (omega arith, (omega arith, λ p q. omega arith)))
 
 pub feed-spec : {M : Type 1} → statement M
 feed-spec =

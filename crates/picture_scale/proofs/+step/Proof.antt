@@ -41,14 +41,14 @@ step-step-requires t c κs = (omega arith, tt)
 
 step-mul-result :
     (t : ℕ) → step-lts.Need-mul-result (step-below t, step.Post) (step-at t) step.Post
-step-mul-result t c = omega (arith, c .step .ensures .2 (omega arith))
+step-mul-result t c = omega (arith, c .step .ensures .1 .1 .0 (omega arith))
 
 step-returns-5 : (t : ℕ) → step-lts.Need-returns-5 (step-below t, step.Post) (step-at t) step.Post
 step-returns-5 t c = (
   step-more _ _ (c .before .before .before .before .if1 .left) (omega arith) (c .step .ensures .0),
-  omega (arith, c .step .ensures .1),
-  λ h. omega (arith, c .step .ensures .2 (omega arith)),
-  omega (arith, c .step .ensures .2 (omega arith)),
+  omega (arith, c .step .ensures .1 .0),
+  λ h. omega (arith, c .step .ensures .1 .1 .0 (omega arith)),
+  omega (arith, c .step .ensures .1 .1 .0 (omega arith)),
 )
 
 pub +step-spec : {M : Type 1} → statement M

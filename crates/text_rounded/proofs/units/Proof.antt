@@ -54,15 +54,16 @@ power-requires-2 c κs = (omega arith, omega (arith, half-room (c .before .befor
 nearest-requires : tie.Need-nearest-requires
 nearest-requires c κs = (
   omega arith,
-  omega (
-    arith,
-    low-room (c .before .before .before .before .significand .result) (c .before .power .result)
-        (omega (arith, ten-power (c .before .before .before .before .before .args .d) (omega arith))),
-    high-room (c .before .before .before .before .significand .result) (c .before .power .result) (omega arith)
-        (omega (arith, ten-power (c .before .before .before .before .before .args .d) (omega arith))),
+  (
+    omega (
+      arith,
+      low-room (c .before .before .before .before .significand .result) (c .before .power .result)
+          (omega (arith, ten-power (c .before .before .before .before .before .args .d) (omega arith))),
+      high-room (c .before .before .before .before .significand .result) (c .before .power .result) (omega arith)
+          (omega (arith, ten-power (c .before .before .before .before .before .args .d) (omega arith))),
+    ),
+    (omega (arith, pow-pos (c .before .before .before .shift .result - 12)), omega (arith, half-room (c .before .before .before .shift .result) (omega arith))),
   ),
-  omega (arith, pow-pos (c .before .before .before .shift .result - 12)),
-  omega (arith, half-room (c .before .before .before .shift .result) (omega arith)),
 )
 
 returns-2 : tie.Need-returns-2

@@ -21,7 +21,7 @@ weighted-sum-requires : tie.Need-weighted-sum-requires
 weighted-sum-requires c κs =
     let a = c .before .before .before .args in
     let p = passed (a .step) (a .knots .now) (sym (c .before .before .verdict .ensures) ∙ c .enum-told .given .1) in
-    (p .step, p .many, p .knots)
+    (p .step, (p .many, p .knots))
 
 returns : tie.Need-returns
 unfolding mixtureOf

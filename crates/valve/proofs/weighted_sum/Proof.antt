@@ -13,25 +13,25 @@ shared-slice-copy-out-term : tie.Need-shared-slice-copy-out-term
 shared-slice-copy-out-term c = search needs
 
 term-requires : tie.Need-term-requires
-term-requires c κs = (c .before .row .ensures .few0, c .before .before .pre .2 .each 0 (lit< tt))
+term-requires c κs = (c .before .row .ensures .few0, c .before .before .pre .1 .1 .each 0 (lit< tt))
 
 shared-slice-copy-out-term-2 : tie.Need-shared-slice-copy-out-term-2
 shared-slice-copy-out-term-2 c = search needs
 
 term-requires-2 : tie.Need-term-requires-2
-term-requires-2 c κs = let s = c .before .before .before in (s .row .ensures .few1, s .before .pre .2 .each 1 (lit< tt))
+term-requires-2 c κs = let s = c .before .before .before in (s .row .ensures .few1, s .before .pre .1 .1 .each 1 (lit< tt))
 
 shared-slice-copy-out-term-3 : tie.Need-shared-slice-copy-out-term-3
 shared-slice-copy-out-term-3 c = search needs
 
 term-requires-3 : tie.Need-term-requires-3
-term-requires-3 c κs = let s = c .before .before .before .before .before in (s .row .ensures .few2, s .before .pre .2 .each 2 (lit< tt))
+term-requires-3 c κs = let s = c .before .before .before .before .before in (s .row .ensures .few2, s .before .pre .1 .1 .each 2 (lit< tt))
 
 shared-slice-copy-out-term-4 : tie.Need-shared-slice-copy-out-term-4
 shared-slice-copy-out-term-4 c = search needs
 
 term-requires-4 : tie.Need-term-requires-4
-term-requires-4 c κs = let s = c .before .before .before .before .before .before .before in (s .row .ensures .few3, s .before .pre .2 .each 3 (lit< tt))
+term-requires-4 c κs = let s = c .before .before .before .before .before .before .before in (s .row .ensures .few3, s .before .pre .1 .1 .each 3 (lit< tt))
 
 plus-requires : tie.Need-plus-requires
 plus-requires c κs =

@@ -28,7 +28,7 @@ sums-requires : tie.Need-sums-requires Inv-loop μ-loop
 sums-requires c κs = search needs
 
 put-last-requires : tie.Need-put-last-requires Inv-loop μ-loop
-put-last-requires c κs = (lit< tt, lit≤ tt, omega arith)
+put-last-requires c κs = (lit< tt, (lit≤ tt, omega arith))
 
 loop-holds : tie.Need-loop-holds Inv-loop μ-loop
 loop-holds c =
@@ -46,7 +46,7 @@ places-at : (c : tie.In-loop Inv-loop μ-loop)
     (c .before .before .before .before .before .before .before .before .before .before .args .stride)
     (length (c .before .before .before .before .before .before .before .before .before .before .args .out .now)) (c .before .loop .s)
 places-at c = let p = c .before .before .before .before .before .before .before .before .before .before .pre
-    in window-places _ _ _ _ _ (p .3) (p .4) (p .2) (p .5) (c .loop-test .taken)
+    in window-places _ _ _ _ _ (p .1 .1 .1 .0) (p .1 .1 .1 .1 .0) (p .1 .1 .0) (p .1 .1 .1 .1 .1) (c .loop-test .taken)
 
 mul-at : tie.Need-mul-at Inv-loop μ-loop
 mul-at c = let t = places-at c in omega arith
@@ -76,7 +76,7 @@ put-window-requires : tie.Need-put-window-requires Inv-loop μ-loop
 put-window-requires c κs =
     let t = places-at (c .before .before) in
     let p = c .before .before .before .before .before .before .before .before .before .before .before .before .pre in
-    (p .1, p .2, simp (length-take, length-drop) (omega arith), omega arith)
+    (p .1 .0, (p .1 .1 .0, (simp (length-take, length-drop) (omega arith), omega arith)))
 
 loop-less : tie.Need-loop-less Inv-loop μ-loop
 loop-less c = omega arith
@@ -87,7 +87,7 @@ loop-again c =
     let l = c .before .before .before .before .before .before .loop in (
       omega arith,
       c .before .before .put-window .kept .0 ∙ l .inv .1,
-      next-window (o .args .m .now) (o .args .step) (o .args .stride) (o .args .knots .now) (l .s) _ _ _ (o .pre .2) (l .inv .2)
+      next-window (o .args .m .now) (o .args .step) (o .args .stride) (o .args .knots .now) (l .s) _ _ _ (o .pre .1 .1 .0) (l .inv .2)
           (c .before .before .put-window .ensures),
     )
 
@@ -96,8 +96,8 @@ few-windows : (c : tie.After-loop Inv-loop μ-loop)
     .before .before .before .before .before .before .args .step * c .before .before .before .before .before .before .before .before .before .before
     .args .stride ≤ 16384
 few-windows c =
-    few-steps _ _ _ (c .before .before .before .before .before .before .before .before .before .before .pre .4)
-    (c .before .before .before .before .before .before .before .before .before .before .pre .2)
+    few-steps _ _ _ (c .before .before .before .before .before .before .before .before .before .before .pre .1 .1 .1 .1 .0)
+    (c .before .before .before .before .before .before .before .before .before .before .pre .1 .1 .0)
 
 mul-result : tie.Need-mul-result Inv-loop μ-loop
 mul-result c = let h = few-windows c in omega arith
@@ -114,7 +114,7 @@ returns c =
     let l = c .before .loop in (
       refl,
       all-windows (a .m .now) (a .step) (a .stride) (a .knots .now) (l .s) _ _ _ _
-          (c .before .before .before .before .before .before .before .before .before .before .pre .2) (omega arith)
+          (c .before .before .before .before .before .before .before .before .before .before .pre .1 .1 .0) (omega arith)
           (first-window (a .m .now) (a .step) (a .stride) (a .knots .now) _ (a .out .now) _ (c .before .before .before .before .before .sums .ensures)
           (c .before .before .before .before .put-last .ensures)) (l .inv .2),
     )

@@ -19,11 +19,11 @@ step-requires-2 c κs = search needs
 
 mul-result : tie.Need-mul-result
 mul-result c =
-    omega (arith, few-steps (c .before .before .args .n) (c .before .step .result) (c .step2 .result) (c .before .before .pre .1) (c .step2 .ensures .2))
+    omega (arith, few-steps (c .before .before .args .n) (c .before .step .result) (c .step2 .result) (c .before .before .pre .1) (c .step2 .ensures .1 .1))
 
 add-result : tie.Need-add-result
 add-result c =
-    omega (arith, few-steps (c .before .before .args .n) (c .before .step .result) (c .step2 .result) (c .before .before .pre .1) (c .step2 .ensures .2))
+    omega (arith, few-steps (c .before .before .args .n) (c .before .step .result) (c .step2 .result) (c .before .before .pre .1) (c .step2 .ensures .1 .1))
 
 returns : tie.Need-returns
 returns c =

@@ -42,7 +42,7 @@ add-s : tie.Need-add-s Inv-loop μ-loop
 add-s c =
     let a = c .before .before .before .before .args in
     let t = window-places (length (a .knots .now)) (a .step) (a .stride) (4 + (length (a .knots .now) - 4) / a .step * a .stride) (c .before .loop .s)
-    (c .before .before .before .before .pre .3) (c .before .before .before .before .pre .4) (c .before .before .before .before .pre .2)
+    (c .before .before .before .before .pre .1 .1 .1 .0) (c .before .before .before .before .pre .1 .1 .1 .1) (c .before .before .before .before .pre .1 .1 .0)
     (le-of-eq refl) (c .loop-test .taken) in
     omega arith
 
@@ -50,7 +50,7 @@ mul-start : tie.Need-mul-start Inv-loop μ-loop
 mul-start c =
     let a = c .before .before .before .before .args in
     let t = window-places (length (a .knots .now)) (a .step) (a .stride) (4 + (length (a .knots .now) - 4) / a .step * a .stride) (c .before .loop .s)
-    (c .before .before .before .before .pre .3) (c .before .before .before .before .pre .4) (c .before .before .before .before .pre .2)
+    (c .before .before .before .before .pre .1 .1 .1 .0) (c .before .before .before .before .pre .1 .1 .1 .1) (c .before .before .before .before .pre .1 .1 .0)
     (le-of-eq refl) (c .loop-test .taken) in
     omega arith
 
@@ -58,7 +58,7 @@ mul-sums : tie.Need-mul-sums Inv-loop μ-loop
 mul-sums c =
     let a = c .before .before .before .before .args in
     let t = window-places (length (a .knots .now)) (a .step) (a .stride) (4 + (length (a .knots .now) - 4) / a .step * a .stride) (c .before .loop .s)
-    (c .before .before .before .before .pre .3) (c .before .before .before .before .pre .4) (c .before .before .before .before .pre .2)
+    (c .before .before .before .before .pre .1 .1 .1 .0) (c .before .before .before .before .pre .1 .1 .1 .1) (c .before .before .before .before .pre .1 .1 .0)
     (le-of-eq refl) (c .loop-test .taken) in
     omega arith
 
@@ -66,7 +66,7 @@ sub-sums : tie.Need-sub-sums Inv-loop μ-loop
 sub-sums c =
     let a = c .before .before .before .before .args in
     let t = window-places (length (a .knots .now)) (a .step) (a .stride) (4 + (length (a .knots .now) - 4) / a .step * a .stride) (c .before .loop .s)
-    (c .before .before .before .before .pre .3) (c .before .before .before .before .pre .4) (c .before .before .before .before .pre .2)
+    (c .before .before .before .before .pre .1 .1 .1 .0) (c .before .before .before .before .pre .1 .1 .1 .1) (c .before .before .before .before .pre .1 .1 .0)
     (le-of-eq refl) (c .loop-test .taken) in
     omega arith
 
@@ -74,7 +74,7 @@ part-sums-start : tie.Need-part-sums-start Inv-loop μ-loop
 part-sums-start c =
     let a = c .before .before .before .before .args in
     let t = window-places (length (a .knots .now)) (a .step) (a .stride) (4 + (length (a .knots .now) - 4) / a .step * a .stride) (c .before .loop .s)
-    (c .before .before .before .before .pre .3) (c .before .before .before .before .pre .4) (c .before .before .before .before .pre .2)
+    (c .before .before .before .before .pre .1 .1 .1 .0) (c .before .before .before .before .pre .1 .1 .1 .1) (c .before .before .before .before .pre .1 .1 .0)
     (le-of-eq refl) (c .loop-test .taken) in
     omega arith
 
@@ -82,7 +82,7 @@ part-sums-end : tie.Need-part-sums-end Inv-loop μ-loop
 part-sums-end c =
     let a = c .before .before .before .before .args in
     let t = window-places (length (a .knots .now)) (a .step) (a .stride) (4 + (length (a .knots .now) - 4) / a .step * a .stride) (c .before .loop .s)
-    (c .before .before .before .before .pre .3) (c .before .before .before .before .pre .4) (c .before .before .before .before .pre .2)
+    (c .before .before .before .before .pre .1 .1 .1 .0) (c .before .before .before .before .pre .1 .1 .1 .1) (c .before .before .before .before .pre .1 .1 .0)
     (le-of-eq refl) (c .loop-test .taken) in
     omega arith
 
@@ -90,32 +90,32 @@ sums-requires-2 : tie.Need-sums-requires-2 Inv-loop μ-loop
 sums-requires-2 c κs =
     let a = c .before .before .before .before .before .args in
     let t = window-places (length (a .knots .now)) (a .step) (a .stride) (4 + (length (a .knots .now) - 4) / a .step * a .stride) (c .before .before .loop .s)
-    (c .before .before .before .before .before .pre .3) (c .before .before .before .before .before .pre .4)
-    (c .before .before .before .before .before .pre .2) (le-of-eq refl) (c .before .loop-test .taken) in
+    (c .before .before .before .before .before .pre .1 .1 .1 .0) (c .before .before .before .before .before .pre .1 .1 .1 .1)
+    (c .before .before .before .before .before .pre .1 .1 .0) (le-of-eq refl) (c .before .loop-test .taken) in
     simp (length-take, length-drop) (omega arith)
 
 loses-requires : tie.Need-loses-requires Inv-loop μ-loop
-loses-requires c κs = (c .before .before .before .before .before .before .pre .1, c .before .before .before .before .before .before .pre .2)
+loses-requires c κs = (c .before .before .before .before .before .before .pre .1 .0, c .before .before .before .before .before .before .pre .1 .1 .0)
 
 returns : tie.Need-returns Inv-loop μ-loop
 returns c =
     let a = c .before .before .before .before .before .before .before .before .args in (
       seam-lost (a .m) (a .step) (a .stride) (a .allowance) (a .knots .now) _ (c .before .before .before .before .before .loop .s)
           (c .before .before .before .before .before .loop .held) (c .before .before .sums2 .result)
-          (c .before .before .before .before .before .before .before .before .pre .2) (c .before .before .before .before .loop-test .taken)
+          (c .before .before .before .before .before .before .before .before .pre .1 .1 .0) (c .before .before .before .before .loop-test .taken)
           (c .before .before .before .before .before .loop .inv .1) (c .before .before .sums2 .ensures)
           (c .before .before .before .before .before .loop .inv .2) (c .before .loses .result) (c .before .loses .ensures) (c .if1 .taken),
       omega (
         arith,
-        few (length (a .knots .now)) (a .step) (c .before .before .before .before .before .before .before .before .pre .4),
+        few (length (a .knots .now)) (a .step) (c .before .before .before .before .before .before .before .before .pre .1 .1 .1 .1),
         c .before .before .before .before .loop-test .taken,
       ),
     )
 
 shifted-requires : tie.Need-shifted-requires Inv-loop μ-loop
 shifted-requires c κs = (
-  c .before .before .before .before .before .before .before .before .pre .1,
-  c .before .before .before .before .before .before .before .before .pre .2,
+  c .before .before .before .before .before .before .before .before .pre .1 .0,
+  c .before .before .before .before .before .before .before .before .pre .1 .1 .0,
 )
 
 loop-less : tie.Need-loop-less Inv-loop μ-loop
@@ -126,14 +126,14 @@ loop-again c =
     let a = c .before .before .before .before .before .before .before .before .before .args in
     let u = next-held (a .m) (a .step) (a .stride) (a .allowance) (a .knots .now) _ (c .before .before .before .before .before .before .loop .s)
     (c .before .before .before .before .before .before .loop .held) (c .before .before .before .sums2 .result)
-    (c .before .before .before .before .before .before .before .before .before .pre .2)
+    (c .before .before .before .before .before .before .before .before .before .pre .1 .1 .0)
     (c .before .before .before .before .before .loop-test .taken) (c .before .before .before .before .before .before .loop .inv .1)
     (c .before .before .before .sums2 .ensures) _ (c .shifted .ensures) in (
       omega arith,
       u,
       seam-kept (a .m) (a .step) (a .stride) (a .allowance) (a .knots .now) _ (c .before .before .before .before .before .before .loop .s)
           (c .before .before .before .before .before .before .loop .held) (c .before .before .before .sums2 .result)
-          (c .before .before .before .before .before .before .before .before .before .pre .2)
+          (c .before .before .before .before .before .before .before .before .before .pre .1 .1 .0)
           (c .before .before .before .before .before .loop-test .taken) (c .before .before .before .before .before .before .loop .inv .1)
           (c .before .before .before .sums2 .ensures) (c .before .before .before .before .before .before .loop .inv .2)
           (c .before .before .loses .result) (c .before .before .loses .ensures) (c .before .if1 .left),

@@ -20,8 +20,7 @@ unfolding ofBits
 returns c = (
   (λ limit i e s ev k. round-width (weightingOf (c .before .before .before .before .args .m)) (hornerOf (c .before .before .before .before .args .w)) _ _
       _ _ _ _ limit i e s ev k (sym (c .before .if1 .taken) ∙ c .before .before .is-narrow .ensures) (c .lerp .ensures)),
-  omega arith,
-  omega arith,
+  (omega arith, omega arith),
 )
 
 weighed-requires : tie.Need-weighed-requires
@@ -55,8 +54,7 @@ returns-2 c = (
       (c .before .before .before .before .before .before .fraction .ensures) (c .before .before .before .before .before .lerp2 .ensures)
       (c .before .before .before .before .horner .ensures) (c .before .before .before .moved .ensures .0)
       (c .before .before .magnitude .ensures) (c .before .if2 .taken)),
-  omega arith,
-  omega arith,
+  (omega arith, omega arith),
 )
 
 add-t24 : tie.Need-add-t24
@@ -71,8 +69,7 @@ returns-3 c = (
       (c .before .before .before .before .before .before .weighed .ensures) (c .before .before .before .before .before .fraction .ensures)
       (c .before .before .before .before .lerp2 .ensures) (c .before .before .before .horner .ensures)
       (c .before .before .moved .ensures .0) (c .before .magnitude .ensures) (c .if2 .left)),
-  omega (arith, c .before .before .moved .ensures .1),
-  omega arith,
+  (omega (arith, c .before .before .moved .ensures .1), omega arith),
 )
 
 pub round-spec : {M : Type 1} → statement M

@@ -18,31 +18,37 @@ step-requires c κs = search needs
 
 multiple-above-requires : tie.Need-multiple-above-requires
 multiple-above-requires c κs = (
-  c .before .step .ensures .1,
-  omega (arith, c .before .before .extent-of .ensures .1 .ordered, c .before .before .extent-of .ensures .1 .high),
-  omega (
-    arith,
-    c .before .step .ensures .2 (omega (arith, c .before .before .extent-of .ensures .1 .ordered)),
-    c .before .before .extent-of .ensures .1 .high,
+  c .before .step .ensures .1 .0,
+  (
+    omega (arith, c .before .before .extent-of .ensures .1 .ordered, c .before .before .extent-of .ensures .1 .high),
+    omega (
+      arith,
+      c .before .step .ensures .1 .1 .0 (omega (arith, c .before .before .extent-of .ensures .1 .ordered)),
+      c .before .before .extent-of .ensures .1 .high,
+    ),
   ),
 )
 
 put-depths-requires : tie.Need-put-depths-requires
 put-depths-requires c κs = (
   c .before .before .before .extent-of .ensures .1,
-  omega (
-    arith,
-    c .before .before .step .ensures .2 (omega (arith, c .before .before .before .extent-of .ensures .1 .ordered)),
-    c .before .before .before .extent-of .ensures .1 .high,
+  (
+    omega (
+      arith,
+      c .before .before .step .ensures .1 .1 .0 (omega (arith, c .before .before .before .extent-of .ensures .1 .ordered)),
+      c .before .before .before .extent-of .ensures .1 .high,
+    ),
+    (
+      omega (
+        arith,
+        c .multiple-above .ensures .1,
+        c .before .before .step .ensures .1 .1 .0 (omega (arith, c .before .before .before .extent-of .ensures .1 .ordered)),
+        c .before .before .before .extent-of .ensures .1 .ordered,
+        c .before .before .before .extent-of .ensures .1 .high,
+      ),
+      omega arith,
+    ),
   ),
-  omega (
-    arith,
-    c .multiple-above .ensures .1,
-    c .before .before .step .ensures .2 (omega (arith, c .before .before .before .extent-of .ensures .1 .ordered)),
-    c .before .before .before .extent-of .ensures .1 .ordered,
-    c .before .before .before .extent-of .ensures .1 .high,
-  ),
-  omega arith,
 )
 
 slice-aggregate-put-word : tie.Need-slice-aggregate-put-word
@@ -54,14 +60,16 @@ put-word-requires c κs = search needs
 put-knots-requires : tie.Need-put-knots-requires
 put-knots-requires c κs = (
   c .before .before .before .before .before .before .before .before .before .before .before .before .before .before .before .pre .0,
-  c .before .before .before .before .before .before .before .before .before .before .before .before .extent-of .ensures .1,
-  omega (
-    arith,
-    c .before .before .before .before .before .before .before .before .before .before .before .before .before .before .before .pre .1,
-    c .before .before .before .before .before .before .before .before .put-depths .ensures .1,
-    c .before .before .before .put-word .ensures .next,
-    c .before .before .before .before .before .before .before .before .put-depths .ensures .0 .long,
-    c .before .before .before .put-word .ensures .long,
+  (
+    c .before .before .before .before .before .before .before .before .before .before .before .before .extent-of .ensures .1,
+    omega (
+      arith,
+      c .before .before .before .before .before .before .before .before .before .before .before .before .before .before .before .pre .1,
+      c .before .before .before .before .before .before .before .before .put-depths .ensures .1,
+      c .before .before .before .put-word .ensures .next,
+      c .before .before .before .before .before .before .before .before .put-depths .ensures .0 .long,
+      c .before .before .before .put-word .ensures .long,
+    ),
   ),
 )
 
@@ -90,24 +98,26 @@ put-points-requires : tie.Need-put-points-requires
 put-points-requires c κs = (
   c .before .before .before .before .before .before .before .before .before .before .before .before .before .before .before .before .before .before
       .before .before .before .before .extent-of .ensures .1,
-  c .pieces .ensures .1,
-  omega (
-    arith,
-    c .before .before .before .before .before .before .before .before .before .before .before .before .before .before .before .before .before
-        .before .before .before .before .before .before .before .before .pre .1,
-    c .before .before .before .before .before .before .before .before .before .before .before .before .before .before .before .before
-        .before .before .put-depths .ensures .1,
-    c .before .before .before .before .before .before .before .before .before .before .before .before .before .put-word .ensures
-        .next,
-    c .before .before .before .before .before .before .before .before .before .put-knots .ensures .1,
-    c .before .before .before .before .put-word2 .ensures .next,
-    c .before .before .before .before .before .before .before .before .before .before .before .before .before
-        .before .before .before .before .before .put-depths .ensures .0 .long,
-    c .before .before .before .before .before .before .before .before .before .before .before .before
-        .before .put-word .ensures .long,
-    c .before .before .before .before .before .before .before .before .before .put-knots .ensures .0
-        .long,
-    c .before .before .before .before .put-word2 .ensures .long,
+  (
+    c .pieces .ensures .1,
+    omega (
+      arith,
+      c .before .before .before .before .before .before .before .before .before .before .before .before .before .before .before .before .before
+          .before .before .before .before .before .before .before .before .pre .1,
+      c .before .before .before .before .before .before .before .before .before .before .before .before .before .before .before .before
+          .before .before .put-depths .ensures .1,
+      c .before .before .before .before .before .before .before .before .before .before .before .before .before .put-word .ensures
+          .next,
+      c .before .before .before .before .before .before .before .before .before .put-knots .ensures .1,
+      c .before .before .before .before .put-word2 .ensures .next,
+      c .before .before .before .before .before .before .before .before .before .before .before .before .before
+          .before .before .before .before .before .put-depths .ensures .0 .long,
+      c .before .before .before .before .before .before .before .before .before .before .before .before
+          .before .put-word .ensures .long,
+      c .before .before .before .before .before .before .before .before .before .put-knots .ensures .0
+          .long,
+      c .before .before .before .before .put-word2 .ensures .long,
+    ),
   ),
 )
 
@@ -144,46 +154,48 @@ put-finds-requires : tie.Need-put-finds-requires
 put-finds-requires c κs = (
   c .before .before .before .before .before .before .before .before .before .before .before .before .before .before .before .before .before .before
       .before .before .before .before .before .before .before .before .before .before .before .before .before .before .before .before .pre .0,
-  c .before .before .before .before .before .before .before .before .before .before .before .before .before .before .before .before .before
-      .before .before .before .before .before .before .before .before .before .before .before .before .before .before .extent-of .ensures .1,
-  omega (
-    arith,
-    c .before .before .before .before .before .before .before .before .before .before .before .before .before .before .before .before
-        .before .before .before .before .before .before .before .before .before .before .before .before .before .before .before .before
-        .before .before .pre .1,
-    c .before .before .before .before .before .before .before .before .before .before .before .before .before .before
-        .before .before .before .before .before .before .before .before .before .before .before .before .before .put-depths
-        .ensures .1,
-    c .before .before .before .before .before .before .before .before .before .before .before .before .before
-        .before .before .before .before .before .before .before .before .before .put-word .ensures .next,
-    c .before .before .before .before .before .before .before .before .before .before .before .before
-        .before .before .before .before .before .before .put-knots .ensures .1,
-    c .before .before .before .before .before .before .before .before .before .before .before
-        .before .before .put-word2 .ensures .next,
-    c .before .before .before .before .before .before .before .before .put-points
-        .ensures .1,
-    c .before .before .before .put-word3 .ensures .next,
-    c .before .before .before .before .before .before .before .before .before
-        .before .before .before .before .before .before .before .before .before
-        .before .before .before .before .before .before .before .before
-        .before .put-depths .ensures .0 .long,
-    c .before .before .before .before .before .before .before
-        .before .before .before .before .before .before .before
-        .before .before .before .before .before .before
-        .before .before .put-word .ensures .long,
-    c .before .before .before .before .before
-        .before .before .before .before .before
-        .before .before .before .before
-        .before .before .before .before
-        .put-knots .ensures .0
-        .long,
-    c .before .before
-        .before .before
-        .before
-        .before
-        .before .before .before .before .before .before .before .put-word2 .ensures .long,
-    c .before .before .before .before .before .before .before .before .put-points .ensures .0 .long,
-    c .before .before .before .put-word3 .ensures .long,
+  (
+    c .before .before .before .before .before .before .before .before .before .before .before .before .before .before .before .before .before
+        .before .before .before .before .before .before .before .before .before .before .before .before .before .before .extent-of .ensures .1,
+    omega (
+      arith,
+      c .before .before .before .before .before .before .before .before .before .before .before .before .before .before .before .before
+          .before .before .before .before .before .before .before .before .before .before .before .before .before .before .before .before
+          .before .before .pre .1,
+      c .before .before .before .before .before .before .before .before .before .before .before .before .before .before
+          .before .before .before .before .before .before .before .before .before .before .before .before .before .put-depths
+          .ensures .1,
+      c .before .before .before .before .before .before .before .before .before .before .before .before .before
+          .before .before .before .before .before .before .before .before .before .put-word .ensures .next,
+      c .before .before .before .before .before .before .before .before .before .before .before .before
+          .before .before .before .before .before .before .put-knots .ensures .1,
+      c .before .before .before .before .before .before .before .before .before .before .before
+          .before .before .put-word2 .ensures .next,
+      c .before .before .before .before .before .before .before .before .put-points
+          .ensures .1,
+      c .before .before .before .put-word3 .ensures .next,
+      c .before .before .before .before .before .before .before .before .before
+          .before .before .before .before .before .before .before .before .before
+          .before .before .before .before .before .before .before .before
+          .before .put-depths .ensures .0 .long,
+      c .before .before .before .before .before .before .before
+          .before .before .before .before .before .before .before
+          .before .before .before .before .before .before
+          .before .before .put-word .ensures .long,
+      c .before .before .before .before .before
+          .before .before .before .before .before
+          .before .before .before .before
+          .before .before .before .before
+          .put-knots .ensures .0
+          .long,
+      c .before .before
+          .before .before
+          .before
+          .before
+          .before .before .before .before .before .before .before .put-word2 .ensures .long,
+      c .before .before .before .before .before .before .before .before .put-points .ensures .0 .long,
+      c .before .before .before .put-word3 .ensures .long,
+    ),
   ),
 )
 

@@ -28,7 +28,7 @@ shared-slice-read-put-knot c = search needs
 
 put-knot-requires : tie.Need-put-knot-requires Inv-loop μ-loop
 put-knot-requires c κs =
-    (omega arith, omega arith, c .before .before .before .before .before .before .pre .1, omega (arith, c .before .before .before .loop .inv .2 .long))
+    (omega arith, (omega arith, (c .before .before .before .before .before .before .pre .1 .0, omega (arith, c .before .before .before .loop .inv .2 .long))))
 
 add-j : tie.Need-add-j Inv-loop μ-loop
 add-j c = search needs

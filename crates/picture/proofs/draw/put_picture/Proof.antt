@@ -22,7 +22,7 @@ step-requires c κs = search needs
 
 put-times-requires : tie.Need-put-times-requires
 put-times-requires c κs = (
-  omega (arith, c .before .before .stretch .ensures .1, c .before .step .ensures .3),
+  omega (arith, c .before .before .stretch .ensures .1, c .before .step .ensures .1 .1 .1),
   omega (
     arith,
     c .before .before .before .before .before .before .before .before .before .put-head .ensures .1,

@@ -22,25 +22,31 @@ put-find-requires-5 : tie.Need-put-find-requires-5
 put-find-requires-5 c κs = (
   c .before .before .before .before .before .before .before .before .before .before .before .before .before .before .before .before .before .before
       .before .pre .0,
-  c .before .before .before .before .before .before .before .before .before .before .before .before .before .before .before .before .before
-      .before .before .pre .1,
-  omega arith,
-  omega arith,
-  omega (
-    arith,
-    c .before .before .before .before .before .before .before .before .before .before .before .before .before .before .before .before
-        .before .before .before .pre .2,
-    c .before .before .before .before .before .before .before .before .before .before .before .before .before .before .before
-        .put-find .ensures .1,
-    c .before .before .before .before .before .before .before .before .before .before .before .put-find2 .ensures .1,
-    c .before .before .before .before .before .before .before .put-find3 .ensures .1,
-    c .before .before .before .put-find4 .ensures .1,
-    c .before .before .before .before .before .before .before .before .before .before .before .before
-        .before .before .before .put-find .ensures .0 .long,
-    c .before .before .before .before .before .before .before .before .before .before .before
-        .put-find2 .ensures .0 .long,
-    c .before .before .before .before .before .before .before .put-find3 .ensures .0 .long,
-    c .before .before .before .put-find4 .ensures .0 .long,
+  (
+    c .before .before .before .before .before .before .before .before .before .before .before .before .before .before .before .before .before
+        .before .before .pre .1 .0,
+    (
+      omega arith,
+      (
+        omega arith,
+        omega (
+          arith,
+          c .before .before .before .before .before .before .before .before .before .before .before .before .before .before .before .before
+              .before .before .before .pre .1 .1,
+          c .before .before .before .before .before .before .before .before .before .before .before .before .before .before .before
+              .put-find .ensures .1,
+          c .before .before .before .before .before .before .before .before .before .before .before .put-find2 .ensures .1,
+          c .before .before .before .before .before .before .before .put-find3 .ensures .1,
+          c .before .before .before .put-find4 .ensures .1,
+          c .before .before .before .before .before .before .before .before .before .before .before .before
+              .before .before .before .put-find .ensures .0 .long,
+          c .before .before .before .before .before .before .before .before .before .before .before
+              .put-find2 .ensures .0 .long,
+          c .before .before .before .before .before .before .before .put-find3 .ensures .0 .long,
+          c .before .before .before .put-find4 .ensures .0 .long,
+        ),
+      ),
+    ),
   ),
 )
 
@@ -48,31 +54,37 @@ put-find-requires-6 : tie.Need-put-find-requires-6
 put-find-requires-6 c κs = (
   c .before .before .before .before .before .before .before .before .before .before .before .before .before .before .before .before .before .before
       .before .before .before .before .before .pre .0,
-  c .before .before .before .before .before .before .before .before .before .before .before .before .before .before .before .before .before
-      .before .before .before .before .before .before .pre .1,
-  omega arith,
-  omega arith,
-  omega (
-    arith,
-    c .before .before .before .before .before .before .before .before .before .before .before .before .before .before .before .before
-        .before .before .before .before .before .before .before .pre .2,
-    c .before .before .before .before .before .before .before .before .before .before .before .before .before .before .before
-        .before .before .before .before .put-find .ensures .1,
-    c .before .before .before .before .before .before .before .before .before .before .before .before .before .before
-        .before .put-find2 .ensures .1,
-    c .before .before .before .before .before .before .before .before .before .before .before .put-find3
-        .ensures .1,
-    c .before .before .before .before .before .before .before .put-find4 .ensures .1,
-    c .before .before .before .put-find5 .ensures .1,
-    c .before .before .before .before .before .before .before .before .before .before .before
-        .before .before .before .before .before .before .before .before .put-find .ensures .0 .long,
-    c .before .before .before .before .before .before .before .before .before .before
-        .before .before .before .before .before .put-find2 .ensures .0 .long,
-    c .before .before .before .before .before .before .before .before .before
-        .before .before .put-find3 .ensures .0 .long,
-    c .before .before .before .before .before .before .before .put-find4
-        .ensures .0 .long,
-    c .before .before .before .put-find5 .ensures .0 .long,
+  (
+    c .before .before .before .before .before .before .before .before .before .before .before .before .before .before .before .before .before
+        .before .before .before .before .before .before .pre .1 .0,
+    (
+      omega arith,
+      (
+        omega arith,
+        omega (
+          arith,
+          c .before .before .before .before .before .before .before .before .before .before .before .before .before .before .before .before
+              .before .before .before .before .before .before .before .pre .1 .1,
+          c .before .before .before .before .before .before .before .before .before .before .before .before .before .before .before
+              .before .before .before .before .put-find .ensures .1,
+          c .before .before .before .before .before .before .before .before .before .before .before .before .before .before
+              .before .put-find2 .ensures .1,
+          c .before .before .before .before .before .before .before .before .before .before .before .put-find3
+              .ensures .1,
+          c .before .before .before .before .before .before .before .put-find4 .ensures .1,
+          c .before .before .before .put-find5 .ensures .1,
+          c .before .before .before .before .before .before .before .before .before .before .before
+              .before .before .before .before .before .before .before .before .put-find .ensures .0 .long,
+          c .before .before .before .before .before .before .before .before .before .before
+              .before .before .before .before .before .put-find2 .ensures .0 .long,
+          c .before .before .before .before .before .before .before .before .before
+              .before .before .put-find3 .ensures .0 .long,
+          c .before .before .before .before .before .before .before .put-find4
+              .ensures .0 .long,
+          c .before .before .before .put-find5 .ensures .0 .long,
+        ),
+      ),
+    ),
   ),
 )
 
@@ -80,42 +92,48 @@ put-find-requires-7 : tie.Need-put-find-requires-7
 put-find-requires-7 c κs = (
   c .before .before .before .before .before .before .before .before .before .before .before .before .before .before .before .before .before .before
       .before .before .before .before .before .before .before .before .before .pre .0,
-  c .before .before .before .before .before .before .before .before .before .before .before .before .before .before .before .before .before
-      .before .before .before .before .before .before .before .before .before .before .pre .1,
-  omega arith,
-  omega arith,
-  omega (
-    arith,
-    c .before .before .before .before .before .before .before .before .before .before .before .before .before .before .before .before
-        .before .before .before .before .before .before .before .before .before .before .before .pre .2,
-    c .before .before .before .before .before .before .before .before .before .before .before .before .before .before .before
-        .before .before .before .before .before .before .before .before .put-find .ensures .1,
-    c .before .before .before .before .before .before .before .before .before .before .before .before .before .before
-        .before .before .before .before .before .put-find2 .ensures .1,
-    c .before .before .before .before .before .before .before .before .before .before .before .before .before
-        .before .before .put-find3 .ensures .1,
-    c .before .before .before .before .before .before .before .before .before .before .before .put-find4
-        .ensures .1,
-    c .before .before .before .before .before .before .before .put-find5 .ensures .1,
-    c .before .before .before .put-find6 .ensures .1,
-    c .before .before .before .before .before .before .before .before .before .before
-        .before .before .before .before .before .before .before .before .before .before
-        .before .before .before .put-find .ensures .0 .long,
-    c .before .before .before .before .before .before .before .before .before
-        .before .before .before .before .before .before .before .before .before
-        .before .put-find2 .ensures .0 .long,
-    c .before .before .before .before .before .before .before
-        .before .before .before .before .before .before .before
-        .before .put-find3 .ensures .0 .long,
-    c .before .before .before .before .before .before
-        .before .before .before .before .before
-        .put-find4 .ensures .0 .long,
-    c .before .before .before .before
-        .before .before .before .put-find5
-        .ensures .0 .long,
-    c .before .before .before
-        .put-find6 .ensures .0
-        .long,
+  (
+    c .before .before .before .before .before .before .before .before .before .before .before .before .before .before .before .before .before
+        .before .before .before .before .before .before .before .before .before .before .pre .1 .0,
+    (
+      omega arith,
+      (
+        omega arith,
+        omega (
+          arith,
+          c .before .before .before .before .before .before .before .before .before .before .before .before .before .before .before .before
+              .before .before .before .before .before .before .before .before .before .before .before .pre .1 .1,
+          c .before .before .before .before .before .before .before .before .before .before .before .before .before .before .before
+              .before .before .before .before .before .before .before .before .put-find .ensures .1,
+          c .before .before .before .before .before .before .before .before .before .before .before .before .before .before
+              .before .before .before .before .before .put-find2 .ensures .1,
+          c .before .before .before .before .before .before .before .before .before .before .before .before .before
+              .before .before .put-find3 .ensures .1,
+          c .before .before .before .before .before .before .before .before .before .before .before .put-find4
+              .ensures .1,
+          c .before .before .before .before .before .before .before .put-find5 .ensures .1,
+          c .before .before .before .put-find6 .ensures .1,
+          c .before .before .before .before .before .before .before .before .before .before
+              .before .before .before .before .before .before .before .before .before .before
+              .before .before .before .put-find .ensures .0 .long,
+          c .before .before .before .before .before .before .before .before .before
+              .before .before .before .before .before .before .before .before .before
+              .before .put-find2 .ensures .0 .long,
+          c .before .before .before .before .before .before .before
+              .before .before .before .before .before .before .before
+              .before .put-find3 .ensures .0 .long,
+          c .before .before .before .before .before .before
+              .before .before .before .before .before
+              .put-find4 .ensures .0 .long,
+          c .before .before .before .before
+              .before .before .before .put-find5
+              .ensures .0 .long,
+          c .before .before .before
+              .put-find6 .ensures .0
+              .long,
+        ),
+      ),
+    ),
   ),
 )
 
@@ -123,49 +141,55 @@ put-find-requires-8 : tie.Need-put-find-requires-8
 put-find-requires-8 c κs = (
   c .before .before .before .before .before .before .before .before .before .before .before .before .before .before .before .before .before .before
       .before .before .before .before .before .before .before .before .before .before .before .before .before .pre .0,
-  c .before .before .before .before .before .before .before .before .before .before .before .before .before .before .before .before .before
-      .before .before .before .before .before .before .before .before .before .before .before .before .before .before .pre .1,
-  omega arith,
-  omega arith,
-  omega (
-    arith,
-    c .before .before .before .before .before .before .before .before .before .before .before .before .before .before .before
-        .before .before .before .before .before .before .before .before .before .before .before .before .before .before .before
-        .before .pre .2,
-    c .before .before .before .before .before .before .before .before .before .before .before .before .before .before
-        .before .before .before .before .before .before .before .before .before .before .before .before .before
-        .put-find .ensures .1,
-    c .before .before .before .before .before .before .before .before .before .before .before .before
-        .before .before .before .before .before .before .before .before .before .before .before .put-find2
-        .ensures .1,
-    c .before .before .before .before .before .before .before .before .before .before .before
-        .before .before .before .before .before .before .before .before .put-find3 .ensures .1,
-    c .before .before .before .before .before .before .before .before .before .before
-        .before .before .before .before .before .put-find4 .ensures .1,
-    c .before .before .before .before .before .before .before .before .before
-        .before .before .put-find5 .ensures .1,
-    c .before .before .before .before .before .before .before .put-find6
-        .ensures .1,
-    c .before .before .before .put-find7 .ensures .1,
-    c .before .before .before .before .before .before .before
-        .before .before .before .before .before .before .before
-        .before .before .before .before .before .before
-        .before .before .before .before .before .before
-        .before .put-find .ensures .0 .long,
-    c .before .before .before .before
-        .before .before .before .before
-        .before .before .before .before
-        .before .before .before
-        .before .before .before
-        .before .before
-        .before .before
-        .before
-        .put-find2 .ensures .0 .long,
-    c .before .before .before .before .before .before .before .before .before .before .before .before .before .before .before .before .before .before .before .put-find3 .ensures .0 .long,
-    c .before .before .before .before .before .before .before .before .before .before .before .before .before .before .before .put-find4 .ensures .0 .long,
-    c .before .before .before .before .before .before .before .before .before .before .before .put-find5 .ensures .0 .long,
-    c .before .before .before .before .before .before .before .put-find6 .ensures .0 .long,
-    c .before .before .before .put-find7 .ensures .0 .long,
+  (
+    c .before .before .before .before .before .before .before .before .before .before .before .before .before .before .before .before .before
+        .before .before .before .before .before .before .before .before .before .before .before .before .before .before .pre .1 .0,
+    (
+      omega arith,
+      (
+        omega arith,
+        omega (
+          arith,
+          c .before .before .before .before .before .before .before .before .before .before .before .before .before .before .before
+              .before .before .before .before .before .before .before .before .before .before .before .before .before .before .before
+              .before .pre .1 .1,
+          c .before .before .before .before .before .before .before .before .before .before .before .before .before .before
+              .before .before .before .before .before .before .before .before .before .before .before .before .before
+              .put-find .ensures .1,
+          c .before .before .before .before .before .before .before .before .before .before .before .before
+              .before .before .before .before .before .before .before .before .before .before .before .put-find2
+              .ensures .1,
+          c .before .before .before .before .before .before .before .before .before .before .before
+              .before .before .before .before .before .before .before .before .put-find3 .ensures .1,
+          c .before .before .before .before .before .before .before .before .before .before
+              .before .before .before .before .before .put-find4 .ensures .1,
+          c .before .before .before .before .before .before .before .before .before
+              .before .before .put-find5 .ensures .1,
+          c .before .before .before .before .before .before .before .put-find6
+              .ensures .1,
+          c .before .before .before .put-find7 .ensures .1,
+          c .before .before .before .before .before .before .before
+              .before .before .before .before .before .before .before
+              .before .before .before .before .before .before
+              .before .before .before .before .before .before
+              .before .put-find .ensures .0 .long,
+          c .before .before .before .before
+              .before .before .before .before
+              .before .before .before .before
+              .before .before .before
+              .before .before .before
+              .before .before
+              .before .before
+              .before
+              .put-find2 .ensures .0 .long,
+          c .before .before .before .before .before .before .before .before .before .before .before .before .before .before .before .before .before .before .before .put-find3 .ensures .0 .long,
+          c .before .before .before .before .before .before .before .before .before .before .before .before .before .before .before .put-find4 .ensures .0 .long,
+          c .before .before .before .before .before .before .before .before .before .before .before .put-find5 .ensures .0 .long,
+          c .before .before .before .before .before .before .before .put-find6 .ensures .0 .long,
+          c .before .before .before .put-find7 .ensures .0 .long,
+        ),
+      ),
+    ),
   ),
 )
 

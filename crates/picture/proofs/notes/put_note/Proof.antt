@@ -63,10 +63,9 @@ put-tail-requires c κs =
     in omega (
       arith,
       c .before .before .before .before .before .before .before .before .before .before .before .before .before .before .before
-          .before .before .before .before .before .before .before .before .before .before .before .before .before .pre .1,
+          .before .before .before .before .before .before .before .before .before .before .before .before .before .pre .1 .0,
       c .before .before .before .before .before .before .before .before .before .before .before .before .before .before
-          .before .before .before .before .before .before .before .before .before .before .before .before .before .before .pre
-          .2,
+          .before .before .before .before .before .before .before .before .before .before .before .before .before .before .pre .1 .1,
       c .before .before .before .before .before .before .before .before .before .before .before .before .before
           .before .before .before .before .before .before .before .before .before .before .put-number .ensures .1,
       c .before .before .before .before .before .before .before .before .before .before .before .before
@@ -120,7 +119,7 @@ returns c =
         c .before .before .before .before .before .before .before .before .before
             .before .before .before .before .before .before .before .before .before
             .before .before .before .before .before .before .before .before
-            .before .before .before .before .before .pre .1,
+            .before .before .before .before .before .pre .1 .0,
         c .before .before .before .before .before .before .before
             .before .before .before .before .before .before .before
             .before .before .before .before .before .before
