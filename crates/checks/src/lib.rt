@@ -11,6 +11,11 @@ use basis::Basis;
 use error::Refusal;
 use error::Verdict;
 
+// The most knots that a call takes.
+pub const MOST_KNOTS: usize = 4096;
+// The greatest magnitude of a knot: 2^40.
+const GREATEST: f64 = 1099511627776.0;
+
 // Refusals 1, 2 and 3 of a curve with n knots.
 pub fn curve_length(b: Basis, n: usize) -> Verdict
     ensures { λ r. ⌜ r ≡ first (curveLength b n) ⌝ }
@@ -21,7 +26,7 @@ pub fn curve_length(b: Basis, n: usize) -> Verdict
     if !basis::is_regular(b, n) {
         return Verdict::Failed(Refusal::BadPattern);
     }
-    if 4096 < n {
+    if MOST_KNOTS < n {
         return Verdict::Failed(Refusal::TooMany);
     }
     Verdict::Passed
@@ -43,11 +48,7 @@ pub fn segment_length(n: usize) -> Verdict
 pub fn in_range(x: f64) -> bool
     ensures { λ r. ⌜ r ≡ inRange x ⌝ }
 {
-    if -1099511627776.0 <= x {
-        x <= 1099511627776.0
-    } else {
-        false
-    }
+    if -GREATEST <= x { x <= GREATEST } else { false }
 }
 
 // No early exit: a flag is several times quicker on good knots.

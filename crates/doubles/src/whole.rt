@@ -17,16 +17,21 @@ pub fn lesser(a: usize, b: usize) -> usize
     if a < b { a } else { b }
 }
 
-// A guess at the whole part of y, 4096 at most. To y - 1/2, or very nearly that, 1.5 × 2^52 is added: in such a sum the last bit counts
-// units, so its bits less those of 1.5 × 2^52 are a whole number. Nothing rests on the guess: `whole_up_to` tests it by comparing.
+// 1.5 × 2^52, and its pattern: the last bit of a double of this size counts units.
+const UNITS: f64 = 6755399441055744.0;
+
+const UNITS_PATTERN: u64 = 4843621399236968448;
+
+// A guess at the whole part of y, 4096 at most. To y - 1/2, or very nearly that, UNITS is added: the bits of the sum less those of UNITS are
+// a whole number. Nothing rests on the guess: `whole_up_to` tests it by comparing.
 fn guess(y: f64) -> usize
     ensures { λ r. ⌜ r ≤ 4096 ⌝ }
 {
-    let g = (y - 0.4999999) + 6755399441055744.0;
+    let g = (y - 0.4999999) + UNITS;
     if g != g {
         return 0;
     }
-    let n = std::num::wrapping_sub_u64(f64::to_bits(g), 4843621399236968448);
+    let n = std::num::wrapping_sub_u64(f64::to_bits(g), UNITS_PATTERN);
     if n < 4096 { n as usize } else { 4096 }
 }
 

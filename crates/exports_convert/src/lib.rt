@@ -18,11 +18,11 @@ pub fn convert_segment(from: u8, to: u8, cv: &[f64], out: &mut [f64]) -> u32
 {
     let c = exports_reply::basis_of(from);
     let BasisChoice::Known(f) = c else {
-        return 255;
+        return exports_reply::UNKNOWN;
     };
     let d = exports_reply::basis_of(to);
     let BasisChoice::Known(t) = d else {
-        return 255;
+        return exports_reply::UNKNOWN;
     };
     exports_reply::conversion_reply(convert::convert_segment(f, t, cv, out))
 }
@@ -41,11 +41,11 @@ pub fn convert_spline(from: u8, to: u8, knots: &[f64], out: &mut [f64], written:
 {
     let c = exports_reply::basis_of(from);
     let BasisChoice::Known(f) = c else {
-        return 255;
+        return exports_reply::UNKNOWN;
     };
     let d = exports_reply::basis_of(to);
     let BasisChoice::Known(t) = d else {
-        return 255;
+        return exports_reply::UNKNOWN;
     };
     exports_reply::length_told(convert::convert_spline(f, t, knots, out), written)
 }
@@ -72,11 +72,11 @@ pub fn convert_spline_strict(
 {
     let c = exports_reply::basis_of(from);
     let BasisChoice::Known(f) = c else {
-        return 255;
+        return exports_reply::UNKNOWN;
     };
     let d = exports_reply::basis_of(to);
     let BasisChoice::Known(t) = d else {
-        return 255;
+        return exports_reply::UNKNOWN;
     };
     exports_reply::length_told(
         convert_strict::convert_spline_strict(f, t, knots, allowance, out),

@@ -26,7 +26,7 @@ pub fn spline_inverse(
 {
     let c = exports_reply::basis_of(basis);
     let BasisChoice::Known(b) = c else {
-        return 255;
+        return exports_reply::UNKNOWN;
     };
     exports_reply::place_told(inverse::spline_inverse(b, y, knots, check), place, whole)
 }
@@ -51,7 +51,7 @@ pub fn spline_inverse_with(
 {
     let c = exports_reply::basis_of(basis);
     let BasisChoice::Known(b) = c else {
-        return 255;
+        return exports_reply::UNKNOWN;
     };
     exports_reply::place_told(
         inverse::spline_inverse_with(b, y, knots, check, limit, precision),
@@ -82,11 +82,11 @@ pub fn spline_inverse_by(
 {
     let c = exports_reply::basis_of(basis);
     let BasisChoice::Known(b) = c else {
-        return 255;
+        return exports_reply::UNKNOWN;
     };
     let w = exports_reply::options::way_of(ends, method);
     let Way::Known(e, m) = w else {
-        return 255;
+        return exports_reply::UNKNOWN;
     };
     let o = Options {
         check: check,
@@ -115,7 +115,7 @@ pub fn spline_inverse_steady(
 {
     let c = exports_reply::basis_of(basis);
     let BasisChoice::Known(b) = c else {
-        return 255;
+        return exports_reply::UNKNOWN;
     };
     exports_reply::place_told(
         inverse::spline_inverse_steady(b, y, knots, check),

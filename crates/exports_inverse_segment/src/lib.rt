@@ -24,7 +24,7 @@ pub fn spline_inverse_segment(
 {
     let c = exports_reply::basis_of(basis);
     let BasisChoice::Known(b) = c else {
-        return 255;
+        return exports_reply::UNKNOWN;
     };
     exports_reply::place_told(
         inverse_methods::spline_inverse_segment(b, y, cv),
@@ -52,7 +52,7 @@ pub fn spline_inverse_segment_with(
 {
     let c = exports_reply::basis_of(basis);
     let BasisChoice::Known(b) = c else {
-        return 255;
+        return exports_reply::UNKNOWN;
     };
     exports_reply::place_told(
         inverse_methods::spline_inverse_segment_with(b, y, cv, limit, precision),
@@ -81,11 +81,11 @@ pub fn spline_inverse_segment_by(
 {
     let c = exports_reply::basis_of(basis);
     let BasisChoice::Known(b) = c else {
-        return 255;
+        return exports_reply::UNKNOWN;
     };
     let w = exports_reply::options::way_of(0, method);
     let Way::Known(_, m) = w else {
-        return 255;
+        return exports_reply::UNKNOWN;
     };
     exports_reply::place_told(
         inverse_methods::spline_inverse_segment_by(b, y, cv, limit, precision, m),
@@ -110,7 +110,7 @@ pub fn spline_inverse_segment_steady(
 {
     let c = exports_reply::basis_of(basis);
     let BasisChoice::Known(b) = c else {
-        return 255;
+        return exports_reply::UNKNOWN;
     };
     exports_reply::place_told(
         inverse_methods::spline_inverse_segment_steady(b, y, cv),

@@ -20,6 +20,9 @@ use spline::Evaluation;
 
 pub mod options;
 
+// What an export replies to a number that names no basis, no rule of the ends or no method.
+pub const UNKNOWN: u32 = 255;
+
 pub enum BasisChoice {
     Known(Basis),
     Unknown,

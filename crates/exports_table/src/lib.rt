@@ -88,7 +88,7 @@ pub fn table_spline_inverse(
 {
     let c = exports_reply::basis_of(basis);
     let BasisChoice::Known(b) = c else {
-        return 255;
+        return exports_reply::UNKNOWN;
     };
     let t = Table {
         basis: b,
@@ -124,11 +124,11 @@ pub fn table_spline_inverse_by(
 {
     let c = exports_reply::basis_of(basis);
     let BasisChoice::Known(b) = c else {
-        return 255;
+        return exports_reply::UNKNOWN;
     };
     let w = exports_reply::options::way_of(ends, method);
     let Way::Known(e, m) = w else {
-        return 255;
+        return exports_reply::UNKNOWN;
     };
     let o = Options {
         check: check,
@@ -163,7 +163,7 @@ pub fn table_spline_inverse_steady(
 {
     let c = exports_reply::basis_of(basis);
     let BasisChoice::Known(b) = c else {
-        return 255;
+        return exports_reply::UNKNOWN;
     };
     let t = Table {
         basis: b,
@@ -206,11 +206,11 @@ pub fn table_convert_spline(
 {
     let c = exports_reply::basis_of(from);
     let BasisChoice::Known(f) = c else {
-        return 255;
+        return exports_reply::UNKNOWN;
     };
     let d = exports_reply::basis_of(to);
     let BasisChoice::Known(t) = d else {
-        return 255;
+        return exports_reply::UNKNOWN;
     };
     let old = Table {
         basis: f,
@@ -255,11 +255,11 @@ pub fn table_convert_spline_strict(
 {
     let c = exports_reply::basis_of(from);
     let BasisChoice::Known(f) = c else {
-        return 255;
+        return exports_reply::UNKNOWN;
     };
     let d = exports_reply::basis_of(to);
     let BasisChoice::Known(t) = d else {
-        return 255;
+        return exports_reply::UNKNOWN;
     };
     let old = Table {
         basis: f,

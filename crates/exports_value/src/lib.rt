@@ -33,7 +33,7 @@ pub fn spline(basis: u8, x: f64, knots: &[f64], value: &mut f64) -> u32
 {
     let c = exports_reply::basis_of(basis);
     let BasisChoice::Known(b) = c else {
-        return 255;
+        return exports_reply::UNKNOWN;
     };
     exports_reply::value_told(spline::spline(b, x, knots), value)
 }
@@ -46,7 +46,7 @@ pub fn spline_segment(basis: u8, x: f64, cv: &[f64], value: &mut f64) -> u32
 {
     let c = exports_reply::basis_of(basis);
     let BasisChoice::Known(b) = c else {
-        return 255;
+        return exports_reply::UNKNOWN;
     };
     exports_reply::value_told(spline::spline_segment(b, x, cv), value)
 }
@@ -86,7 +86,7 @@ pub fn check_claim(
 {
     let c = exports_reply::basis_of(basis);
     let BasisChoice::Known(b) = c else {
-        return 255;
+        return exports_reply::UNKNOWN;
     };
     claimed_told(
         claim::check_claim(b, y, segment, x, precision, knots),
@@ -168,11 +168,11 @@ pub fn depth_at(
 {
     let c = exports_reply::basis_of(tb);
     let BasisChoice::Known(t) = c else {
-        return 255;
+        return exports_reply::UNKNOWN;
     };
     let e = exports_reply::basis_of(db);
     let BasisChoice::Known(d) = e else {
-        return 255;
+        return exports_reply::UNKNOWN;
     };
     sounded_told(
         uneven::depth_at(t, times, d, depths, y, limit, precision),

@@ -16,7 +16,10 @@ ghost use Rattle.inverse.specs.Contract.{EndedIs, SearchedIs, LocatedIs}
 use basis::Basis;
 use error::Verdict;
 use inverse_methods::Method;
+use inverse_methods::STEADY_LIMIT;
 use inverse_search::SearchResult;
+use inverse_segment::DEFAULT_LIMIT;
+use inverse_segment::DEFAULT_PRECISION;
 use inverse_segment::Ground;
 use inverse_segment::Inversion;
 use inverse_segment::Place;
@@ -268,7 +271,7 @@ pub fn spline_inverse_with(
 pub fn spline_inverse(b: Basis, y: f64, knots: &[f64], check: bool) -> Inversion
     ensures { λ r. ⌜ r ≡ inverseOf b y (now (knots .entry)) check defaultLimit defaultPrecision ⌝ }
 {
-    spline_inverse_with(b, y, knots, check, 32, 1e-10)
+    spline_inverse_with(b, y, knots, check, DEFAULT_LIMIT, DEFAULT_PRECISION)
 }
 
 // By the knots and by the steady method, with limit 64 and precision 1e-10: never spent.
@@ -277,8 +280,8 @@ pub fn spline_inverse_steady(b: Basis, y: f64, knots: &[f64], check: bool) -> In
 {
     let o = Options {
         check: check,
-        limit: 64,
-        precision: 1e-10,
+        limit: STEADY_LIMIT,
+        precision: DEFAULT_PRECISION,
         ends: EndsBy::Knots,
         method: Method::Steady,
     };

@@ -11,6 +11,8 @@ ghost use Rattle.inverse_methods.specs.Contract.{NextPlaceIs, RoundIs, R
 use basis::Basis;
 use error::Verdict;
 use inverse_segment::Bracket;
+use inverse_segment::DEFAULT_LIMIT;
+use inverse_segment::DEFAULT_PRECISION;
 use inverse_segment::Ground;
 use inverse_segment::Inversion;
 use inverse_segment::RoundResult;
@@ -249,12 +251,15 @@ pub fn spline_inverse_segment_with(
 pub fn spline_inverse_segment(b: Basis, y: f64, cv: &[f64]) -> Inversion
     ensures { λ r. ⌜ r ≡ inverseSegmentOf b y (now (cv .entry)) defaultLimit defaultPrecision ⌝ }
 {
-    spline_inverse_segment_with(b, y, cv, 32, 1e-10)
+    spline_inverse_segment_with(b, y, cv, DEFAULT_LIMIT, DEFAULT_PRECISION)
 }
 
-// By the steady method, with limit 64 and precision 1e-10: never spent.
+// The steady method's limit by default: more rounds than it makes at the default precision, so that it is never spent.
+pub const STEADY_LIMIT: u16 = 64;
+
+// By the steady method, with limit 64 and precision 1e-10.
 pub fn spline_inverse_segment_steady(b: Basis, y: f64, cv: &[f64]) -> Inversion
     ensures { λ r. ⌜ r ≡ steadySegmentOf b y (now (cv .entry)) ⌝ }
 {
-    spline_inverse_segment_by(b, y, cv, 64, 1e-10, Method::Steady)
+    spline_inverse_segment_by(b, y, cv, STEADY_LIMIT, DEFAULT_PRECISION, Method::Steady)
 }

@@ -28,6 +28,9 @@ pub fn count_of(a: SearchResult) -> u32
     }
 }
 
+// Up to so many segments are tried in order; more of them by halving.
+const IN_ORDER: usize = 12;
+
 // How many binary digits k has, up to its highest 1.
 pub fn bits(k: usize) -> u32
     ensures answer { λ r. ⌜ r ≡ bitsOf k ⌝ }
@@ -40,7 +43,7 @@ pub fn bits(k: usize) -> u32
 pub fn most_evaluations(k: usize, limit: u16) -> u32
     ensures { λ r. ⌜ r ≡ boundOf k limit ⌝ }
 {
-    if k <= 12 {
+    if k <= IN_ORDER {
         limit as u32 + 24
     } else {
         limit as u32 + 2 * bits(k) + 4
@@ -185,7 +188,7 @@ fn sought(
     ensures answer { λ r. ⌜ SoughtIs b (now (knots .entry)) y rising k (now (made .entry)) r (now (made .exit)) (now (ends .exit)) ⌝ }
     ensures count_after { λ _. ⌜ now (made .exit) ≤ 10000 ⌝ }
 {
-    if k <= 12 {
+    if k <= IN_ORDER {
         return tries(b, knots, y, k, 0, k, made, ends);
     }
     let lent = knots;

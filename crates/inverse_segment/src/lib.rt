@@ -13,6 +13,11 @@ use spline::RowSums;
 pub mod refusals;
 pub mod round;
 
+// The calls by default ask for at most so many rounds, and for this precision.
+pub const DEFAULT_LIMIT: u16 = 32;
+
+pub const DEFAULT_PRECISION: f64 = 1e-10;
+
 // Why an inversion stopped: the target lies at or beyond an end of the curve; a segment's start or end is within twice the precision of it;
 // the value at the place is within the precision; the bracket is narrower than the precision; or all rounds were made.
 pub enum Ground {

@@ -18,6 +18,8 @@ use error::Refusal;
 use inverse::EndsBy;
 use inverse::Options;
 use inverse_methods::Method;
+use inverse_segment::DEFAULT_LIMIT;
+use inverse_segment::DEFAULT_PRECISION;
 use inverse_segment::Inversion;
 use lines_record::Record;
 use lines_reply::LineReply;
@@ -55,8 +57,8 @@ fn place_of(t: Table, m: EndsBy, y: f64, knots: &[f64]) -> LineReply
     let b = t.basis;
     let o = Options {
         check: true,
-        limit: 32,
-        precision: 1e-10,
+        limit: DEFAULT_LIMIT,
+        precision: DEFAULT_PRECISION,
         ends: m,
         method: Method::AsCrate,
     };

@@ -13,6 +13,8 @@ use error::Refusal;
 use inverse::EndsBy;
 use inverse::Options;
 use inverse_methods::Method;
+use inverse_segment::DEFAULT_LIMIT;
+use inverse_segment::DEFAULT_PRECISION;
 use inverse_segment::Inversion;
 use inverse_segment::Place;
 use picture_scale::Extent;
@@ -119,8 +121,8 @@ fn put_find(
     }
     let o = Options {
         check: true,
-        limit: 32,
-        precision: 1e-10,
+        limit: DEFAULT_LIMIT,
+        precision: DEFAULT_PRECISION,
         ends: m,
         method: Method::AsCrate,
     };

@@ -38,7 +38,7 @@ pub extern "C" fn simmerstoat_table_spline(
     }
     let c = exports_reply::basis_of(basis);
     let BasisChoice::Known(b) = c else {
-        return 255;
+        return exports_reply::UNKNOWN;
     };
     error::reply(table::without_span(b, knots.len()))
 }

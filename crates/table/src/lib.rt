@@ -20,6 +20,9 @@ use error::Verdict;
 use inverse::EndsBy;
 use inverse::Options;
 use inverse_methods::Method;
+use inverse_methods::STEADY_LIMIT;
+use inverse_segment::DEFAULT_LIMIT;
+use inverse_segment::DEFAULT_PRECISION;
 use inverse_segment::Inversion;
 use inverse_segment::Place;
 use spline::Evaluation;
@@ -120,8 +123,8 @@ pub fn table_spline_inverse(t: Table, y: f64, knots: &[f64], check: bool) -> Tab
 {
     let o = Options {
         check: check,
-        limit: 32,
-        precision: 1e-10,
+        limit: DEFAULT_LIMIT,
+        precision: DEFAULT_PRECISION,
         ends: EndsBy::Knots,
         method: Method::AsCrate,
     };
@@ -134,8 +137,8 @@ pub fn table_spline_inverse_steady(t: Table, y: f64, knots: &[f64], check: bool)
 {
     let o = Options {
         check: check,
-        limit: 64,
-        precision: 1e-10,
+        limit: STEADY_LIMIT,
+        precision: DEFAULT_PRECISION,
         ends: EndsBy::Knots,
         method: Method::Steady,
     };
