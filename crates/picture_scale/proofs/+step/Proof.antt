@@ -21,16 +21,16 @@ abbrev step-below : ℕ → In 0 step-kinds.ps
 step-below t = and 0 step-kinds.ps (falls 0 step-kinds.ps _<_ μ-step t) step.Pre
 
 step-returns : (t : ℕ) → step-lts.Need-returns (step-below t, step.Post) (step-at t) step.Post
-step-returns t c = (step-none _ _ (c .if1 .taken), omega arith, λ h. omega arith, omega arith)
+step-returns t c = (step-none _ _ (c .if1 .taken), (omega arith, ((λ h. omega arith), omega arith)))
 
 step-returns-2 : (t : ℕ) → step-lts.Need-returns-2 (step-below t, step.Post) (step-at t) step.Post
-step-returns-2 t c = (step-5 _ _ (c .before .if1 .left) (omega arith), omega arith, λ h. omega arith, omega arith)
+step-returns-2 t c = (step-5 _ _ (c .before .if1 .left) (omega arith), (omega arith, ((λ h. omega arith), omega arith)))
 
 step-returns-3 : (t : ℕ) → step-lts.Need-returns-3 (step-below t, step.Post) (step-at t) step.Post
-step-returns-3 t c = (step-10 _ _ (c .before .before .if1 .left) (omega arith) (omega arith), omega arith, λ h. omega arith, omega arith)
+step-returns-3 t c = (step-10 _ _ (c .before .before .if1 .left) (omega arith) (omega arith), (omega arith, ((λ h. omega arith), omega arith)))
 
 step-returns-4 : (t : ℕ) → step-lts.Need-returns-4 (step-below t, step.Post) (step-at t) step.Post
-step-returns-4 t c = (step-25 _ _ (c .before .before .before .if1 .left) (omega arith) (omega arith), omega arith, λ h. omega arith, omega arith)
+step-returns-4 t c = (step-25 _ _ (c .before .before .before .if1 .left) (omega arith) (omega arith), (omega arith, ((λ h. omega arith), omega arith)))
 
 step-sub-step : (t : ℕ) → step-lts.Need-sub-step (step-below t, step.Post) (step-at t) step.Post
 step-sub-step t c = omega arith
@@ -46,9 +46,10 @@ step-mul-result t c = omega (arith, c .step .ensures .1 .1 .0 (omega arith))
 step-returns-5 : (t : ℕ) → step-lts.Need-returns-5 (step-below t, step.Post) (step-at t) step.Post
 step-returns-5 t c = (
   step-more _ _ (c .before .before .before .before .if1 .left) (omega arith) (c .step .ensures .0),
-  omega (arith, c .step .ensures .1 .0),
-  λ h. omega (arith, c .step .ensures .1 .1 .0 (omega arith)),
-  omega (arith, c .step .ensures .1 .1 .0 (omega arith)),
+  (
+    omega (arith, c .step .ensures .1 .0),
+    ((λ h. omega (arith, c .step .ensures .1 .1 .0 (omega arith))), omega (arith, c .step .ensures .1 .1 .0 (omega arith))),
+  ),
 )
 
 pub +step-spec : {M : Type 1} → statement M
