@@ -5,9 +5,9 @@ use simmerstoat::raw;
 
 use crate::compare::{hold, Input};
 use crate::inputs::{self, Rng, AWKWARD, PRECISIONS};
-use crate::model::{self, Options, Refused, STEP};
+use crate::model::{self, Options, RefusalNumber, STEP};
 use crate::parts::Part;
-use crate::port::{self, Inverted};
+use crate::port::{self, InversionReply};
 use crate::tally::{Call, Tally, DIFFERS, HOLDS, NO_NUMBER};
 
 pub const PART: Part = Part { once, knots };
@@ -21,7 +21,7 @@ pub struct Claim {
     pub precision: f64,
 }
 
-pub fn model(b: usize, c: &Claim, knots: &[f64]) -> Result<bool, Refused> {
+pub fn model(b: usize, c: &Claim, knots: &[f64]) -> Result<bool, RefusalNumber> {
     let k = model::curve_length(b, knots.len())?;
     if c.y.is_nan() || c.local.is_nan() {
         return Err(5.into());
@@ -49,7 +49,7 @@ pub fn port(b: u8, c: &Claim, knots: &[f64], old: bool) -> (u32, bool) {
     (reply, holds)
 }
 
-pub fn compare(t: &mut Tally, b: usize, c: &Claim, knots: &[f64]) -> Result<bool, Refused> {
+pub fn compare(t: &mut Tally, b: usize, c: &Claim, knots: &[f64]) -> Result<bool, RefusalNumber> {
     let input = Input { call: Call::CheckClaim, bases: &[b], at: c.y, knots, more: c };
     let expected = model(b, c, knots);
     for old in [false, true] {
@@ -66,7 +66,7 @@ pub fn compare(t: &mut Tally, b: usize, c: &Claim, knots: &[f64]) -> Result<bool
 }
 
 /// An answer of ours, claimed for its own segment, local place and precision.
-fn own(t: &mut Tally, b: usize, y: f64, knots: &[f64], o: &Options, i: &Inverted) {
+fn own(t: &mut Tally, b: usize, y: f64, knots: &[f64], o: &Options, i: &InversionReply) {
     if i.reply != 0 {
         return;
     }

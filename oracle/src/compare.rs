@@ -5,8 +5,8 @@ use std::fmt::Debug;
 use std::process;
 
 use crate::crates;
-use crate::model::{self, Ends, Fate, Inversion, Method, Options, Refused};
-use crate::port::{self, Converted, Inverted, Valued, UNTOUCHED, UNTOUCHED_WHOLE};
+use crate::model::{self, Ends, Fate, Inversion, Method, Options, RefusalNumber};
+use crate::port::{self, ConversionReply, InversionReply, ValueReply, UNTOUCHED, UNTOUCHED_WHOLE};
 use crate::promised;
 use crate::tally::{of_ground, of_reply, Call, Tally, PLAIN};
 
@@ -40,10 +40,10 @@ pub fn is_len_ok(t: &mut Tally, b: usize, n: usize) {
     t.add(Call::IsLenOk, PLAIN, true);
 }
 
-pub fn valued(answer: Result<f64, Refused>) -> Valued {
+pub fn valued(answer: Result<f64, RefusalNumber>) -> ValueReply {
     match answer {
-        Ok(v) => Valued { reply: 0, value: v.to_bits() },
-        Err(why) => Valued { reply: why.reply(), value: UNTOUCHED },
+        Ok(v) => ValueReply { reply: 0, value: v.to_bits() },
+        Err(why) => ValueReply { reply: why.reply(), value: UNTOUCHED },
     }
 }
 
@@ -53,7 +53,7 @@ pub fn spline(t: &mut Tally, b: usize, x: f64, knots: &[f64]) {
     hold("the model", &input, valued(model::spline(b, x, knots)), ours);
     let sent = ours.reply <= 2;
     if sent {
-        hold("the crate", &input, valued(crates::spline(b, x, knots).map_err(Refused::from)), ours);
+        hold("the crate", &input, valued(crates::spline(b, x, knots).map_err(RefusalNumber::from)), ours);
     }
     t.add(Call::Spline, of_reply(ours.reply), sent);
 }
@@ -69,14 +69,14 @@ pub fn spline_segment(t: &mut Tally, b: usize, x: f64, cv: &[f64]) {
     t.add(Call::SplineSegment, of_reply(ours.reply), sent);
 }
 
-pub fn inverted(i: &Inversion) -> Inverted {
+pub fn inverted(i: &Inversion) -> InversionReply {
     match i.answer {
-        Ok(p) => Inverted {
+        Ok(p) => InversionReply {
             reply: 0,
             place: [p.parameter, p.local, p.lower, p.upper].map(f64::to_bits),
             whole: [p.ground as usize, p.segment, i.count],
         },
-        Err(why) => Inverted {
+        Err(why) => InversionReply {
             reply: why.reply(),
             place: [UNTOUCHED; 4],
             whole: [UNTOUCHED_WHOLE, UNTOUCHED_WHOLE, if why.no == 11 { i.count } else { UNTOUCHED_WHOLE }],
@@ -85,7 +85,7 @@ pub fn inverted(i: &Inversion) -> Inverted {
 }
 
 /// The parameter's bits: all that the crate tells of an inversion.
-fn parameter(i: &Inverted) -> Option<u64> {
+fn parameter(i: &InversionReply) -> Option<u64> {
     (i.reply == 0).then_some(i.place[0])
 }
 
@@ -160,7 +160,7 @@ pub fn spline_inverse_segment(t: &mut Tally, b: usize, y: f64, cv: &[f64], o: &O
 }
 
 /// The buffer at exit: what was written, then what stood there.
-pub fn converted(answer: Result<&[f64], Refused>, room: usize, tells_length: bool) -> Converted {
+pub fn converted(answer: Result<&[f64], RefusalNumber>, room: usize, tells_length: bool) -> ConversionReply {
     let mut buffer: Vec<u64> = (0..room as u64 + 4).map(|i| UNTOUCHED + i).collect();
     let mut written = UNTOUCHED_WHOLE;
     if let Ok(out) = answer {
@@ -169,7 +169,7 @@ pub fn converted(answer: Result<&[f64], Refused>, room: usize, tells_length: boo
             written = out.len();
         }
     }
-    Converted { reply: answer.err().map_or(0, Refused::reply), written, buffer }
+    ConversionReply { reply: answer.err().map_or(0, RefusalNumber::reply), written, buffer }
 }
 
 pub fn convert_spline(t: &mut Tally, from: usize, to: usize, knots: &[f64], room: usize) {

@@ -5,21 +5,21 @@
 
 /// A refusal: its number, and where it tells one, the place of the first knot or segment at fault.
 #[derive(Clone, Copy, Debug, PartialEq, Eq)]
-pub struct Refused {
+pub struct RefusalNumber {
     pub no: u8,
     pub place: usize,
 }
 
-impl Refused {
+impl RefusalNumber {
     /// As the exports give it.
     pub fn reply(self) -> u32 {
         self.no as u32 + 256 * self.place as u32
     }
 }
 
-impl From<u8> for Refused {
-    fn from(no: u8) -> Refused {
-        Refused { no, place: 0 }
+impl From<u8> for RefusalNumber {
+    fn from(no: u8) -> RefusalNumber {
+        RefusalNumber { no, place: 0 }
     }
 }
 
@@ -70,7 +70,7 @@ pub struct Place {
 
 #[derive(Clone, Copy, Debug)]
 pub struct Inversion {
-    pub answer: Result<Place, Refused>,
+    pub answer: Result<Place, RefusalNumber>,
     pub count: usize,
     /// how many of the evaluations were made by rounds
     pub rounds: usize,
@@ -161,10 +161,10 @@ pub fn segment_length(n: usize) -> Result<(), u8> {
     }
 }
 
-pub fn knots_in_range(knots: &[f64]) -> Result<(), Refused> {
+pub fn knots_in_range(knots: &[f64]) -> Result<(), RefusalNumber> {
     match knots.iter().position(|k| k.is_nan() || k.abs() > LARGEST) {
         None => Ok(()),
-        Some(place) => Err(Refused { no: 4, place }),
+        Some(place) => Err(RefusalNumber { no: 4, place }),
     }
 }
 
@@ -186,7 +186,7 @@ pub fn value(b: usize, t: f64, cv: &[f64]) -> f64 {
     cubic(&sums(b, cv), t)
 }
 
-pub fn spline_segment(b: usize, x: f64, cv: &[f64]) -> Result<f64, Refused> {
+pub fn spline_segment(b: usize, x: f64, cv: &[f64]) -> Result<f64, RefusalNumber> {
     segment_length(cv.len())?;
     if !(0.0..=1.0).contains(&x) {
         return Err(5.into());
@@ -195,7 +195,7 @@ pub fn spline_segment(b: usize, x: f64, cv: &[f64]) -> Result<f64, Refused> {
     Ok(value(b, x, cv))
 }
 
-pub fn spline(b: usize, x: f64, knots: &[f64]) -> Result<f64, Refused> {
+pub fn spline(b: usize, x: f64, knots: &[f64]) -> Result<f64, RefusalNumber> {
     let k = curve_length(b, knots.len())?;
     if x.is_nan() {
         return Err(5.into());
@@ -215,7 +215,7 @@ pub fn spline(b: usize, x: f64, knots: &[f64]) -> Result<f64, Refused> {
 
 /// Evaluations made, and how many of them by rounds.
 #[derive(Clone, Copy, Default)]
-struct Made {
+struct Evaluations {
     count: usize,
     rounds: usize,
 }
@@ -289,27 +289,27 @@ impl Bracket {
 }
 
 /// What trying a segment comes to: its ends do not enclose the target, and the value of its start; or a place.
-enum Tried {
+enum Trial {
     Outside(f64),
     Inside(Place, Fate),
 }
 
 /// One segment, past the refusals of its arguments: its two ends are evaluated, once, and it is entered where they
 /// enclose the target.
-fn enter(lerp: Lerp, b: usize, y: f64, cv: &[f64], o: &Options, made: &mut Made) -> Tried {
+fn enter(lerp: Lerp, b: usize, y: f64, cv: &[f64], o: &Options, made: &mut Evaluations) -> Trial {
     let place = |ground, local, lower, upper| Place { parameter: local, ground, segment: 0, local, lower, upper };
     made.count += 2;
     let (v0, v1) = (value(b, 0.0, cv), value(b, 1.0, cv));
     let rising = v0 < v1;
     let (least, most) = if rising { (v0, v1) } else { (v1, v0) };
     if y < least || y > most {
-        return Tried::Outside(v0);
+        return Trial::Outside(v0);
     }
     if (y - v0).abs() < 2.0 * o.precision {
-        return Tried::Inside(place(Ground::Edge, 0.0, 0.0, 1.0), Fate::Answers);
+        return Trial::Inside(place(Ground::Edge, 0.0, 0.0, 1.0), Fate::Answers);
     }
     if (y - v1).abs() < 2.0 * o.precision {
-        return Tried::Inside(place(Ground::Edge, 1.0, 0.0, 1.0), Fate::Answers);
+        return Trial::Inside(place(Ground::Edge, 1.0, 0.0, 1.0), Fate::Answers);
     }
     let limit = o.limit as u64;
     let mut fate = if 3 * limit > 65_535 { Fate::LimitOverflows } else { Fate::Answers };
@@ -319,7 +319,7 @@ fn enter(lerp: Lerp, b: usize, y: f64, cv: &[f64], o: &Options, made: &mut Made)
         let (lower, upper) = (bracket.lower, bracket.upper);
         let width = (upper - lower).abs();
         if width < o.precision.max(width * 1e-12) {
-            return Tried::Inside(place(Ground::Width, lerp.at(lower, upper, 0.5), lower, upper), fate);
+            return Trial::Inside(place(Ground::Width, lerp.at(lower, upper, 0.5), lower, upper), fate);
         }
         let x = match o.method {
             Method::Steady => bracket.by_pace(lerp, y, allowed),
@@ -334,11 +334,11 @@ fn enter(lerp: Lerp, b: usize, y: f64, cv: &[f64], o: &Options, made: &mut Made)
             fate = Fate::SideOverflows;
         }
         if (v - y).abs() < o.precision {
-            return Tried::Inside(place(Ground::Value, x, bracket.lower, bracket.upper), fate);
+            return Trial::Inside(place(Ground::Value, x, bracket.lower, bracket.upper), fate);
         }
     }
     let Bracket { lower, upper, .. } = bracket;
-    Tried::Inside(place(Ground::Spent, lerp.at(lower, upper, 0.5), lower, upper), fate)
+    Trial::Inside(place(Ground::Spent, lerp.at(lower, upper, 0.5), lower, upper), fate)
 }
 
 fn asked(y: f64, o: &Options) -> Result<(), u8> {
@@ -354,11 +354,11 @@ fn asked(y: f64, o: &Options) -> Result<(), u8> {
     Ok(())
 }
 
-fn refused(why: Refused) -> Inversion {
+fn refused(why: RefusalNumber) -> Inversion {
     Inversion { answer: Err(why), count: 0, rounds: 0, fate: Fate::Answers }
 }
 
-fn segment_rows(y: f64, cv: &[f64], o: &Options) -> Result<(), Refused> {
+fn segment_rows(y: f64, cv: &[f64], o: &Options) -> Result<(), RefusalNumber> {
     segment_length(cv.len())?;
     asked(y, o)?;
     knots_in_range(cv)
@@ -368,10 +368,10 @@ pub fn spline_inverse_segment(b: usize, y: f64, cv: &[f64], o: &Options) -> Inve
     if let Err(why) = segment_rows(y, cv, o) {
         return refused(why);
     }
-    let mut made = Made::default();
+    let mut made = Evaluations::default();
     let (answer, fate) = match enter(Lerp::FromLower, b, y, cv, o, &mut made) {
-        Tried::Outside(_) => (Err(11.into()), Fate::Answers),
-        Tried::Inside(place, fate) => (Ok(place), fate),
+        Trial::Outside(_) => (Err(11.into()), Fate::Answers),
+        Trial::Inside(place, fate) => (Ok(place), fate),
     };
     Inversion { answer, count: made.count, rounds: made.rounds, fate }
 }
@@ -384,12 +384,12 @@ fn turns_back(knots: &[f64]) -> Option<usize> {
 }
 
 /// The rows of a curve's inversion; the number of segments where none applies.
-fn curve_rows(b: usize, y: f64, knots: &[f64], o: &Options) -> Result<usize, Refused> {
+fn curve_rows(b: usize, y: f64, knots: &[f64], o: &Options) -> Result<usize, RefusalNumber> {
     let k = curve_length(b, knots.len())?;
     asked(y, o)?;
     knots_in_range(knots)?;
     match turns_back(knots) {
-        Some(place) if o.check => Err(Refused { no: 10, place }),
+        Some(place) if o.check => Err(RefusalNumber { no: 10, place }),
         _ => Ok(k),
     }
 }
@@ -404,7 +404,7 @@ pub fn spline_inverse_by(lerp: Lerp, b: usize, y: f64, knots: &[f64], o: &Option
         Err(why) => return refused(why),
     };
     let n = knots.len();
-    let mut made = Made::default();
+    let mut made = Evaluations::default();
     let (rising, low, high) = match o.ends {
         Ends::Knots if STEP[b] == 1 => (knots[1] < knots[n - 2], knots[1], knots[n - 2]),
         Ends::Knots => (knots[1] < knots[n - 2], knots[0], knots[n - 1]),
@@ -431,7 +431,7 @@ pub fn spline_inverse_by(lerp: Lerp, b: usize, y: f64, knots: &[f64], o: &Option
 
 /// The segments of a curve, past the end rule.
 #[allow(clippy::too_many_arguments)]
-fn search(lerp: Lerp, b: usize, y: f64, knots: &[f64], k: usize, rising: bool, o: &Options, made: Made) -> Inversion {
+fn search(lerp: Lerp, b: usize, y: f64, knots: &[f64], k: usize, rising: bool, o: &Options, made: Evaluations) -> Inversion {
     let mut made = made;
     let mut tried = |s: usize| enter(lerp, b, y, &knots[s * STEP[b]..s * STEP[b] + 4], o, &mut made);
     let mut loops = false;
@@ -442,11 +442,11 @@ fn search(lerp: Lerp, b: usize, y: f64, knots: &[f64], k: usize, rising: bool, o
         while left <= right {
             let middle = (left + right) / 2;
             let start = match tried(middle) {
-                Tried::Inside(place, fate) => {
+                Trial::Inside(place, fate) => {
                     entered = Some((middle, place, fate));
                     break;
                 }
-                Tried::Outside(start) => start,
+                Trial::Outside(start) => start,
             };
             if if rising { y < start } else { y > start } {
                 if middle == 0 {
@@ -462,8 +462,8 @@ fn search(lerp: Lerp, b: usize, y: f64, knots: &[f64], k: usize, rising: bool, o
     }
     if entered.is_none() {
         entered = tries.into_iter().find_map(|s| match tried(s) {
-            Tried::Inside(place, fate) => Some((s, place, fate)),
-            Tried::Outside(_) => None,
+            Trial::Inside(place, fate) => Some((s, place, fate)),
+            Trial::Outside(_) => None,
         });
     }
     let (answer, fate) = match entered {
@@ -516,7 +516,7 @@ fn converted(from: usize, to: usize, knots: &[f64], k: usize) -> Vec<f64> {
     out
 }
 
-fn output(to: usize, knots: &[f64], needed: usize, room: usize) -> Result<(), Refused> {
+fn output(to: usize, knots: &[f64], needed: usize, room: usize) -> Result<(), RefusalNumber> {
     if to == 4 {
         return Err(8.into());
     }
@@ -526,13 +526,13 @@ fn output(to: usize, knots: &[f64], needed: usize, room: usize) -> Result<(), Re
     knots_in_range(knots)
 }
 
-pub fn convert_segment(from: usize, to: usize, cv: &[f64], room: usize) -> Result<Vec<f64>, Refused> {
+pub fn convert_segment(from: usize, to: usize, cv: &[f64], room: usize) -> Result<Vec<f64>, RefusalNumber> {
     segment_length(cv.len())?;
     output(to, cv, 4, room)?;
     Ok(converted(from, to, cv, 1))
 }
 
-pub fn convert_spline(from: usize, to: usize, knots: &[f64], room: usize) -> Result<Vec<f64>, Refused> {
+pub fn convert_spline(from: usize, to: usize, knots: &[f64], room: usize) -> Result<Vec<f64>, RefusalNumber> {
     let k = curve_length(from, knots.len())?;
     output(to, knots, 4 + (k - 1) * STEP[to], room)?;
     Ok(converted(from, to, knots, k))

@@ -40,7 +40,7 @@ fn knots(t: &mut Tally, r: &mut Rng, b: usize, knots: &[f64]) {
 /// A number that is no basis, no rule of the ends or no method, before all refusals.
 fn once(t: &mut Tally) {
     let knots = [0.0, 0.0, 1.0, 1.0];
-    let nothing = port::Inverted { reply: 255, place: [UNTOUCHED; 4], whole: [UNTOUCHED_WHOLE; 3] };
+    let nothing = port::InversionReply { reply: 255, place: [UNTOUCHED; 4], whole: [UNTOUCHED_WHOLE; 3] };
     for number in 0..=255u8 {
         for (b, ends, method) in [(number, 0, 0), (0, number, 0), (0, 0, number), (number, number, number)] {
             if b < 6 && ends < 2 && method < 3 {

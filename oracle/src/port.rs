@@ -14,14 +14,14 @@ fn untouched() -> f64 {
 
 /// A reply and a value's bits.
 #[derive(Clone, Copy, Debug, PartialEq, Eq)]
-pub struct Valued {
+pub struct ValueReply {
     pub reply: u32,
     pub value: u64,
 }
 
 /// A reply; the bits of parameter, local place, lower and upper end; ground, segment and count.
 #[derive(Clone, Copy, Debug, PartialEq, Eq)]
-pub struct Inverted {
+pub struct InversionReply {
     pub reply: u32,
     pub place: [u64; 4],
     pub whole: [usize; 3],
@@ -29,7 +29,7 @@ pub struct Inverted {
 
 /// A reply, the length written, and the bits of the whole buffer.
 #[derive(Clone, Debug, PartialEq, Eq)]
-pub struct Converted {
+pub struct ConversionReply {
     pub reply: u32,
     pub written: usize,
     pub buffer: Vec<u64>,
@@ -39,22 +39,22 @@ pub fn is_len_ok(b: u8, n: usize) -> u8 {
     unsafe { raw::simmerstoat_is_len_ok(b, n) }
 }
 
-pub fn spline(b: u8, x: f64, knots: &[f64]) -> Valued {
+pub fn spline(b: u8, x: f64, knots: &[f64]) -> ValueReply {
     let mut value = untouched();
     let reply = unsafe { raw::simmerstoat_spline(b, x, knots.as_ptr(), knots.len(), &mut value) };
-    Valued { reply, value: value.to_bits() }
+    ValueReply { reply, value: value.to_bits() }
 }
 
-pub fn spline_segment(b: u8, x: f64, cv: &[f64]) -> Valued {
+pub fn spline_segment(b: u8, x: f64, cv: &[f64]) -> ValueReply {
     let mut value = untouched();
     let reply = unsafe { raw::simmerstoat_spline_segment(b, x, cv.as_ptr(), cv.len(), &mut value) };
-    Valued { reply, value: value.to_bits() }
+    ValueReply { reply, value: value.to_bits() }
 }
 
-fn inverted(call: impl FnOnce(&mut [f64; 4], &mut [usize; 3]) -> u32) -> Inverted {
+fn inverted(call: impl FnOnce(&mut [f64; 4], &mut [usize; 3]) -> u32) -> InversionReply {
     let (mut place, mut whole) = ([untouched(); 4], [UNTOUCHED_WHOLE; 3]);
     let reply = call(&mut place, &mut whole);
-    Inverted { reply, place: place.map(f64::to_bits), whole }
+    InversionReply { reply, place: place.map(f64::to_bits), whole }
 }
 
 /// The rule of the ends and the method by their numbers.
@@ -68,85 +68,85 @@ pub fn spline_inverse_numbered(
     precision: f64,
     ends: u8,
     method: u8,
-) -> Inverted {
+) -> InversionReply {
     inverted(|place, whole| unsafe {
         let (at, n) = (knots.as_ptr(), knots.len());
         raw::simmerstoat_spline_inverse_by(b, y, at, n, check, limit, precision, ends, method, place, whole)
     })
 }
 
-pub fn spline_inverse_by(b: u8, y: f64, knots: &[f64], o: &Options) -> Inverted {
+pub fn spline_inverse_by(b: u8, y: f64, knots: &[f64], o: &Options) -> InversionReply {
     spline_inverse_numbered(b, y, knots, o.check, o.limit, o.precision, o.ends as u8, o.method as u8)
 }
 
 /// By the crate's rule of the ends and its method.
-pub fn spline_inverse_with(b: u8, y: f64, knots: &[f64], o: &Options) -> Inverted {
+pub fn spline_inverse_with(b: u8, y: f64, knots: &[f64], o: &Options) -> InversionReply {
     inverted(|place, whole| unsafe {
         let (at, n) = (knots.as_ptr(), knots.len());
         raw::simmerstoat_spline_inverse_with(b, y, at, n, o.check, o.limit, o.precision, place, whole)
     })
 }
 
-pub fn spline_inverse_default(b: u8, y: f64, knots: &[f64], check: bool) -> Inverted {
+pub fn spline_inverse_default(b: u8, y: f64, knots: &[f64], check: bool) -> InversionReply {
     inverted(|place, whole| unsafe {
         raw::simmerstoat_spline_inverse(b, y, knots.as_ptr(), knots.len(), check, place, whole)
     })
 }
 
 /// By the steady method with its defaults.
-pub fn spline_inverse_steady(b: u8, y: f64, knots: &[f64], check: bool) -> Inverted {
+pub fn spline_inverse_steady(b: u8, y: f64, knots: &[f64], check: bool) -> InversionReply {
     inverted(|place, whole| unsafe {
         raw::simmerstoat_spline_inverse_steady(b, y, knots.as_ptr(), knots.len(), check, place, whole)
     })
 }
 
-pub fn spline_inverse_segment_numbered(b: u8, y: f64, cv: &[f64], limit: u16, precision: f64, method: u8) -> Inverted {
+pub fn spline_inverse_segment_numbered(b: u8, y: f64, cv: &[f64], limit: u16, precision: f64, method: u8) -> InversionReply {
     inverted(|place, whole| unsafe {
         let (at, n) = (cv.as_ptr(), cv.len());
         raw::simmerstoat_spline_inverse_segment_by(b, y, at, n, limit, precision, method, place, whole)
     })
 }
 
-pub fn spline_inverse_segment_by(b: u8, y: f64, cv: &[f64], o: &Options) -> Inverted {
+pub fn spline_inverse_segment_by(b: u8, y: f64, cv: &[f64], o: &Options) -> InversionReply {
     spline_inverse_segment_numbered(b, y, cv, o.limit, o.precision, o.method as u8)
 }
 
 /// By the crate's method.
-pub fn spline_inverse_segment_with(b: u8, y: f64, cv: &[f64], o: &Options) -> Inverted {
+pub fn spline_inverse_segment_with(b: u8, y: f64, cv: &[f64], o: &Options) -> InversionReply {
     inverted(|place, whole| unsafe {
         let (at, n) = (cv.as_ptr(), cv.len());
         raw::simmerstoat_spline_inverse_segment_with(b, y, at, n, o.limit, o.precision, place, whole)
     })
 }
 
-pub fn spline_inverse_segment_default(b: u8, y: f64, cv: &[f64]) -> Inverted {
+pub fn spline_inverse_segment_default(b: u8, y: f64, cv: &[f64]) -> InversionReply {
     inverted(|place, whole| unsafe {
         raw::simmerstoat_spline_inverse_segment(b, y, cv.as_ptr(), cv.len(), place, whole)
     })
 }
 
 /// By the steady method with its defaults.
-pub fn spline_inverse_segment_steady(b: u8, y: f64, cv: &[f64]) -> Inverted {
+pub fn spline_inverse_segment_steady(b: u8, y: f64, cv: &[f64]) -> InversionReply {
     inverted(|place, whole| unsafe {
         raw::simmerstoat_spline_inverse_segment_steady(b, y, cv.as_ptr(), cv.len(), place, whole)
     })
 }
 
 /// A buffer of `room` places, and further ones behind it that no call may touch.
-fn converted(room: usize, call: impl FnOnce(&mut [f64], &mut usize) -> u32) -> Converted {
+fn converted(room: usize, call: impl FnOnce(&mut [f64], &mut usize) -> u32) -> ConversionReply {
     let mut buffer: Vec<f64> = (0..room as u64 + 4).map(|i| f64::from_bits(UNTOUCHED + i)).collect();
     let mut written = UNTOUCHED_WHOLE;
     let reply = call(&mut buffer[..room], &mut written);
-    Converted { reply, written, buffer: buffer.iter().map(|d| d.to_bits()).collect() }
+    ConversionReply { reply, written, buffer: buffer.iter().map(|d| d.to_bits()).collect() }
 }
 
-pub fn convert_segment(from: u8, to: u8, cv: &[f64], room: usize) -> Converted {
+pub fn convert_segment(from: u8, to: u8, cv: &[f64], room: usize) -> ConversionReply {
     converted(room, |out, _| unsafe {
         raw::simmerstoat_convert_segment(from, to, cv.as_ptr(), cv.len(), out.as_mut_ptr(), out.len())
     })
 }
 
-pub fn convert_spline(from: u8, to: u8, knots: &[f64], room: usize) -> Converted {
+pub fn convert_spline(from: u8, to: u8, knots: &[f64], room: usize) -> ConversionReply {
     converted(room, |out, written| unsafe {
         raw::simmerstoat_convert_spline(from, to, knots.as_ptr(), knots.len(), out.as_mut_ptr(), out.len(), written)
     })

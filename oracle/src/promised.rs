@@ -2,7 +2,7 @@
 //! with evaluations made anew.
 
 use crate::model::{self, Ends, Method, Options, STEP};
-use crate::port::Inverted;
+use crate::port::InversionReply;
 
 /// The most evaluations that an inversion of `k` segments may make.
 pub fn most_evaluations(k: usize, o: &Options) -> usize {
@@ -26,7 +26,7 @@ fn between(a: f64, y: f64, b: f64) -> bool {
 }
 
 /// The promise that a place breaks, if any. `rounds` is how many evaluations rounds made; `most` bounds the count.
-fn broken(b: usize, y: f64, knots: &[f64], o: &Options, i: &Inverted, rounds: usize, most: usize) -> Option<&'static str> {
+fn broken(b: usize, y: f64, knots: &[f64], o: &Options, i: &InversionReply, rounds: usize, most: usize) -> Option<&'static str> {
     let [parameter, local, lower, upper] = i.place.map(f64::from_bits);
     let [ground, segment, count] = i.whole;
     let limit = o.limit as usize;
@@ -60,7 +60,7 @@ fn broken(b: usize, y: f64, knots: &[f64], o: &Options, i: &Inverted, rounds: us
 }
 
 /// The same of any reply to an inversion of a curve.
-pub fn broken_by_curve(b: usize, y: f64, knots: &[f64], o: &Options, i: &Inverted, rounds: usize) -> Option<&'static str> {
+pub fn broken_by_curve(b: usize, y: f64, knots: &[f64], o: &Options, i: &InversionReply, rounds: usize) -> Option<&'static str> {
     if i.reply != 0 && i.reply != 11 {
         return None;
     }
@@ -76,7 +76,7 @@ pub fn broken_by_curve(b: usize, y: f64, knots: &[f64], o: &Options, i: &Inverte
 }
 
 /// The same of one segment.
-pub fn broken_by_segment(b: usize, y: f64, cv: &[f64], o: &Options, i: &Inverted, rounds: usize) -> Option<&'static str> {
+pub fn broken_by_segment(b: usize, y: f64, cv: &[f64], o: &Options, i: &InversionReply, rounds: usize) -> Option<&'static str> {
     match i.reply {
         0 if i.whole[0] == 0 => Some("one segment knows no end rule"),
         0 if i.whole[2] != rounds + 2 => Some("two ends and the rounds"),

@@ -6,9 +6,9 @@ use simmerstoat::raw;
 use crate::compare::{self, hold, Input};
 use crate::crates;
 use crate::inputs::{Rng, AWKWARD};
-use crate::model::{self, Refused, STEP};
+use crate::model::{self, RefusalNumber, STEP};
 use crate::parts::Part;
-use crate::port::{Converted, UNTOUCHED, UNTOUCHED_WHOLE};
+use crate::port::{ConversionReply, UNTOUCHED, UNTOUCHED_WHOLE};
 use crate::tally::{of_reply, Call, Tally};
 
 pub const PART: Part = Part { once, knots };
@@ -16,7 +16,7 @@ pub const PART: Part = Part { once, knots };
 const LINEAR: usize = 4;
 
 /// Refusals in the table's order: 1 2 3 8 17 9 4 15.
-pub fn model(from: usize, to: usize, knots: &[f64], allowance: f64, room: usize) -> Result<Vec<f64>, Refused> {
+pub fn model(from: usize, to: usize, knots: &[f64], allowance: f64, room: usize) -> Result<Vec<f64>, RefusalNumber> {
     let k = model::curve_length(from, knots.len())?;
     if to == LINEAR {
         return Err(8.into());
@@ -29,14 +29,14 @@ pub fn model(from: usize, to: usize, knots: &[f64], allowance: f64, room: usize)
         let window = model::convert_segment(from, to, &knots[s * STEP[from]..][..4], 4)?;
         let dropped = &window[..4 - STEP[to]];
         if dropped.iter().zip(&out[s * STEP[to]..]).any(|(a, b)| (a - b).abs() > allowance) {
-            return Err(Refused { no: 15, place: s });
+            return Err(RefusalNumber { no: 15, place: s });
         }
     }
     Ok(out)
 }
 
 /// A buffer of `room` places, and four behind it that no call may touch.
-fn port(from: u8, to: u8, knots: &[f64], allowance: f64, room: usize) -> Converted {
+fn port(from: u8, to: u8, knots: &[f64], allowance: f64, room: usize) -> ConversionReply {
     let mut buffer: Vec<f64> = (0..room as u64 + 4).map(|i| f64::from_bits(UNTOUCHED + i)).collect();
     let mut written = UNTOUCHED_WHOLE;
     // SAFETY: the pointers and lengths are of slices, and `written` is a local.
@@ -52,10 +52,10 @@ fn port(from: u8, to: u8, knots: &[f64], allowance: f64, room: usize) -> Convert
             &mut written,
         )
     };
-    Converted { reply, written, buffer: buffer.iter().map(|d| d.to_bits()).collect() }
+    ConversionReply { reply, written, buffer: buffer.iter().map(|d| d.to_bits()).collect() }
 }
 
-fn compare(t: &mut Tally, from: usize, to: usize, knots: &[f64], allowance: f64, room: usize) -> Converted {
+fn compare(t: &mut Tally, from: usize, to: usize, knots: &[f64], allowance: f64, room: usize) -> ConversionReply {
     let input = Input { call: Call::ConvertSplineStrict, bases: &[from, to], at: allowance, knots, more: &room };
     let ours = port(from as u8, to as u8, knots, allowance, room);
     let expected = model(from, to, knots, allowance, room);

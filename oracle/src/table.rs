@@ -4,9 +4,9 @@ use simmerstoat::raw;
 
 use crate::compare::{converted, hold, inverted, valued, Input};
 use crate::inputs::{self, Rng};
-use crate::model::{self, Ends, Fate, Inversion, Method, Options, Refused};
+use crate::model::{self, Ends, Fate, Inversion, Method, Options, RefusalNumber};
 use crate::parts::Part;
-use crate::port::{Converted, Valued, UNTOUCHED, UNTOUCHED_WHOLE};
+use crate::port::{ConversionReply, ValueReply, UNTOUCHED, UNTOUCHED_WHOLE};
 use crate::strict;
 use crate::tally::{of_ground, of_reply, Call, Tally};
 
@@ -18,7 +18,7 @@ const SPANS: [u32; 9] = [0, 1, 2, 3_600, 43_201, 86_399, 86_400, 86_401, u32::MA
 // ---- the model
 
 /// A span is looked at after the length, before all else.
-fn spanned(b: usize, n: usize, span: u32) -> Result<(), Refused> {
+fn spanned(b: usize, n: usize, span: u32) -> Result<(), RefusalNumber> {
     model::curve_length(b, n)?;
     if (1..=86_400).contains(&span) {
         Ok(())
@@ -42,37 +42,37 @@ fn inversion(b: usize, span: u32, y: f64, knots: &[f64], o: &Options) -> Inversi
 // ---- the port
 
 #[derive(Clone, Copy, Debug, PartialEq, Eq)]
-struct Timed {
+struct TimedReply {
     reply: u32,
     place: [u64; 4],
     whole: [usize; 4],
 }
 
-fn spline(b: u8, span: u32, x: f64, knots: &[f64]) -> Valued {
+fn spline(b: u8, span: u32, x: f64, knots: &[f64]) -> ValueReply {
     let mut value = f64::from_bits(UNTOUCHED);
     let reply = unsafe { raw::simmerstoat_table_spline(b, span, x, knots.as_ptr(), knots.len(), &mut value) };
-    Valued { reply, value: value.to_bits() }
+    ValueReply { reply, value: value.to_bits() }
 }
 
-fn timed(call: impl FnOnce(&mut [f64; 4], &mut [usize; 4]) -> u32) -> Timed {
+fn timed(call: impl FnOnce(&mut [f64; 4], &mut [usize; 4]) -> u32) -> TimedReply {
     let (mut place, mut whole) = ([f64::from_bits(UNTOUCHED); 4], [UNTOUCHED_WHOLE; 4]);
     let reply = call(&mut place, &mut whole);
-    Timed { reply, place: place.map(f64::to_bits), whole }
+    TimedReply { reply, place: place.map(f64::to_bits), whole }
 }
 
-fn spline_inverse(b: u8, span: u32, y: f64, knots: &[f64], check: bool) -> Timed {
+fn spline_inverse(b: u8, span: u32, y: f64, knots: &[f64], check: bool) -> TimedReply {
     timed(|place, whole| unsafe {
         raw::simmerstoat_table_spline_inverse(b, span, y, knots.as_ptr(), knots.len(), check, place, whole)
     })
 }
 
-fn spline_inverse_steady(b: u8, span: u32, y: f64, knots: &[f64], check: bool) -> Timed {
+fn spline_inverse_steady(b: u8, span: u32, y: f64, knots: &[f64], check: bool) -> TimedReply {
     timed(|place, whole| unsafe {
         raw::simmerstoat_table_spline_inverse_steady(b, span, y, knots.as_ptr(), knots.len(), check, place, whole)
     })
 }
 
-fn spline_inverse_by(b: u8, span: u32, y: f64, knots: &[f64], o: &Options, ends: u8, method: u8) -> Timed {
+fn spline_inverse_by(b: u8, span: u32, y: f64, knots: &[f64], o: &Options, ends: u8, method: u8) -> TimedReply {
     timed(|place, whole| unsafe {
         let (at, n) = (knots.as_ptr(), knots.len());
         raw::simmerstoat_table_spline_inverse_by(
@@ -81,17 +81,17 @@ fn spline_inverse_by(b: u8, span: u32, y: f64, knots: &[f64], o: &Options, ends:
     })
 }
 
-fn convert_spline(from: u8, span: u32, to: u8, knots: &[f64], room: usize) -> (Converted, u32) {
+fn convert_spline(from: u8, span: u32, to: u8, knots: &[f64], room: usize) -> (ConversionReply, u32) {
     let mut buffer: Vec<f64> = (0..room as u64 + 4).map(|i| f64::from_bits(UNTOUCHED + i)).collect();
     let (mut handed, mut written) = (77, UNTOUCHED_WHOLE);
     let reply = unsafe {
         let (at, n, out) = (knots.as_ptr(), knots.len(), buffer.as_mut_ptr());
         raw::simmerstoat_table_convert_spline(from, span, to, at, n, out, room, &mut handed, &mut written)
     };
-    (Converted { reply, written, buffer: buffer.into_iter().map(f64::to_bits).collect() }, handed)
+    (ConversionReply { reply, written, buffer: buffer.into_iter().map(f64::to_bits).collect() }, handed)
 }
 
-fn convert_spline_strict(from: u8, span: u32, to: u8, knots: &[f64], allowance: f64, room: usize) -> (Converted, u32) {
+fn convert_spline_strict(from: u8, span: u32, to: u8, knots: &[f64], allowance: f64, room: usize) -> (ConversionReply, u32) {
     let mut buffer: Vec<f64> = (0..room as u64 + 4).map(|i| f64::from_bits(UNTOUCHED + i)).collect();
     let (mut handed, mut written) = (77, UNTOUCHED_WHOLE);
     let reply = unsafe {
@@ -100,16 +100,16 @@ fn convert_spline_strict(from: u8, span: u32, to: u8, knots: &[f64], allowance: 
             from, span, to, at, n, allowance, out, room, &mut handed, &mut written,
         )
     };
-    (Converted { reply, written, buffer: buffer.into_iter().map(f64::to_bits).collect() }, handed)
+    (ConversionReply { reply, written, buffer: buffer.into_iter().map(f64::to_bits).collect() }, handed)
 }
 
 // ---- the comparison
 
-fn expected(i: &Inversion, span: u32) -> Timed {
+fn expected(i: &Inversion, span: u32) -> TimedReply {
     let base = inverted(i);
     let told = i.answer.map_or(UNTOUCHED_WHOLE, |p| second(span, p.parameter));
     let [ground, segment, count] = base.whole;
-    Timed { reply: base.reply, place: base.place, whole: [ground, segment, count, told] }
+    TimedReply { reply: base.reply, place: base.place, whole: [ground, segment, count, told] }
 }
 
 fn compare_inverse(t: &mut Tally, b: usize, span: u32, y: f64, knots: &[f64], o: &Options) {
@@ -172,16 +172,16 @@ fn once(t: &mut Tally) {
     const KNOTS: [f64; 4] = [0.0, 0.0, 1.0, 1.0];
     let o = Options::DEFAULT;
     let input = Input { call: Call::TableSplineInverse, bases: &[4], at: 0.5, knots: &KNOTS, more: &() };
-    let nothing = Timed { reply: 255, place: [UNTOUCHED; 4], whole: [UNTOUCHED_WHOLE; 4] };
+    let nothing = TimedReply { reply: 255, place: [UNTOUCHED; 4], whole: [UNTOUCHED_WHOLE; 4] };
     hold("no basis", &input, nothing, spline_inverse_by(6, 1, 0.5, &KNOTS, &o, 0, 0));
     hold("no ends", &input, nothing, spline_inverse_by(4, 1, 0.5, &KNOTS, &o, 2, 0));
     hold("no method", &input, nothing, spline_inverse_by(4, 1, 0.5, &KNOTS, &o, 0, 3));
     hold("no basis", &input, nothing, spline_inverse(255, 0, 0.5, &KNOTS, true));
     hold("no basis", &input, nothing, spline_inverse_steady(255, 0, 0.5, &KNOTS, true));
-    hold("no basis", &input, Valued { reply: 255, value: UNTOUCHED }, spline(6, 0, 0.5, &KNOTS));
-    hold("no basis", &input, converted(Err(Refused { no: 255, place: 0 }), 4, true), convert_spline(4, 1, 6, &KNOTS, 4).0);
+    hold("no basis", &input, ValueReply { reply: 255, value: UNTOUCHED }, spline(6, 0, 0.5, &KNOTS));
+    hold("no basis", &input, converted(Err(RefusalNumber { no: 255, place: 0 }), 4, true), convert_spline(4, 1, 6, &KNOTS, 4).0);
     let none = convert_spline_strict(4, 1, 6, &KNOTS, f64::NAN, 4).0;
-    hold("no basis", &input, converted(Err(Refused { no: 255, place: 0 }), 4, true), none);
+    hold("no basis", &input, converted(Err(RefusalNumber { no: 255, place: 0 }), 4, true), none);
     // a slope of 3 is lost at the seam, and may be with an allowance of 3
     for allowance in [0.0, 3.0, f64::NAN] {
         for span in SPANS {

@@ -6,7 +6,7 @@ use simmerstoat::raw;
 use crate::compare::{hold, Input};
 use crate::crates;
 use crate::inputs::{self, Rng};
-use crate::model::{self, Ends, Fate, Method, Options, Refused, STEP};
+use crate::model::{self, Ends, Fate, Method, Options, RefusalNumber, STEP};
 use crate::parts::Part;
 use crate::port::{UNTOUCHED, UNTOUCHED_WHOLE};
 use crate::tally::{of_ground, Call, Tally, NO_NUMBER};
@@ -22,18 +22,18 @@ type Table<'a> = (usize, &'a [f64]);
 /// A reply; the bits of the depth, and of parameter, local place, lower and upper end; ground, segment, the inversion's
 /// count and that of both.
 #[derive(Clone, Copy, Debug, PartialEq, Eq)]
-struct Sounded {
+struct DepthReply {
     reply: u32,
     depth: u64,
     place: [u64; 4],
     whole: [usize; 4],
 }
 
-const NOTHING: Sounded =
-    Sounded { reply: 0, depth: UNTOUCHED, place: [UNTOUCHED; 4], whole: [UNTOUCHED_WHOLE; 4] };
+const NOTHING: DepthReply =
+    DepthReply { reply: 0, depth: UNTOUCHED, place: [UNTOUCHED; 4], whole: [UNTOUCHED_WHOLE; 4] };
 
 /// Lengths and knots of the depths, and the number of segments.
-fn depths_refused(times: Table, depths: Table) -> Result<(), Refused> {
+fn depths_refused(times: Table, depths: Table) -> Result<(), RefusalNumber> {
     let k = model::curve_length(depths.0, depths.1.len())?;
     model::knots_in_range(depths.1)?;
     if model::curve_length(times.0, times.1.len()) != Ok(k) {
@@ -42,26 +42,26 @@ fn depths_refused(times: Table, depths: Table) -> Result<(), Refused> {
     Ok(())
 }
 
-fn model(times: Table, depths: Table, y: f64, o: &Options) -> (Sounded, usize, bool) {
+fn model(times: Table, depths: Table, y: f64, o: &Options) -> (DepthReply, usize, bool) {
     let i = model::spline_inverse(times.0, y, times.1, o);
     let answers = i.fate == Fate::Answers;
     match (i.answer, depths_refused(times, depths)) {
-        (Err(why), _) if why.no != 11 => (Sounded { reply: why.reply(), ..NOTHING }, why.no as usize, answers),
-        (_, Err(why)) => (Sounded { reply: DEPTHS + why.reply(), ..NOTHING }, why.no as usize, false),
+        (Err(why), _) if why.no != 11 => (DepthReply { reply: why.reply(), ..NOTHING }, why.no as usize, answers),
+        (_, Err(why)) => (DepthReply { reply: DEPTHS + why.reply(), ..NOTHING }, why.no as usize, false),
         (Err(why), Ok(())) => {
             let whole = [UNTOUCHED_WHOLE, UNTOUCHED_WHOLE, i.count, UNTOUCHED_WHOLE];
-            (Sounded { reply: why.reply(), whole, ..NOTHING }, 11, answers)
+            (DepthReply { reply: why.reply(), whole, ..NOTHING }, 11, answers)
         }
         (Ok(p), Ok(())) => {
             let depth = model::spline(depths.0, p.parameter, depths.1).expect("both tables passed").to_bits();
             let place = [p.parameter, p.local, p.lower, p.upper].map(f64::to_bits);
             let whole = [p.ground as usize, p.segment, i.count, i.count + 1];
-            (Sounded { reply: 0, depth, place, whole }, of_ground(p.ground), answers)
+            (DepthReply { reply: 0, depth, place, whole }, of_ground(p.ground), answers)
         }
     }
 }
 
-fn port(times: (u8, &[f64]), depths: (u8, &[f64]), y: f64, o: &Options) -> Sounded {
+fn port(times: (u8, &[f64]), depths: (u8, &[f64]), y: f64, o: &Options) -> DepthReply {
     let (mut depth, mut place, mut whole) =
         (f64::from_bits(UNTOUCHED), [f64::from_bits(UNTOUCHED); 4], [UNTOUCHED_WHOLE; 4]);
     // SAFETY: the pointers and lengths are of slices, and the rest are locals.
@@ -81,10 +81,10 @@ fn port(times: (u8, &[f64]), depths: (u8, &[f64]), y: f64, o: &Options) -> Sound
             &mut whole,
         )
     };
-    Sounded { reply, depth: depth.to_bits(), place: place.map(f64::to_bits), whole }
+    DepthReply { reply, depth: depth.to_bits(), place: place.map(f64::to_bits), whole }
 }
 
-fn compare(t: &mut Tally, times: Table, depths: Table, y: f64, o: &Options) -> Sounded {
+fn compare(t: &mut Tally, times: Table, depths: Table, y: f64, o: &Options) -> DepthReply {
     let more = (depths.1, o);
     let input = Input { call: Call::DepthAt, bases: &[times.0, depths.0], at: y, knots: times.1, more: &more };
     let ours = port((times.0 as u8, times.1), (depths.0 as u8, depths.1), y, o);
@@ -138,7 +138,7 @@ fn once(t: &mut Tally) {
     }
     for (a, d) in [(6, 2), (2, 7), (255, 255)] {
         let ours = port((a, &[]), (d, &[]), f64::NAN, &DEFAULT);
-        assert_eq!(ours, Sounded { reply: 255, ..NOTHING });
+        assert_eq!(ours, DepthReply { reply: 255, ..NOTHING });
         t.add(Call::DepthAt, NO_NUMBER, false);
     }
 }

@@ -23,7 +23,7 @@ impl<B> Copy for Table<B> {}
 
 /// An inversion's record, and the second of its place: the largest whole number not above parameter × span.
 #[derive(Clone, Copy, Debug, PartialEq)]
-pub struct Timed {
+pub struct TimedPlace {
     pub place: Place,
     pub second: u32,
 }
@@ -57,7 +57,7 @@ impl<B: Basis> Table<B> {
     /// assert_eq!(Table::<Linear>::new(0).spline_inverse(0.25, &knots), Err(Refusal::BadSpan));
     /// # Ok::<(), Refusal>(())
     /// ```
-    pub fn spline_inverse(self, y: f64, knots: &[f64]) -> Result<Timed, Refusal> {
+    pub fn spline_inverse(self, y: f64, knots: &[f64]) -> Result<TimedPlace, Refusal> {
         let (mut place, mut whole) = ([0.0; 4], [0; 4]);
         // SAFETY: the pointer and length are a slice's, and both records are locals.
         let reply = unsafe {
@@ -72,7 +72,7 @@ impl<B: Basis> Table<B> {
                 &mut whole,
             )
         };
-        timed(reply, place, whole)
+        timed_place(reply, place, whole)
     }
 
     /// The place where the curve is at `y` and its second, as the options say.
@@ -83,7 +83,7 @@ impl<B: Basis> Table<B> {
         y: f64,
         knots: &[f64],
         options: &SplineInverseOptions,
-    ) -> Result<Timed, Refusal> {
+    ) -> Result<TimedPlace, Refusal> {
         let (mut place, mut whole) = ([0.0; 4], [0; 4]);
         // SAFETY: as in `spline_inverse`.
         let reply = unsafe {
@@ -102,13 +102,13 @@ impl<B: Basis> Table<B> {
                 &mut whole,
             )
         };
-        timed(reply, place, whole)
+        timed_place(reply, place, whole)
     }
 
     /// The place where the curve is at `y` and its second, by the steady method with its defaults and the order check.
     ///
     /// Refusals: those of [`crate::spline_inverse_steady`], and `BadSpan` after the lengths.
-    pub fn spline_inverse_steady(self, y: f64, knots: &[f64]) -> Result<Timed, Refusal> {
+    pub fn spline_inverse_steady(self, y: f64, knots: &[f64]) -> Result<TimedPlace, Refusal> {
         let (mut place, mut whole) = ([0.0; 4], [0; 4]);
         // SAFETY: as in `spline_inverse`.
         let reply = unsafe {
@@ -123,7 +123,7 @@ impl<B: Basis> Table<B> {
                 &mut whole,
             )
         };
-        timed(reply, place, whole)
+        timed_place(reply, place, whole)
     }
 
     /// The table over `Out`, which has the same span, and how many knots of it were written into the lent buffer. On a
@@ -201,7 +201,7 @@ impl<B: Basis> Table<B> {
     }
 }
 
-fn timed(reply: u32, place: [f64; 4], whole: [usize; 4]) -> Result<Timed, Refusal> {
+fn timed_place(reply: u32, place: [f64; 4], whole: [usize; 4]) -> Result<TimedPlace, Refusal> {
     let [ground, segment, count, second] = whole;
-    found(reply, place, [ground, segment, count]).map(|place| Timed { place, second: second as u32 })
+    found(reply, place, [ground, segment, count]).map(|place| TimedPlace { place, second: second as u32 })
 }

@@ -4,15 +4,15 @@ use crate::{found, raw, Basis, Place, Refusal};
 
 /// The table that a refusal is of.
 #[derive(Clone, Copy, Debug, PartialEq, Eq)]
-pub enum Named {
+pub enum WhichTable {
     Times,
     Depths,
 }
 
 /// Why no depth is told: a refusal and its table. `UnequalSegments` is of the depths, `OffCurve` of the times.
 #[derive(Clone, Copy, Debug, PartialEq, Eq)]
-pub struct Refused {
-    pub table: Named,
+pub struct TableRefusal {
+    pub table: WhichTable,
     pub refusal: Refusal,
 }
 
@@ -41,7 +41,7 @@ pub struct Depth {
 /// assert!((there.depth - 4.2).abs() < 1e-6);
 /// assert_eq!(there.count, there.place.count + 1);
 /// ```
-pub fn depth_at<T: Basis, D: Basis>(y: f64, times: &[f64], depths: &[f64]) -> Result<Depth, Refused> {
+pub fn depth_at<T: Basis, D: Basis>(y: f64, times: &[f64], depths: &[f64]) -> Result<Depth, TableRefusal> {
     depth_at_with::<T, D>(y, times, depths, 32, 1e-10)
 }
 
@@ -52,7 +52,7 @@ pub fn depth_at_with<T: Basis, D: Basis>(
     depths: &[f64],
     limit: u16,
     precision: f64,
-) -> Result<Depth, Refused> {
+) -> Result<Depth, TableRefusal> {
     let (mut depth, mut place, mut whole) = (0.0, [0.0; 4], [0; 4]);
     // SAFETY: each pointer and length are a slice's, and the rest are locals.
     let reply = unsafe {
@@ -71,9 +71,9 @@ pub fn depth_at_with<T: Basis, D: Basis>(
             &mut whole,
         )
     };
-    let table = if reply & raw::OF_DEPTHS == 0 { Named::Times } else { Named::Depths };
+    let table = if reply & raw::OF_DEPTHS == 0 { WhichTable::Times } else { WhichTable::Depths };
     match found(reply & !raw::OF_DEPTHS, place, [whole[0], whole[1], whole[2]]) {
         Ok(place) => Ok(Depth { depth, place, count: whole[3] as u32 }),
-        Err(refusal) => Err(Refused { table, refusal }),
+        Err(refusal) => Err(TableRefusal { table, refusal }),
     }
 }

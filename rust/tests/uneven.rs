@@ -1,7 +1,7 @@
 //! The depth at a time: the example of the crate's documentation, which makes the two calls in turn, and the refusals.
 
 use simmerstoat::prelude::*;
-use simmerstoat::uneven::{depth_at, depth_at_with, Named, Refused};
+use simmerstoat::uneven::{depth_at, depth_at_with, WhichTable, TableRefusal};
 
 const TIMES: [f64; 6] = [0.0, 0.0, 0.1, 0.3, 1.0, 1.0];
 const DEPTHS: [f64; 6] = [0.0, 0.0, 1.3, 4.2, 3.2, 3.2];
@@ -25,8 +25,8 @@ fn the_two_calls_in_turn() {
 
 #[test]
 fn refusals() {
-    let of_times = |refusal| Err(Refused { table: Named::Times, refusal });
-    let of_depths = |refusal| Err(Refused { table: Named::Depths, refusal });
+    let of_times = |refusal| Err(TableRefusal { table: WhichTable::Times, refusal });
+    let of_depths = |refusal| Err(TableRefusal { table: WhichTable::Depths, refusal });
     let bad = [0.0, 0.0, f64::NAN, 0.3, 1.0, 1.0];
     let turning = [0.0, 0.0, 3.0, 2.0, 5.0, 5.0];
     // the times, whatever the depths are

@@ -209,9 +209,9 @@ fn no_bases(t: &mut Tally) {
     for b in 6..=255u8 {
         for cv in [&knots[..], &knots[..3], &[]] {
             for at in [0.5, f64::NAN] {
-                let valued = port::Valued { reply: 255, value: UNTOUCHED };
+                let valued = port::ValueReply { reply: 255, value: UNTOUCHED };
                 let inverted =
-                    port::Inverted { reply: 255, place: [UNTOUCHED; 4], whole: [UNTOUCHED_WHOLE; 3] };
+                    port::InversionReply { reply: 255, place: [UNTOUCHED; 4], whole: [UNTOUCHED_WHOLE; 3] };
                 assert_eq!(port::spline(b, at, cv), valued);
                 assert_eq!(port::spline_segment(b, at, cv), valued);
                 for limit in [0, 32] {
@@ -224,7 +224,7 @@ fn no_bases(t: &mut Tally) {
             }
             for (from, to) in [(b, 0), (0, b), (b, 4), (4, b), (b, b)] {
                 let buffer: Vec<u64> = (0..8).map(|i| UNTOUCHED + i).collect();
-                let converted = port::Converted { reply: 255, written: UNTOUCHED_WHOLE, buffer };
+                let converted = port::ConversionReply { reply: 255, written: UNTOUCHED_WHOLE, buffer };
                 assert_eq!(port::convert_spline(from, to, cv, 4), converted);
                 assert_eq!(port::convert_segment(from, to, cv, 4), converted);
             }
