@@ -15,12 +15,19 @@ reply-requires : tie.Need-reply-requires
 reply-requires c κs = search needs
 
 returns : tie.Need-returns
-returns c = search needs
+returns c =
+    let args = c .before .before .before .args in
+    let is = c .before .a .given .1 in (
+      sym (ap handedReply is),
+      (sym (ap (λ a. handedSpan a (args .handed .now)) is), sym (ap (λ a. handedLength a (args .written .now)) is)),
+    )
 
 returns-2 : tie.Need-returns-2
 returns-2 c = let args = c .before .before .before .before .args in
-    let is = c .before .before .a2 .given .1 in
-    (c .reply .ensures ∙ sym (ap handedReply is), (sym (ap (λ a. handedSpan a (args .handed .now)) is), sym (ap (λ a. handedLength a (args .written .now)) is)))
+    let is = c .before .before .a2 .given .1 in (
+      c .reply .ensures ∙ sym (ap handedReply is),
+      (sym (ap (λ a. handedSpan a (args .handed .now)) is), sym (ap (λ a. handedLength a (args .written .now)) is)),
+    )
 
 pub handed-told-spec : {M : Type 1} → statement M
 handed-told-spec =
