@@ -1,4 +1,4 @@
-// The exports of conversion, each under the contract of the export that calls it.
+// The exports of conversion: each function has the contract of the export that calls it.
 ghost use mathlib.Core.Path.{_≡_};
 ghost use lib.ListN.{length};
 ghost use Rattle.convert.specs.Conversion.{convertedOf, convertedSegmentOf};

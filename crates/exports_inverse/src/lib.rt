@@ -1,4 +1,4 @@
-// The exports of a curve's inversion, each under the contract of the export that calls it.
+// The exports of a curve's inversion: each function has the contract of the export that calls it.
 ghost use mathlib.Core.Path.{_≡_};
 ghost use Rattle.inverse_segment.specs.Answer.{defaultLimit, defaultPrecision};
 ghost use Rattle.inverse.specs.Inverse.{inverseOf, inverseBy, steadyOf};

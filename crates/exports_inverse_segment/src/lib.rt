@@ -1,4 +1,4 @@
-// The exports of one segment's inversion, each under the contract of the export that calls it.
+// The exports of one segment's inversion: each function has the contract of the export that calls it.
 ghost use mathlib.Core.Path.{_≡_};
 ghost use Rattle.inverse_segment.specs.Answer.{inverseSegmentOf, inverseSegmentBy, defaultLimit, defaultPrecision};
 ghost use Rattle.inverse_methods.specs.Method.{ruleOf, steadySegmentOf};

@@ -1,5 +1,5 @@
-// The exports of the calls on a table with a span, each under the contract of the export that calls it: the basis by number, and the span
-// in seconds, 0 for none.
+// The exports of the calls on a table with a span: each function has the contract of the export that calls it. The basis comes by its
+// number, the span in seconds, 0 for none.
 ghost use mathlib.Core.Path.{_≡_};
 ghost use lib.ListN.{length};
 ghost use Rattle.convert.specs.Buffer.{answerOf, bufferOf};

@@ -1,4 +1,4 @@
-// The exports of lengths, values, claims and depths, each under the contract of the export that calls it.
+// The exports of lengths, values, claims and depths: each function has the contract of the export that calls it.
 ghost use mathlib.Core.Path.{_≡_};
 ghost use mathlib.Core.Bool.{cond};
 ghost use Rattle.basis.specs.Basis.{lengthOk};

@@ -1,5 +1,6 @@
 // What C and Rust call: every function of the library by a plain name, with a basis by its number.
-// A reply is 0, or a refusal's number in the lowest eight bits with its place above them.
+// A reply is 0, or a refusal's number in the lowest eight bits with its place above them. Each export but a table's value is one call of a
+// function of `exports_*`, under the same contract.
 ghost use mathlib.Core.Path.{_≡_};
 ghost use mathlib.Core.Bool.{cond};
 ghost use lib.ListN.{length};

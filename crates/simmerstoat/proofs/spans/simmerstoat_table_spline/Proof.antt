@@ -57,7 +57,8 @@ reply-requires c κs = search needs
 returns-3 : tie.Need-returns-3
 returns-3 c =
     let args = c .before .before .before .before .before .before .before .before .before .args in
-    let bad = sym (c .before .before .before .before .before .before .before .is-span .ensures) ∙ c .before .before .before .before .before .before .if1 .left in
+    let spanless = c .before .before .before .before .before .before in
+    let bad = sym (spanless .before .is-span .ensures) ∙ spanless .if1 .left in
     let asked = c .before .before .before .before .before .basis-of .ensures in
     let known = c .before .before .before .c .given .1 in
     let basis = c .before .before .before .c .given .0 .0 in
