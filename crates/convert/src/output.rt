@@ -47,7 +47,8 @@ fn last_sum(m: &[[f64; 4]; 4], cv: &[f64]) -> f64
     cv[0] * m[3][0] + cv[1] * m[3][1] + cv[2] * m[3][2] + cv[3] * m[3][3]
 }
 
-// The last `stride` of a window's four. Where one is written the other three are not worked out: to Bspline and CatmullRom this halves the time.
+// The last `stride` of a window's four. Where one is written the other three are not worked out: to Bspline and CatmullRom this halves the
+// time.
 fn put_window(out: &mut [f64], at: usize, m: &[[f64; 4]; 4], cv: &[f64], stride: usize)
     requires some { ⌜ 0 < stride ⌝ }
     requires few { ⌜ stride ≤ 4 ⌝ }

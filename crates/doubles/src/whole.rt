@@ -22,8 +22,8 @@ const UNITS: f64 = 6755399441055744.0;
 
 const UNITS_PATTERN: u64 = 4843621399236968448;
 
-// A guess at the whole part of y, 4096 at most. To y - 1/2, or very nearly that, UNITS is added: the bits of the sum less those of UNITS are
-// a whole number. Nothing rests on the guess: `whole_up_to` tests it by comparing.
+// A guess at the whole part of y, 4096 at most. To y - 1/2, or very nearly that, UNITS is added: the bits of the sum less those of UNITS
+// are a whole number. Nothing rests on the guess: `whole_up_to` tests it by comparing.
 fn guess(y: f64) -> usize
     ensures { λ r. ⌜ r ≤ 4096 ⌝ }
 {

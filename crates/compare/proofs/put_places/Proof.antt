@@ -19,7 +19,21 @@ loop-holds : tie.Need-loop-holds Inv-loop μ-loop
 loop-holds c = (omega arith, omega arith, omega arith, upto-none _ _ _ _)
 
 put-place-requires : tie.Need-put-place-requires Inv-loop μ-loop
-put-place-requires c κs = (c .before .before .loop .inv .2, (omega (arith, c .before .before .before .longer .ensures), (omega (arith, c .before .before .before .longer .ensures, c .before .before .loop .inv .3 .wrote .long), λ h. omega (arith, c .before .before .before .longer .ensures))))
+put-place-requires c κs = (
+  c .before .before .loop .inv .2,
+  (
+    omega (arith, c .before .before .before .longer .ensures),
+    (
+      omega
+          (arith, c .before .before .before .longer .ensures, c .before .before .loop .inv .3 .wrote .long),
+      λ h. omega (
+        arith,
+        c .before .before .before .longer
+            .ensures,
+      ),
+    ),
+  ),
+)
 
 add-i : tie.Need-add-i Inv-loop μ-loop
 add-i c = search needs

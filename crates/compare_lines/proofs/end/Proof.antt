@@ -19,7 +19,20 @@ enum-known-h c = search needs
 end-parted-requires : tie.Need-end-parted-requires
 end-parted-requires c κs = let z : max (knotsOf (c .before .before .h .given .0 .0)) (knotsOf (c .before .before .h .given .0 .1 .0)) ≤ places =
     rw (c .before .before .h .given .1) at (c .before .before .before .before .before .before .before .pre .0)
-    in (omega arith, (omega arith, (c .before .before .before .before .before .before .before .pre .1 .0, (c .before .before .before .before .before .before .before .pre .1 .1 .0, c .before .before .before .before .before .before .before .pre .1 .1 .1))))
+    in (
+      omega arith,
+      (
+        omega arith,
+        (
+          c .before .before .before .before .before .before .before .pre .1 .0,
+          (
+            c .before .before .before .before .before .before
+                .before .pre .1 .1 .0,
+            c .before .before .before .before .before .before .before .pre .1 .1 .1,
+          ),
+        ),
+      ),
+    )
 
 same-length : tie.Need-same-length
 same-length c = search needs

@@ -18,7 +18,20 @@ enum-known-k c = search needs
 end-on-requires : tie.Need-end-on-requires
 end-on-requires c κs = let n : c .before .before .k .given .0 .1 .0 ≤ places =
     rw (c .before .before .k .given .1) at (c .before .before .before .before .before .before .before .pre .0)
-    in (n, (c .before .before .before .before .before .before .before .pre .1 .0, (c .before .before .before .before .before .before .before .pre .1 .1 .0, (c .before .before .before .before .before .before .before .pre .1 .1 .1 .0, c .before .before .before .before .before .before .before .pre .1 .1 .1 .1))))
+    in (
+      n,
+      (
+        c .before .before .before .before .before .before .before .pre .1 .0,
+        (
+          c .before .before .before .before .before .before .before .pre .1 .1 .0,
+          (
+            c
+                .before .before .before .before .before .before .before .pre .1 .1 .1 .0,
+            c .before .before .before .before .before .before .before .pre .1 .1 .1 .1,
+          ),
+        ),
+      ),
+    )
 
 same-length : tie.Need-same-length
 same-length c = search needs

@@ -67,7 +67,16 @@ put-windows-requires c κs =
     spline-passed (a .from) (a .to) (a .knots .now) (length (a .out .now))
     (plain-passes (a .from) (a .to) (a .knots .now) (a .allowance) (length (a .out .now)) p) in
     let step = c .before .before .before .before .before .step .ensures in
-    let stride = c .before .before .before .before .step2 .ensures in (step .1 .0, (stride .1 .0, (stride .1 .1, (h .0 .least, (h .0 .most, le-trans (le-of-eq (output-steps (a .from) (a .to) (length (a .knots .now)) _ _ (step .0) (stride .0))) (h .1 .enough))))))
+    let stride = c .before .before .before .before .step2 .ensures in (
+      step .1 .0,
+      (
+        stride .1 .0,
+        (
+          stride .1 .1,
+          (h .0 .least, (h .0 .most, le-trans (le-of-eq (output-steps (a .from) (a .to) (length (a .knots .now)) _ _ (step .0) (stride .0))) (h .1 .enough))),
+        ),
+      ),
+    )
 
 returns-2 : tie.Need-returns-2
 returns-2 c =

@@ -16,7 +16,20 @@ use Rattle.inverse.proofs.searched.Tie as tie
 find-requires : tie.Need-find-requires
 find-requires c κs =
     let a = c .before .args in
-    let p = c .before .pre in (k-fits (a .b) (a .y) (a .precision) (a .knots .now) (a .limit) (a .k) (p .0) (p .1 .0) (p .1 .1 .0), (p .1 .1 .0, (k-some (a .b) (a .y) (a .precision) (a .knots .now) (a .limit) (a .k) (p .0) (p .1 .0) (p .1 .1 .0), (le-trans (k-few (a .b) (a .y) (a .precision) (a .knots .now) (a .limit) (a .k) (p .0) (p .1 .0) (p .1 .1 .0)) (lit≤ tt), p .1 .1 .1 .1 .1))))
+    let p = c .before .pre in (
+      k-fits (a .b) (a .y) (a .precision) (a .knots .now) (a .limit) (a .k) (p .0) (p .1 .0) (p .1 .1 .0),
+      (
+        p .1 .1 .0,
+        (
+          k-some (a .b) (a .y) (a .precision) (a .knots .now) (a .limit) (a .k) (p .0) (p .1 .0) (p .1 .1 .0),
+          (
+            le-trans
+                (k-few (a .b) (a .y) (a .precision) (a .knots .now) (a .limit) (a .k) (p .0) (p .1 .0) (p .1 .1 .0)) (lit≤ tt),
+            p .1 .1 .1 .1 .1,
+          ),
+        ),
+      ),
+    )
 
 enum-known-a : tie.Need-enum-known-a
 enum-known-a c = search needs
@@ -44,7 +57,8 @@ parameter-requires c κs =
     let p = c .before .before .before .before .before .pre in
     let few = k-few (a .b) (a .y) (a .precision) (a .knots .now) (a .limit) (a .k) (p .0) (p .1 .0) (p .1 .1 .0) in
     let below =
-    found-below (a .b) (a .y) (a .precision) (a .knots .now) (a .limit) (a .k) (p .0) (p .1 .0) (p .1 .1 .0) (a .how) (a .rising) (p .1 .1 .1 .0) (p .1 .1 .1 .1 .0) (a .n)
+    found-below (a .b) (a .y) (a .precision) (a .knots .now) (a .limit) (a .k) (p .0) (p .1 .0) (p .1 .1 .0) (a .how) (a .rising) (p .1 .1 .1 .0) (p .1 .1 .1
+    .1 .0) (a .n)
     (c .before .a .given .1) (c .before .before .before .find .ensures) in
     (le-trans few (lit≤ tt), omega (arith, below, few))
 

@@ -16,7 +16,11 @@ lesser-requires c κs = search needs
 
 tries-requires : tie.Need-tries-requires
 tries-requires c κs =
-    let p = c .before .before .before .before .before .pre in (fits-le (c .before .before .lesser .result) (c .before .before .before .before .before .args .k) _ _ (omega arith) (p .0), (p .1 .0, (omega arith, (omega arith, (omega arith, omega arith)))))
+    let p = c .before .before .before .before .before .pre in (
+      fits-le (c .before .before .lesser .result) (c .before .before .before .before .before .args
+          .k) _ _ (omega arith) (p .0),
+      (p .1 .0, (omega arith, (omega arith, (omega arith, omega arith)))),
+    )
 
 returns : tie.Need-returns
 returns c =

@@ -123,10 +123,12 @@ loop-again c = (
         .before .before .before .before .before .before .before .before .before .before .loop .inv .0,
   ),
   omega arith,
-  c .before .before .before .before .before .before .before .before .before .before .before .before .before .before .before .before .before .feed .ensures .0 .wrote .long
+  c .before .before .before .before .before .before .before .before .before .before .before .before .before .before .before .before .before .feed .ensures .0
+      .wrote .long
       ∙ c .before .before .before .before .before .before .before .before .before .before .before .before .before .before .before .before .before
       .before .before .before .before .before .before .before .before .before .loop .inv .2,
-  c .before .before .before .before .before .before .before .before .before .before .before .before .before .before .before .before .before .feed .ensures .0 .good,
+  c .before .before .before .before .before .before .before .before .before .before .before .before .before .before .before .before .before .feed .ensures .0
+      .good,
   on _ _ _ (c .before .before .before .before .before .before .before .before .before .before .before .before .before .before .before .before .before
       .before .before .before .before .before .before .before .before .before .before .before .before .before .before .before .before .before .args .chunk
       .now) (c .before .before .before .before .before .before .before .before .before .before .before .before .before .before .before .before .before

@@ -25,8 +25,19 @@ slice-aggregate-whole-7 : tie.Need-slice-aggregate-whole-7
 slice-aggregate-whole-7 c = search needs
 
 whole-requires : tie.Need-whole-requires
-whole-requires c κs =
-    (c .before .before .before .before .before .before .before .pre, (search needs, (search needs, (search needs, (search needs, (search needs, search needs))))))
+whole-requires c κs = (
+  c .before .before .before .before .before .before .before .pre,
+  (
+    search needs,
+    (
+      search needs,
+      (
+        search needs,
+        (search needs, (search needs, search needs)),
+      ),
+    ),
+  ),
+)
 
 returns : tie.Need-returns
 returns c = search needs

@@ -195,7 +195,11 @@ line-requires-6 c κs = (
   (
     rw (c .before .before .before .job5 .given .1) at
         (c .before .before .before .before .before .before .before .before .before .before .before .pre .0 .few),
-    (c .before .before .before .before .before .before .before .before .before .before .before .pre .0 .full, c .before .before .before .before .before .before .before .before .before .before .before .pre .1 .0),
+    (
+      c .before .before .before .before .before .before .before .before .before .before .before .pre .0 .full,
+      c .before .before .before .before .before
+          .before .before .before .before .before .before .pre .1 .0,
+    ),
   ),
 )
 
@@ -219,7 +223,8 @@ returns-6 c = let s =
             full =
                 omega (
                   arith,
-                  c .before .before .before .before .before .before .before .before .before .before .before .before .before .before .before .before .pre .0 .full,
+                  c .before .before .before .before .before .before .before .before .before .before .before .before .before .before .before .before .pre .0
+                      .full,
                 );
             older =
                 omega (

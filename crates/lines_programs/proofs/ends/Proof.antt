@@ -33,7 +33,17 @@ enum-known-job-2 c = search needs
 end-requires-2 : tie.Need-end-requires-2
 end-requires-2 c κs = let k : countOf (Comparing (c .before .before .job2 .given .0 .0)) ≤ places =
     rw (c .before .before .job2 .given .1) at (c .before .before .before .before .before .before .before .before .pre .0)
-    in (k, (c .before .before .before .before .before .before .before .before .pre .1 .1 .0, (c .before .before .before .before .before .before .before .before .pre .1 .1 .1 .0, c .before .before .before .before .before .before .before .before .pre .1 .1 .1 .1)))
+    in (
+      k,
+      (
+        c .before .before .before .before .before .before .before .before .pre .1 .1 .0,
+        (
+          c .before .before .before .before .before .before .before
+              .before .pre .1 .1 .1 .0,
+          c .before .before .before .before .before .before .before .before .pre .1 .1 .1 .1,
+        ),
+      ),
+    )
 
 returns : tie.Need-returns
 unfolding endsOf

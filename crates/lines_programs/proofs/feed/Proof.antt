@@ -65,7 +65,14 @@ shared-slice-read-step : tie.Need-shared-slice-read-step Inv-loop μ-loop
 shared-slice-read-step c = search needs
 
 step-requires : tie.Need-step-requires Inv-loop μ-loop
-step-requires c κs = (c .before .before .before .before .before .before .before .before .before .loop .inv .4 .good, (c .before .before .before .before .before .before .before .before .before .loop .inv .3, omega arith))
+step-requires c κs = (
+  c .before .before .before .before .before .before .before .before .before .loop .inv .4 .good,
+  (
+    c .before .before .before .before
+        .before .before .before .before .before .loop .inv .3,
+    omega arith,
+  ),
+)
 
 add-i : tie.Need-add-i Inv-loop μ-loop
 add-i c =

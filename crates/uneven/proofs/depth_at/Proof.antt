@@ -28,7 +28,11 @@ suited-requires c κs =
     let a = o .args in
     let h =
     long-enough (a .tb) (length (a .times .now)) (a .db) (a .depths .now)
-    (sym (c .before .before .depths-verdict .ensures) ∙ c .enum-told .given .1) in (room (a .tb) (a .y) (a .times .now) (a .limit) (a .precision) (o .fits .limit .fits) (c .before .before .before .spline-inverse-with .ensures), (h .0, h .1))
+    (sym (c .before .before .depths-verdict .ensures) ∙ c .enum-told .given .1) in (
+      room (a .tb) (a .y) (a .times .now) (a .limit) (a .precision) (o .fits
+          .limit .fits) (c .before .before .before .spline-inverse-with .ensures),
+      (h .0, h .1),
+    )
 
 returns : tie.Need-returns
 returns c =

@@ -255,8 +255,25 @@ returns c = (
       .before .before
       .before
       .before
-      .before .put-word2 .ensures)) (c .before .before .before .before .before .before .before .before .before .before .before .put-points .ensures .0)) (c .before .before .before .before .before .before .put-word3 .ensures)) (c .before .before .put-finds .ensures .0)),
-  omega (arith, c .before .before .before .before .before .before .before .before .before .before .before .before .before .before .before .before .before .before .before .before .before .before .before .before .before .before .before .before .before .before .put-depths .ensures .1, c .before .before .before .before .before .before .before .before .before .before .before .before .before .before .before .before .before .before .before .before .before .before .before .before .before .put-word .ensures .next, c .before .before .before .before .before .before .before .before .before .before .before .before .before .before .before .before .before .before .before .before .before .put-knots .ensures .1, c .before .before .before .before .before .before .before .before .before .before .before .before .before .before .before .before .put-word2 .ensures .next, c .before .before .before .before .before .before .before .before .before .before .before .put-points .ensures .1, c .before .before .before .before .before .before .put-word3 .ensures .next, c .before .before .put-finds .ensures .1),
+      .before .put-word2 .ensures)) (c .before .before .before .before .before .before .before .before .before .before .before .put-points .ensures .0)) (c
+      .before .before .before .before .before .before .put-word3 .ensures)) (c .before .before .put-finds .ensures .0)),
+  omega (
+    arith,
+    c .before .before .before .before .before .before .before .before .before .before .before .before .before .before .before .before .before
+        .before .before .before .before .before .before .before .before .before .before .before .before .before .put-depths .ensures .1,
+    c .before .before
+        .before .before .before .before .before .before .before .before .before .before .before .before .before .before .before .before .before .before .before
+        .before .before .before .before .put-word .ensures .next,
+    c .before .before .before .before .before .before .before .before .before .before .before
+        .before .before .before .before .before .before .before .before .before .before .put-knots .ensures .1,
+    c .before .before .before .before .before
+        .before .before .before .before .before .before .before .before .before .before .before .put-word2 .ensures .next,
+    c .before .before .before .before
+        .before .before .before .before .before .before .before .put-points .ensures .1,
+    c .before .before .before .before .before .before .put-word3 .ensures
+        .next,
+    c .before .before .put-finds .ensures .1,
+  ),
 )
 
 pub put-curve-spec : {M : Type 1} → statement M

@@ -29,7 +29,14 @@ curve-height-requires : tie.Need-curve-height-requires Inv-loop μ-loop
 curve-height-requires c κs = (omega arith, omega arith)
 
 put-point-requires : tie.Need-put-point-requires Inv-loop μ-loop
-put-point-requires c κs = (c .before .before .before .before .before .before .before .pre .0, (omega (arith, c .before .curve-height .ensures .1 .1), omega (arith, c .before .before .before .before .loop .inv .2 .long)))
+put-point-requires c κs = (
+  c .before .before .before .before .before .before .before .pre .0,
+  (
+    omega (arith, c .before .curve-height .ensures .1 .1),
+    omega
+        (arith, c .before .before .before .before .loop .inv .2 .long),
+  ),
+)
 
 add-i : tie.Need-add-i Inv-loop μ-loop
 add-i c = search needs

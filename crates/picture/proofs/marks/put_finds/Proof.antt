@@ -182,8 +182,10 @@ put-find-requires-8 c κs = (
               .before .before
               .before
               .put-find2 .ensures .0 .long,
-          c .before .before .before .before .before .before .before .before .before .before .before .before .before .before .before .before .before .before .before .put-find3 .ensures .0 .long,
-          c .before .before .before .before .before .before .before .before .before .before .before .before .before .before .before .put-find4 .ensures .0 .long,
+          c .before .before .before .before .before .before .before .before .before .before .before .before .before .before .before .before .before .before
+              .before .put-find3 .ensures .0 .long,
+          c .before .before .before .before .before .before .before .before .before .before .before .before .before .before .before .put-find4 .ensures .0
+              .long,
           c .before .before .before .before .before .before .before .before .before .before .before .put-find5 .ensures .0 .long,
           c .before .before .before .before .before .before .before .put-find6 .ensures .0 .long,
           c .before .before .before .put-find7 .ensures .0 .long,

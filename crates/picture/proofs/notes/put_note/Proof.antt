@@ -135,7 +135,8 @@ returns c =
             .put-number2
             .ensures
             .1,
-        c .before .before .before .before .before .before .before .before .before .before .before .before .before .before .before .before .put-word .ensures .next,
+        c .before .before .before .before .before .before .before .before .before .before .before .before .before .before .before .before .put-word .ensures
+            .next,
         w,
         c .before .before .before .before .before .before .put-number3 .ensures .1,
         c .before .before .put-tail .ensures .1,
