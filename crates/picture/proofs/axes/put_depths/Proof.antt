@@ -52,13 +52,25 @@ put-depth-label-requires-6 : tie.Need-put-depth-label-requires-6
 put-depth-label-requires-6 c κs = search needs
 
 mul-put-depth-label-5 : tie.Need-mul-put-depth-label-5
-mul-put-depth-label-5 c = search needs
+mul-put-depth-label-5 c =
+    let p =
+    c .before .before .before .before .before .before .before .before .before .before .before .before .before .before .before .before .before .before .before
+    .before .before .before .before .before .before .before .pre in
+    omega (arith, p .1 .0)
 
 add-put-depth-label-6 : tie.Need-add-put-depth-label-6
-add-put-depth-label-6 c = search needs
+add-put-depth-label-6 c =
+    let p =
+    c .before .before .before .before .before .before .before .before .before .before .before .before .before .before .before .before .before .before .before
+    .before .before .before .before .before .before .before .pre in
+    omega (arith, p .1 .0, p .1 .1 .0)
 
 put-depth-label-requires-7 : tie.Need-put-depth-label-requires-7
-put-depth-label-requires-7 c κs = search needs
+put-depth-label-requires-7 c κs =
+    let p =
+    c .before .before .before .before .before .before .before .before .before .before .before .before .before .before .before .before .before .before .before
+    .before .before .before .before .before .before .before .pre in
+    (p .0, omega (arith, p .1 .1 .1))
 
 same-length : tie.Need-same-length
 same-length c = search needs
