@@ -22,9 +22,10 @@ use Rattle.inverse_segment.specs.Answer.{inverseSegmentBy, defaultLimit, defaul
 use Rattle.inverse_methods.proofs.spline_inverse_segment_with.Reads as spline_inverse_segment_with
 use Rattle.inverse_methods.proofs.spline_inverse_segment.Reads as spline_inverse_segment
 use Rattle.inverse_methods.specs.declared.Method.{Method}
-use Rattle.inverse_methods.specs.declared.Method.the-variants.{AsCrate}
-use Rattle.inverse_methods.specs.Method.{ruleOf}
+use Rattle.inverse_methods.specs.declared.Method.the-variants.{AsCrate, Steady}
+use Rattle.inverse_methods.specs.Method.{ruleOf, steadyLimit}
 use Rattle.inverse_methods.proofs.spline_inverse_segment_by.Reads as spline_inverse_segment_by
+use Rattle.inverse_methods.proofs.spline_inverse_segment_steady.Reads as spline_inverse_segment_steady
 use Rattle.inverse.specs.declared.EndsBy.{EndsBy}
 use Rattle.inverse.specs.declared.EndsBy.the-variants.{Knots}
 use Rattle.inverse.specs.Inverse.{inverseBy}
@@ -32,6 +33,7 @@ use Rattle.inverse.proofs.Facts.{AtPlace}
 use Rattle.inverse.proofs.spline_inverse_by.Reads as spline_inverse_by
 use Rattle.inverse.proofs.spline_inverse_with.Reads as spline_inverse_with
 use Rattle.inverse.proofs.spline_inverse.Reads as spline_inverse
+use Rattle.inverse.proofs.spline_inverse_steady.Reads as spline_inverse_steady
 use Rattle.claim.specs.declared.ClaimAnswer.{ClaimAnswer}
 use Rattle.claim.specs.declared.ClaimAnswer.the-variants.{Refused, Holds, Differs}
 use Rattle.claim.specs.Claim.{claimUses, claimed, claimOf}
@@ -145,6 +147,9 @@ spline-inverse-with-own κs a z e p = curve-own Knots AsCrate (a .0) (a .1 .0) (
 pub spline-inverse-own : Keeps spline_inverse.Learnt (λ κs a z e. OwnHolds (a .0) (a .1 .0) defaultPrecision (now (a .1 .1 .0)) z)
 spline-inverse-own κs a z e p = curve-own Knots AsCrate (a .0) (a .1 .0) (now (a .1 .1 .0)) (a .1 .1 .1 .0) defaultLimit defaultPrecision z p default-fits
 
+pub spline-inverse-steady-own : Keeps spline_inverse_steady.Learnt (λ κs a z e. OwnHolds (a .0) (a .1 .0) defaultPrecision (now (a .1 .1 .0)) z)
+spline-inverse-steady-own κs a z e p = curve-own Knots Steady (a .0) (a .1 .0) (now (a .1 .1 .0)) (a .1 .1 .1 .0) steadyLimit defaultPrecision z p default-fits
+
 -- one segment, whose four knots are a curve of one segment
 pub spline-inverse-segment-by-own : Keeps spline_inverse_segment_by.Learnt
     (λ κs a z e. T (fits binary64 (a .1 .1 .1 .1 .0)) → OwnHolds (a .0) (a .1 .0) (a .1 .1 .1 .1 .0) (now (a .1 .1 .0)) z)
@@ -156,6 +161,10 @@ spline-inverse-segment-with-own κs a z e p = segment-own AsCrate (a .0) (a .1 .
 
 pub spline-inverse-segment-own : Keeps spline_inverse_segment.Learnt (λ κs a z e. OwnHolds (a .0) (a .1 .0) defaultPrecision (now (a .1 .1 .0)) z)
 spline-inverse-segment-own κs a z e p = segment-own AsCrate (a .0) (a .1 .0) (now (a .1 .1 .0)) defaultLimit defaultPrecision z p default-fits
+
+pub spline-inverse-segment-steady-own : Keeps spline_inverse_segment_steady.Learnt
+    (λ κs a z e. OwnHolds (a .0) (a .1 .0) defaultPrecision (now (a .1 .1 .0)) z)
+spline-inverse-segment-steady-own κs a z e p = segment-own Steady (a .0) (a .1 .0) (now (a .1 .1 .0)) steadyLimit defaultPrecision z p default-fits
 
 -- ---- what the checker prints for a claim
 -- told apart by the first byte
