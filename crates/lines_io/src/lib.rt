@@ -1,4 +1,4 @@
-// The loop of every program over lines: it reads, hands the bytes to `lines_programs::feed` and writes, in large pieces and fixed memory.
+// The loop of every program over lines: it reads, hands the bytes to `lines_feed::feed` and writes, in large pieces and fixed memory.
 // Where a read or a write fails it stops without ending the input, and says so on standard error.
 ghost use mathlib.Core.Path.{_≡_};
 ghost use Prim.Native.Nat.{_+_, _≤_};
@@ -61,7 +61,7 @@ fn feed_all(
     let mut from = 0;
     let mut fine = true;
     while from < chunk.len() {
-        let f = lines_programs::feed(
+        let f = lines_feed::feed(
             s,
             &chunk[from..],
             &mut *line,
@@ -114,8 +114,26 @@ fn read_once(
     feed_all(st, &chunk[0..n], line, table, converted, old, new, out)
 }
 
-// The whole input; `left` counts more reads than any run makes.
-fn read_all(
+// The end of the input; a last line may lack its LF.
+pub fn close(
+    st: Reader,
+    line: &[u8],
+    table: &mut [f64],
+    converted: &mut [f64],
+    old: &mut [u64],
+    new: &mut [u64],
+    out: &mut [u8],
+)
+    requires good { ⌜ Good st (now line) (now table) (now old) (now new) ⌝ }
+    requires converted { ⌜ length (now converted) ≡ places ⌝ }
+    requires room { ⌜ longest + lastRoom ≤ length (now out) ⌝ }
+{
+    let at = lines_feed::finish(st, line, table, converted, old, new, &mut *out, 0);
+    written(&out[0..at]);
+}
+
+// The whole input, and its end where nothing failed; `left` counts more reads than any run makes.
+fn whole(
     first: Reader,
     chunk: &mut [u8],
     line: &mut [u8],
@@ -124,7 +142,7 @@ fn read_all(
     old: &mut [u64],
     new: &mut [u64],
     out: &mut [u8],
-) -> RunResult
+)
     requires first { ⌜ countOf (first .job) ≡ 0 ⌝ }
     requires line { ⌜ length (now line) ≡ widest ⌝ }
     requires table { ⌜ length (now table) ≡ places ⌝ }
@@ -132,7 +150,6 @@ fn read_all(
     requires old { ⌜ length (now old) ≡ places ⌝ }
     requires new { ⌜ length (now new) ≡ places ⌝ }
     requires room { ⌜ longest + lastRoom ≤ length (now out) ⌝ }
-    ensures { λ r. ⌜ Good (r .st) (now (line .exit)) (now (table .exit)) (now (old .exit)) (now (new .exit)) ⌝ }
 {
     let mut st = first;
     let mut fine = true;
@@ -152,62 +169,7 @@ fn read_all(
         fine = r.fine;
         left = if r.more { left - 1 } else { 0 };
     }
-    RunResult {
-        st: st,
-        fine: fine,
-        more: false,
-    }
-}
-
-// The end of the input; a last line may lack its LF.
-pub fn close(
-    st: Reader,
-    line: &[u8],
-    table: &mut [f64],
-    converted: &mut [f64],
-    old: &mut [u64],
-    new: &mut [u64],
-    out: &mut [u8],
-)
-    requires good { ⌜ Good st (now line) (now table) (now old) (now new) ⌝ }
-    requires converted { ⌜ length (now converted) ≡ places ⌝ }
-    requires room { ⌜ longest + lastRoom ≤ length (now out) ⌝ }
-{
-    let at = lines_programs::finish(st, line, table, converted, old, new, &mut *out, 0);
-    written(&out[0..at]);
-}
-
-// The whole input, and its end where nothing failed.
-fn whole(
-    first: Reader,
-    chunk: &mut [u8],
-    line: &mut [u8],
-    table: &mut [f64],
-    converted: &mut [f64],
-    old: &mut [u64],
-    new: &mut [u64],
-    out: &mut [u8],
-)
-    requires first { ⌜ countOf (first .job) ≡ 0 ⌝ }
-    requires line { ⌜ length (now line) ≡ widest ⌝ }
-    requires table { ⌜ length (now table) ≡ places ⌝ }
-    requires converted { ⌜ length (now converted) ≡ places ⌝ }
-    requires old { ⌜ length (now old) ≡ places ⌝ }
-    requires new { ⌜ length (now new) ≡ places ⌝ }
-    requires room { ⌜ longest + lastRoom ≤ length (now out) ⌝ }
-{
-    let r = read_all(
-        first,
-        chunk,
-        &mut *line,
-        &mut *table,
-        &mut *converted,
-        &mut *old,
-        &mut *new,
-        &mut *out,
-    );
-    if r.fine {
-        let st = r.st;
+    if fine {
         close(st, &line[..], table, converted, old, new, out);
     }
 }

@@ -23,9 +23,9 @@ use Rattle.lines_programs.proofs.decimals_program.Reads as decimals_program
 use Rattle.lines_programs.proofs.claims_program.Reads as claims_program
 use Rattle.lines_programs.proofs.compare_program.Reads as compare_program
 use Rattle.lines_programs.proofs.picture_program.Reads as picture_program
-use Rattle.lines_programs.proofs.step.Reads as step
-use Rattle.lines_programs.proofs.finish.Reads as finish
-use Rattle.lines_programs.proofs.feed.Reads as feed
+use Rattle.lines_feed.proofs.step.Reads as step
+use Rattle.lines_feed.proofs.finish.Reads as finish
+use Rattle.lines_feed.proofs.feed.Reads as feed
 use Rattle.promises.specs.Calls.{Keeps, OneReply}
 
 one : {A : Type 0} {d x x′ : A} → x ≡ d → x′ ≡ d → x ≡ x′

@@ -7,11 +7,11 @@ use lib.ListN.{length, take}
 use Rattle.lines_answer.specs.Answer.{places}
 use Rattle.lines_reply.specs.Contract.{longest}
 use Rattle.lines_machine.specs.Bytes.{ranOf, toldOf}
 use Rattle.lines_programs.specs.Programs.{running}
 use Rattle.lines_programs.specs.Contract.{stateOf, Went}
-use Rattle.lines_programs.proofs.Steps.{feed-none, feed-more}
-use Rattle.lines_programs.proofs.feed.Statement.{statement}
-use Rattle.lines_programs.proofs.feed.Tie as tie
+use Rattle.lines_feed.proofs.Steps.{feed-none, feed-more}
+use Rattle.lines_feed.proofs.feed.Statement.{statement}
+use Rattle.lines_feed.proofs.feed.Tie as tie
 
 abbrev Inv-loop : tie.InvT-loop
 Inv-loop chunk line₀ table₀ converted₀ old₀ new₀ out₀ s₀ at₀ i₀ line table converted old new out s at i =

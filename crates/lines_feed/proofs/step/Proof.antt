@@ -1,9 +1,9 @@
 -- LF ends the line; any other byte goes onto it.
 use native.Mathlib.Omega.{arith}
-use Rattle.lines_programs.proofs.Steps.{step-end, step-push}
+use Rattle.lines_feed.proofs.Steps.{step-end, step-push}
 use borrow.Author.Needs.{needs}
-use Rattle.lines_programs.proofs.step.Statement.{statement}
-use Rattle.lines_programs.proofs.step.Tie as tie
+use Rattle.lines_feed.proofs.step.Statement.{statement}
+use Rattle.lines_feed.proofs.step.Tie as tie
 
 ended-requires : tie.Need-ended-requires
 ended-requires c κs = search needs

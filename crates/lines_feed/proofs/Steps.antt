@@ -1,5 +1,5 @@
--- The end of a line, a byte and the end of the input, case by case. Assumes nothing.
-use mathlib.Core.Path.{_≡_, refl, sym, ap, subst, _∙_}
+-- A byte, the end of the input and a chunk, case by case. Assumes nothing.
+use mathlib.Core.Path.{_≡_, refl, ap, subst, _∙_}
 use mathlib.Core.Bool.{Bool, true, false}
 use mathlib.Core.List.{List, [], _∷_, _++_, append-nil}
 use Prim.Native.Nat.{ℕ, _+_, _≤_, _<_}
@@ -10,61 +10,16 @@ use lib.ListN.{length, take, getD}
 use native.Mathlib.Numerals.{add-one}
 use lib.Seq.{length-take-le, take-suc}
 use lib.Ieee.{Float}
-use Rattle.lines_answer.specs.Answer.{places}
-use Rattle.lines.specs.Lines.{lineProgram}
-use Rattle.picture.specs.Program.{pictureProgram}
-use Rattle.sheet.specs.Sheet.{sheetProgram}
-use Rattle.claims.specs.Claims.{claimsProgram}
-use Rattle.compare_lines.specs.Listings.{compareProgram}
-use Rattle.decimals.specs.Decimals.{decimalsProgram}
 use Rattle.text.specs.Text.{LF}
 use Rattle.text.specs.Wrote.{Wrote}
 use Rattle.text.proofs.Writing.{nothing, then}
-use Rattle.lines_machine.specs.Program.{widest, Line, so, Program}
+use Rattle.lines_machine.specs.Program.{widest, Line, so}
 use Rattle.lines_machine.specs.Bytes.{State, stateAt, push, closeText, closed, nextOf, tellOf, toldOf, ranOf, lastText, endOf}
 use Rattle.lines_machine.specs.Contract.{openOf}
-use Rattle.lines_machine.proofs.Whole.{Within, ran-append, told-append}
+use Rattle.lines_machine.proofs.Whole.{ran-append, told-append}
 use Rattle.lines_programs.specs.declared.Reader.{Reader}
-use Rattle.lines_programs.specs.declared.Job.{Job}
-use Rattle.lines_programs.specs.Programs.{Running, asking, reading, claiming, showing, comparing, drawing, tellsOf, afterOf, endsOf, running}
-use Rattle.lines_programs.specs.Contract.{runningOf, countOf, stateOf, Good, Went}
-
--- ---- each program does within the whole what it does alone
-pub line-within : Within lineProgram running asking
-unfolding tellsOf afterOf endsOf
-line-within = record { tells = λ s o. refl; after = λ s o. refl; ends = λ s. refl }
-
-pub sheet-within : Within sheetProgram running reading
-unfolding tellsOf afterOf endsOf
-sheet-within = record { tells = λ s o. refl; after = λ s o. refl; ends = λ s. refl }
-
-pub claims-within : Within claimsProgram running claiming
-unfolding tellsOf afterOf endsOf
-claims-within = record { tells = λ s o. refl; after = λ s o. refl; ends = λ s. refl }
-
-pub decimals-within : Within decimalsProgram running (λ u. showing)
-unfolding tellsOf afterOf endsOf
-decimals-within = record { tells = λ s o. refl; after = λ s o. refl; ends = λ s. refl }
-
-pub compare-within : Within compareProgram running comparing
-unfolding tellsOf afterOf endsOf
-compare-within = record { tells = λ s o. refl; after = λ s o. refl; ends = λ s. refl }
-
-pub picture-within : Within pictureProgram running drawing
-unfolding tellsOf afterOf endsOf
-picture-within = record { tells = λ s o. refl; after = λ s o. refl; ends = λ s. refl }
-
--- ---- the end of a line: a program within the whole has taken its own step, from its state s
-pub line-went : {S : Type 0} (P : Program S) (f : S → Running) → Within P running f → (s : S) (o : Line) {after : Job} {line : List ℕ} {table : List Float}
-    {old new out out′ : List ℕ} {at next : ℕ} → runningOf after table old new ≡ f (P .after s o) → Wrote out at (P .tells s o) out′ next
-    → Good (record { len = 0; job = after }) line table old new
-    → Went (closed running (stateAt o (f s))) (closeText running (stateAt o (f s))) (record { len = 0; job = after }) line table old new out at out′ next
-line-went P f w s o {out = out} {out′ = out′} {at = at} {next = next} e t g =
-    record {
-      state = ap (λ (r : Running). stateAt (so []) r) (e ∙ sym (w .after s o));
-      wrote = subst (λ (x : List ℕ). Wrote out at x out′ next) (sym (w .tells s o)) t;
-      good = g;
-    }
+use Rattle.lines_programs.specs.Programs.{Running, tellsOf, afterOf, endsOf, running}
+use Rattle.lines_programs.specs.Contract.{runningOf, stateOf, Good, Went}
 
 -- ---- a byte
 pub step-end : (s : State Running) (byte : ℕ) {st : Reader} {line : List ℕ} {table : List Float} {old new out : List ℕ} {at : ℕ} {out′ : List ℕ} {r : ℕ}

@@ -14,10 +14,11 @@ use Rattle.compare_lines.specs.Listings.{compareProgram}
 use Rattle.compare_lines.specs.Contract.{bothOf}
 use Rattle.picture.specs.Program.{pictureProgram}
 use Rattle.picture.specs.Contract.{drawingOf}
 use Rattle.lines_programs.specs.Programs.{asking, reading, claiming, showing, comparing, drawing}
-use Rattle.lines_programs.proofs.Steps.{line-within, sheet-within, claims-within, decimals-within, compare-within, picture-within, line-went}
-use Rattle.lines_programs.proofs.ended.Statement.{statement}
-use Rattle.lines_programs.proofs.ended.Tie as tie
+use Rattle.lines_programs.proofs.Within.{line-within, sheet-within, claims-within, decimals-within, compare-within, picture-within}
+use Rattle.lines_ends.proofs.Steps.{line-went}
+use Rattle.lines_ends.proofs.ended.Statement.{statement}
+use Rattle.lines_ends.proofs.ended.Tie as tie
 
 enum-known-job : tie.Need-enum-known-job
 enum-known-job c = search needs
