@@ -10,8 +10,7 @@ use Rattle.basis.specs.declared.Basis.the-variants.{Bspline, Bezier, CatmullRom
 use Rattle.basis.specs.Basis.{matrixOf, isLinear}
 use Rattle.spline.proofs.Finite.{smallMatrix, small-matrix, Small}
 use Rattle.convert_matrix.specs.Matrix.{Matrix}
-use Rattle.convert_matrix.specs.Elimination.{inverse, inverseOf, conversionOf}
-use Rattle.convert_matrix.specs.Contract.{exists}
+use Rattle.convert_matrix.specs.Elimination.{inverse, exists, inverseOf, conversionOf}
 
 -- the elimination finds an inverse for each basis but Linear
 pub only-linear-has-none : (b : Basis) → exists (inverse (matrixOf b)) ≡ not (isLinear b)

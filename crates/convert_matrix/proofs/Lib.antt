@@ -1,2 +1,2 @@
 pub mod Inverses
-mod Steps
+pub mod Steps

@@ -1,6 +1,6 @@
 -- Gauss-Jordan elimination on four rows of eight doubles, columns in order. Definitions only.
 use mathlib.Core.List.{List, [], _∷_, _++_}
-use mathlib.Core.Bool.{Bool, cond, _||_}
+use mathlib.Core.Bool.{Bool, true, false, cond, _||_}
 use Prim.Native.Nat.{ℕ, _+_}
 use lib.Dec.{eqb}
 use lib.ListN.{drop, set}
@@ -83,6 +83,11 @@ rightHalf a = four (λ i. four (λ j. entry a i (4 + j)))
 unfoldable pub inverse : Matrix → Elimination
 unfolding columns
 inverse m = then (columns (0 ∷ 1 ∷ 2 ∷ 3 ∷ []) (widened m)) (λ a. goes (rightHalf a))
+
+-- whether there is an inverse
+abbrev pub exists : Elimination → Bool
+exists (goes a) = true
+exists no-inverse = false
 
 -- the rows of an inverse; zeros where there is none
 abbrev pub rowsOf : Elimination → Matrix

@@ -1,3 +1,2 @@
 pub mod Matrix
 pub mod Elimination
-pub mod Contract

@@ -197,7 +197,7 @@ fn same_row(a: [f64; 4], b: [f64; 4]) -> bool {
 
 // The elimination is run, and what it gives is held to the constants, bit for bit.
 fn eliminated(i: usize) {
-    let e = convert_matrix::invert_4x4(basis::basis_macros::matrix(basis_at(i)));
+    let e = convert_elimination::invert_4x4(basis::basis_macros::matrix(basis_at(i)));
     let c = convert_matrix::inverse_of(basis_at(i));
     let r0 = e.r0;
     let r1 = e.r1;

@@ -4,10 +4,10 @@ use lib.Ieee.{ofBits}
 use mathlib.Core.Path.{_≡_, refl, _∙_}
 use Prim.Native.Nat.{_≤_, _-_}
 use native.Mathlib.Omega.{arith}
 use Rattle.convert_matrix.specs.Elimination.{firstNonzero}
-use Rattle.convert_matrix.proofs.Steps.{from, passed-by, found, none-left}
-use Rattle.convert_matrix.proofs.pivot_row.Statement.{statement}
-use Rattle.convert_matrix.proofs.pivot_row.Tie as tie
+use Rattle.convert_elimination.proofs.Steps.{from, passed-by, found, none-left}
+use Rattle.convert_elimination.proofs.pivot_row.Statement.{statement}
+use Rattle.convert_elimination.proofs.pivot_row.Tie as tie
 
 abbrev Inv-loop : tie.InvT-loop
 Inv-loop i a k₀ k = (k ≤ 4) × (firstNonzero (from k) a i ≡ firstNonzero (from i) a i)

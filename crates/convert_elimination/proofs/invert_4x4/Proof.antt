@@ -4,10 +4,10 @@ use borrow.Author.Needs.{needs}
 use mathlib.Core.Path.{_≡_, refl, sym, _∙_}
 use Prim.Native.Nat.{_≤_, _-_}
 use native.Mathlib.Omega.{arith}
 use Rattle.convert_matrix.specs.Elimination.{columns}
-use Rattle.convert_matrix.proofs.Steps.{from, goes-on, stops, all-done, answers, found-below}
-use Rattle.convert_matrix.proofs.invert_4x4.Statement.{statement}
-use Rattle.convert_matrix.proofs.invert_4x4.Tie as tie
+use Rattle.convert_elimination.proofs.Steps.{from, goes-on, stops, all-done, answers, found-below}
+use Rattle.convert_elimination.proofs.invert_4x4.Statement.{statement}
+use Rattle.convert_elimination.proofs.invert_4x4.Tie as tie
 
 abbrev Inv-loop : tie.InvT-loop
 Inv-loop a₀ i₀ a i = (i ≤ 4) × (columns (from i) a ≡ columns (from 0) a₀)

@@ -2,8 +2,8 @@
 use mathlib.Core.Path.{refl}
 use lib.Ieee.{ofBits}
 use borrow.Author.Needs.{needs}
-use Rattle.convert_matrix.proofs.with_identity.Statement.{statement}
-use Rattle.convert_matrix.proofs.with_identity.Tie as tie
+use Rattle.convert_elimination.proofs.with_identity.Statement.{statement}
+use Rattle.convert_elimination.proofs.with_identity.Tie as tie
 
 index-1-t7 : tie.Need-index-1-t7
 index-1-t7 c = search needs

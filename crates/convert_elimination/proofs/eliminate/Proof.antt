@@ -1,8 +1,8 @@
 -- Swap, divide and clear in this order, as the definition has them; `in-turn` joins the three contracts.
-use Rattle.convert_matrix.proofs.Steps.{in-turn}
+use Rattle.convert_elimination.proofs.Steps.{in-turn}
 use borrow.Author.Needs.{needs}
-use Rattle.convert_matrix.proofs.eliminate.Statement.{statement}
-use Rattle.convert_matrix.proofs.eliminate.Tie as tie
+use Rattle.convert_elimination.proofs.eliminate.Statement.{statement}
+use Rattle.convert_elimination.proofs.eliminate.Tie as tie
 
 swap-requires : tie.Need-swap-requires
 swap-requires c κs = search needs

@@ -1,10 +1,10 @@
 -- Three ways out: the pivot's own row, a row with a zero in the column, and a row that is reduced; the definition has the same three.
 use mathlib.Core.Path.{sym, _∙_}
-use Rattle.convert_matrix.proofs.Steps.{own-row, clear-already, not-clear}
+use Rattle.convert_elimination.proofs.Steps.{own-row, clear-already, not-clear}
 use lib.Ieee.{ofBits}
 use borrow.Author.Needs.{needs}
-use Rattle.convert_matrix.proofs.clear_row.Statement.{statement}
-use Rattle.convert_matrix.proofs.clear_row.Tie as tie
+use Rattle.convert_elimination.proofs.clear_row.Statement.{statement}
+use Rattle.convert_elimination.proofs.clear_row.Tie as tie
 
 mul-result : tie.Need-mul-result
 mul-result c = search needs

@@ -1,9 +1,9 @@
 -- The four rows one after another; each is the callee's contract, and `listed` makes a matrix of them.
 use Rattle.convert_matrix.proofs.Steps.{listed}
 use Rattle.convert_matrix.specs.Elimination.{cleared}
 use borrow.Author.Needs.{needs}
-use Rattle.convert_matrix.proofs.clear.Statement.{statement}
-use Rattle.convert_matrix.proofs.clear.Tie as tie
+use Rattle.convert_elimination.proofs.clear.Statement.{statement}
+use Rattle.convert_elimination.proofs.clear.Tie as tie
 
 clear-row-requires : tie.Need-clear-row-requires
 clear-row-requires c κs = search needs

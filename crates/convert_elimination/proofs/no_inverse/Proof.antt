@@ -1,8 +1,8 @@
 -- The code is the definition: a flag and four rows of zeros.
 use mathlib.Core.Path.{refl}
 use lib.Ieee.{ofBits}
-use Rattle.convert_matrix.proofs.no_inverse.Statement.{statement}
-use Rattle.convert_matrix.proofs.no_inverse.Tie as tie
+use Rattle.convert_elimination.proofs.no_inverse.Statement.{statement}
+use Rattle.convert_elimination.proofs.no_inverse.Tie as tie
 
 returns : tie.Need-returns
 unfolding ofBits
