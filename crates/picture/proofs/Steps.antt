@@ -10,6 +10,9 @@ use Rattle.text.specs.Wrote.{Wrote}
 use Rattle.text.proofs.Writing.{nothing, then}
 use Rattle.picture_scale.specs.declared.Extent.{Extent}
 use Rattle.picture_scale.specs.Scale.{curveHeight, columnOf}
+use Rattle.picture_scale.specs.Words.{pointText}
+use Rattle.picture_notes.specs.declared.Fault.{Fault}
+use Rattle.picture_finds.specs.declared.Finds.{Finds}
 use Rattle.lines_answer.specs.Answer.{Curve}
 use Rattle.lines_answer.specs.Contract.{curveOf, Answers}
 use Rattle.lines_answer.specs.declared.SessionReply.{SessionReply}
@@ -17,10 +20,8 @@ use Rattle.lines_machine.specs.Program.{Line}
 use Rattle.lines_reply.specs.Contract.{replyOf}
 use Rattle.lines.specs.Lines.{says}
 use Rattle.lines_record.specs.declared.Record.{Record}
-use Rattle.picture.specs.declared.Finds.{Finds}
-use Rattle.picture.specs.declared.Fault.{Fault}
 use Rattle.picture.specs.Program.{findsAfter, faultAfter, drawn}
-use Rattle.picture.specs.Picture.{pointText, pointsText, knotText, knotsText}
+use Rattle.picture.specs.Picture.{pointsText, knotText, knotsText}
 
 pub no-points : (b : Basis) (ks : List Float) (e : Extent) (p : ℕ) {o : List ℕ} {at : ℕ} → Wrote o at (pointsText b ks e p 0) o at
 unfolding pointsText

@@ -1,7 +1,6 @@
 -- The program: a listing in, its last table's picture at the end. Definitions only.
 use mathlib.Core.List.{List, []}
-use Prim.Native.Nat.{ℕ, _+_, min}
-use lib.Ieee.{Float}
+use Prim.Native.Nat.{ℕ}
 use Rattle.basis.specs.declared.Basis.the-variants.{Linear}
 use Rattle.doubles.specs.Numbers.{nought}
 use Rattle.inverse.specs.declared.EndsBy.the-variants.{Knots}
@@ -12,9 +11,10 @@ use Rattle.lines.specs.Lines.{says}
 use Rattle.lines_record.specs.declared.Record.{Record}
 use Rattle.lines_record.specs.declared.Record.the-variants.{Curve as CurveOf, Span, Knot, Ends, At, Find, Turn, Bad}
 use Rattle.lines_reply.specs.Reply.{Reply, silence, refused, value, place, curve}
-use Rattle.picture.specs.declared.Finds.{Finds}
-use Rattle.picture.specs.declared.Fault.{Fault}
-use Rattle.picture.specs.declared.Fault.the-variants as F
+use Rattle.picture_notes.specs.declared.Fault.{Fault}
+use Rattle.picture_notes.specs.declared.Fault.the-variants as F
+use Rattle.picture_finds.specs.declared.Finds.{Finds}
+use Rattle.picture_finds.specs.Finds.{asked, cleared}
 use Rattle.picture.specs.Picture.{pictureText}
 
 -- the curve that the line program holds, the last targets asked of it, and why a line was refused last
@@ -30,14 +30,6 @@ nothingDrawn = record {
   finds = record { n = 0; a = nought; b = nought; c = nought; d = nought; e = nought; f = nought; g = nought; h = nought };
   fault = F.Nothing;
 }
-
--- y before the seven latest
-abbrev pub asked : Float → Finds → Finds
-asked y f = record { n = min 8 (f .n + 1); a = y; b = f .a; c = f .b; d = f .c; e = f .d; f = f .e; g = f .f; h = f .g }
-
--- none of them counts
-abbrev pub cleared : Finds → Finds
-cleared f = record { n = 0; a = f .a; b = f .b; c = f .c; d = f .d; e = f .e; f = f .f; g = f .g; h = f .h }
 
 -- a new curve has been asked nothing yet
 abbrev pub findsAfter : Finds → Record → Finds

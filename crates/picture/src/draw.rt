@@ -6,10 +6,10 @@ ghost use Rattle.text.specs.Wrote.{Wrote};
 ghost use Rattle.lines_reply.specs.Contract.{longest};
 ghost use Rattle.picture_scale.specs.Bounds.{Open};
 ghost use Rattle.picture.specs.Picture.{pointsText, knotText, knotsText, curveText, bodyIn, headText, pictureText};
-use crate::Fault;
-use crate::Finds;
 use basis::Basis;
 use inverse::EndsBy;
+use picture_finds::Finds;
+use picture_notes::Fault;
 use picture_scale::Extent;
 use spline::Evaluation;
 use table::Table;
@@ -27,7 +27,7 @@ fn put_points(out: &mut [u8], at: usize, b: Basis, knots: &[f64], e: Extent, p: 
     while i < p + 1 {
         let x = picture_scale::column(i as u64, p as u64);
         let h = picture_scale::curve_height(b, knots, p, i);
-        a = crate::words::put_point(&mut *out, a, e, x, h);
+        a = picture_scale::words::put_point(&mut *out, a, e, x, h);
         i += 1;
     }
     a
@@ -44,7 +44,7 @@ fn put_knot(out: &mut [u8], at: usize, b: Basis, n: usize, e: Extent, j: usize, 
 {
     if picture_scale::is_shown(b, n, j) {
         let c = picture_scale::knot_column(b, n as u64, j as u64);
-        return crate::words::put_dot(out, at, e, c, picture_scale::height(x));
+        return picture_scale::words::put_dot(out, at, e, c, picture_scale::height(x));
     }
     at
 }
@@ -77,7 +77,7 @@ fn put_curve(out: &mut [u8], at: usize, m: EndsBy, b: Basis, knots: &[f64], f: F
     let lo = e.lo;
     let hi = e.hi;
     let s = picture_scale::step(16, hi - lo);
-    let a = crate::axes::put_depths(&mut *out, at, e, s, picture_scale::multiple_above(lo, s));
+    let a = picture_axes::put_depths(&mut *out, at, e, s, picture_scale::multiple_above(lo, s));
     let c = text::put_word(&mut *out, a, b"<path class=\"k\" d=\"");
     let d = put_knots(&mut *out, c, b, knots, e);
     let g = text::put_word(&mut *out, d, b"\"/>\n<polyline class=\"c\" points=\"");
@@ -90,7 +90,7 @@ fn put_curve(out: &mut [u8], at: usize, m: EndsBy, b: Basis, knots: &[f64], f: F
         picture_scale::pieces(b, knots.len()),
     );
     let i = text::put_word(&mut *out, h, b"\"/>\n");
-    crate::marks::put_finds(out, i, m, b, knots, e, f)
+    picture_finds::put_finds(out, i, m, b, knots, e, f)
 }
 
 fn put_body(
@@ -109,7 +109,7 @@ fn put_body(
 {
     match v {
         Evaluation::Value(_) => put_curve(out, at, m, b, knots, f),
-        Evaluation::Refused(r) => crate::notes::put_note(
+        Evaluation::Refused(r) => picture_notes::put_note(
             out,
             at,
             b,
@@ -171,10 +171,10 @@ pub fn put_picture(
     let b = t.basis;
     let span = t.span;
     let a = put_head(&mut *out, at);
-    let c = crate::axes::put_time_name(&mut *out, a, span);
-    let s = picture_scale::step(16, crate::axes::stretch(span));
-    let d = crate::axes::put_times(&mut *out, c, span, s);
+    let c = picture_axes::put_time_name(&mut *out, a, span);
+    let s = picture_scale::step(16, picture_axes::stretch(span));
+    let d = picture_axes::put_times(&mut *out, c, span, s);
     let e = put_body(&mut *out, d, m, b, knots, f, spline::spline(b, 0.0, knots));
-    let g = crate::notes::put_fault(&mut *out, e, b, knots.len() as u64, fault);
+    let g = picture_notes::put_fault(&mut *out, e, b, knots.len() as u64, fault);
     text::put_word(out, g, b"</svg>\n")
 }

@@ -1,7 +1,7 @@
 // A listing in, the picture of its last table out, as SVG.
 ghost use mathlib.Core.Path.{_≡_};
 ghost use mathlib.Core.List.{List};
-ghost use Prim.Native.Nat.{_≤_, _+_, min};
+ghost use Prim.Native.Nat.{_≤_, _+_};
 ghost use lib.Ieee.{Float};
 ghost use lib.ListN.{length};
 ghost use Rattle.text.specs.Wrote.{Wrote};
@@ -9,39 +9,17 @@ ghost use Rattle.lines_answer.specs.Answer.{places};
 ghost use Rattle.lines_machine.specs.Program.{widest};
 ghost use Rattle.lines_machine.specs.Contract.{openOf};
 ghost use Rattle.lines_reply.specs.Contract.{replyOf, longest};
-ghost use Rattle.picture.specs.Program.{nothingDrawn, cleared, asked, findsAfter, faultIn, faultAfter, pictureProgram};
+ghost use Rattle.picture.specs.Program.{nothingDrawn, findsAfter, faultIn, faultAfter, pictureProgram};
 ghost use Rattle.picture.specs.Contract.{drawingOf, countOf};
 use basis::Basis;
-use error::Refusal;
 use inverse::EndsBy;
 use lines_record::Record;
 use lines_reply::LineReply;
+use picture_finds::Finds;
+use picture_notes::Fault;
 use table::Table;
 
-pub mod axes;
 pub mod draw;
-pub mod marks;
-pub mod notes;
-pub mod words;
-
-// The last targets asked, `a` the latest; n of them, at most eight.
-pub struct Finds {
-    pub n: usize,
-    pub a: f64,
-    pub b: f64,
-    pub c: f64,
-    pub d: f64,
-    pub e: f64,
-    pub f: f64,
-    pub g: f64,
-    pub h: f64,
-}
-
-// Why a line was refused last, if one was.
-pub enum Fault {
-    Nothing,
-    Is(Refusal),
-}
 
 // What the line program holds, the targets and the fault.
 pub struct PictureState {
@@ -73,54 +51,16 @@ pub fn blank() -> PictureState
     }
 }
 
-fn one_more(n: usize) -> usize
-    ensures { λ r. ⌜ r ≡ min 8 (n + 1) ⌝ }
-{
-    if n < 8 { n + 1 } else { 8 }
-}
-
-fn clear(f: Finds) -> Finds
-    ensures { λ r. ⌜ r ≡ cleared f ⌝ }
-{
-    Finds {
-        n: 0,
-        a: f.a,
-        b: f.b,
-        c: f.c,
-        d: f.d,
-        e: f.e,
-        f: f.f,
-        g: f.g,
-        h: f.h,
-    }
-}
-
-fn ask(y: f64, f: Finds) -> Finds
-    ensures { λ r. ⌜ r ≡ asked y f ⌝ }
-{
-    Finds {
-        n: one_more(f.n),
-        a: y,
-        b: f.a,
-        c: f.b,
-        d: f.c,
-        e: f.d,
-        f: f.e,
-        g: f.f,
-        h: f.g,
-    }
-}
-
 fn finds_after(f: Finds, r: Record) -> Finds
     ensures { λ s. ⌜ s ≡ findsAfter f r ⌝ }
 {
     match r {
-        Record::Curve(_) => clear(f),
+        Record::Curve(_) => picture_finds::clear(f),
         Record::Span(_) => f,
         Record::Knot(_) => f,
         Record::Ends(_) => f,
         Record::At(_) => f,
-        Record::Find(y) => ask(y, f),
+        Record::Find(y) => picture_finds::ask(y, f),
         Record::Turn(_) => f,
         Record::Bad => f,
     }

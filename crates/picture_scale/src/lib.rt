@@ -26,6 +26,8 @@ ghost use Rattle.picture_scale.specs.Bounds.{lowest, highest, Between, N
 use basis::Basis;
 use spline::Evaluation;
 
+pub mod words;
+
 // The least and the greatest height of what is drawn.
 pub struct Extent {
     pub lo: u64,

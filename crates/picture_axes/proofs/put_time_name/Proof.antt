@@ -1,0 +1,51 @@
+-- Without a span, and with one.
+use borrow.Author.Needs.{needs}
+use native.Mathlib.Omega.{arith}
+use borrow.Author.Tests.{le-leb, lt-leb, le-ltb, lt-ltb, eq-eqb, ne-eqb}
+use mathlib.Core.Path.{_≡_, refl, sym, ap, _∙_}
+use Rattle.text.proofs.Writing.{nothing, then}
+use Rattle.picture_axes.proofs.put_time_name.Statement.{statement}
+use Rattle.picture_axes.proofs.put_time_name.Tie as tie
+
+slice-aggregate-put-word : tie.Need-slice-aggregate-put-word
+slice-aggregate-put-word c = search needs
+
+put-word-requires : tie.Need-put-word-requires
+put-word-requires c κs = search needs
+
+same-length : tie.Need-same-length
+same-length c = search needs
+
+returns : tie.Need-returns
+returns c = (
+  rw (eq-eqb _ _ (c .before .before .before .before .before .if1 .taken)) (c .before .before .put-word .ensures),
+  omega (arith, c .before .before .put-word .ensures .next),
+)
+
+slice-aggregate-put-word-2 : tie.Need-slice-aggregate-put-word-2
+slice-aggregate-put-word-2 c = search needs
+
+put-word-requires-2 : tie.Need-put-word-requires-2
+put-word-requires-2 c κs = search needs
+
+same-length-2 : tie.Need-same-length-2
+same-length-2 c = search needs
+
+returns-2 : tie.Need-returns-2
+returns-2 c = (
+  rw (ne-eqb _ _ (c .before .before .before .before .before .if1 .left)) (c .before .before .put-word2 .ensures),
+  omega (arith, c .before .before .put-word2 .ensures .next),
+)
+
+pub put-time-name-spec : {M : Type 1} → statement M
+put-time-name-spec =
+    tie.close
+    (tie.spec
+    slice-aggregate-put-word
+    put-word-requires
+    same-length
+    returns
+    slice-aggregate-put-word-2
+    put-word-requires-2
+    same-length-2
+    returns-2)

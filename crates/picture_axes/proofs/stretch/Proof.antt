@@ -1,0 +1,24 @@
+-- Without a span, and with one.
+use borrow.Author.Needs.{needs}
+use native.Mathlib.Omega.{arith}
+use borrow.Author.Tests.{le-leb, lt-leb, le-ltb, lt-ltb, eq-eqb, ne-eqb}
+use mathlib.Core.Path.{_≡_, refl, sym, ap, _∙_}
+use Rattle.picture_axes.proofs.stretch.Statement.{statement}
+use Rattle.picture_axes.proofs.stretch.Tie as tie
+
+returns : tie.Need-returns
+returns c = (simp (eq-eqb _ _ (c .if1 .taken)), omega arith)
+
+mul-result : tie.Need-mul-result
+mul-result c = search needs
+
+returns-2 : tie.Need-returns-2
+returns-2 c = (simp (ne-eqb _ _ (c .if1 .left)), omega arith)
+
+pub stretch-spec : {M : Type 1} → statement M
+stretch-spec =
+    tie.close
+    (tie.spec
+    returns
+    mul-result
+    returns-2)

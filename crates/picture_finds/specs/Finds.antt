@@ -1,0 +1,70 @@
+-- The last targets asked, and each find as bytes: the place with its bracket, or the refusal. Definitions only.
+use mathlib.Core.Bool.{cond}
+use mathlib.Core.List.{List, [], _++_}
+use Prim.Native.Nat.{ℕ, _+_, _-_, min}
+use lib.Dec.{leb}
+use lib.ListN.{length}
+use lib.Ieee.{Float, binary64, add, div}
+use Rattle.basis.specs.declared.Basis.{Basis}
+use Rattle.basis.specs.Basis.{segmentsOf}
+use Rattle.doubles.specs.Whole.{double}
+use Rattle.error.specs.declared.Refusal.the-variants.{OffCurve}
+use Rattle.inverse.specs.declared.EndsBy.{EndsBy}
+use Rattle.inverse_segment.specs.declared.Inversion.{Inversion}
+use Rattle.inverse_segment.specs.declared.Place.{Place}
+use Rattle.inverse_segment.specs.declared.Inversion.the-variants as I
+use Rattle.lines_answer.specs.Answer.{foundOf}
+use Rattle.table.specs.Second.{secondOf}
+use Rattle.text.specs.Text.{bytes}
+use Rattle.picture_scale.specs.declared.Extent.{Extent}
+use Rattle.picture_scale.specs.Scale.{heightOf, rowOf}
+use Rattle.picture_scale.specs.Words.{numbered}
+use Rattle.picture_notes.specs.Notes.{noteText}
+use Rattle.picture_finds.specs.declared.Finds.{Finds}
+
+-- y before the seven latest
+abbrev pub asked : Float → Finds → Finds
+asked y f = record { n = min 8 (f .n + 1); a = y; b = f .a; c = f .b; d = f .c; e = f .d; f = f .e; g = f .f; h = f .g }
+
+-- none of them counts
+abbrev pub cleared : Finds → Finds
+cleared f = record { n = 0; a = f .a; b = f .b; c = f .c; d = f .d; e = f .e; f = f .f; g = f .g; h = f .h }
+
+-- ---- what is drawn of them
+
+-- a parameter's place across
+unfoldable pub placeColumn : Float → ℕ
+placeColumn x = 1000 + secondOf 8600 x
+
+-- a local place of segment s of k
+unfoldable pub localColumn : ℕ → ℕ → Float → ℕ
+localColumn k s x = placeColumn (div binary64 (add binary64 (double (min s 4096)) x) (double k))
+
+-- from the depth axis to the place and down to the time axis, the bracket at the axis, and a dot
+abbrev pub markText : ℕ → ℕ → ℕ → ℕ → List ℕ
+markText x y l u =
+    numbered (bytes "<path class=\"f\" d=\"M1000,") y ++ numbered (bytes "H") x ++ numbered (bytes "V5400M") l
+    ++ numbered (bytes ",5300v160H") u ++ numbered (bytes "v-160\"/><path class=\"p\" d=\"M") x ++ numbered (bytes ",") y ++ bytes
+    "h0\"/>\n"
+
+-- a place on a curve of k segments
+abbrev pub placeText : ℕ → Extent → Float → Place → List ℕ
+placeText k e y p =
+    markText (placeColumn (p .parameter)) (rowOf e (heightOf y)) (localColumn k (p .segment) (p .lower))
+    (localColumn k (p .segment) (p .upper))
+
+abbrev pub findIn : Basis → ℕ → Extent → ℕ → Float → Inversion → List ℕ
+findIn b n e slot y (I.Refused r) = noteText b n slot (bytes "find") r
+findIn b n e slot y (I.OffCurve c) = noteText b n slot (bytes "find") OffCurve
+findIn b n e slot y (I.At p) = placeText (segmentsOf b n) e y p
+
+-- the find of y in a slot, if it is one of the n that were asked
+abbrev pub findText : EndsBy → Basis → List Float → Extent → ℕ → ℕ → Float → List ℕ
+findText m b ks e n slot y = cond (leb n (slot - 2)) [] (findIn b (length ks) e slot y (foundOf m b y ks))
+
+-- the last eight
+abbrev pub findsText : EndsBy → Basis → List Float → Extent → Finds → List ℕ
+findsText m b ks e f =
+    findText m b ks e (f .n) 2 (f .a) ++ findText m b ks e (f .n) 3 (f .b) ++ findText m b ks e (f .n) 4 (f .c)
+    ++ findText m b ks e (f .n) 5 (f .d) ++ findText m b ks e (f .n) 6 (f .e) ++ findText m b ks e (f .n) 7 (f .f)
+    ++ findText m b ks e (f .n) 8 (f .g) ++ findText m b ks e (f .n) 9 (f .h)

@@ -1,0 +1,84 @@
+// The refusals in the picture, each a line of text below the axes, and a line through the knot that is told.
+ghost use mathlib.Core.Path.{_≡_};
+ghost use Prim.Native.Nat.{_≤_, _+_};
+ghost use lib.ListN.{length};
+ghost use Rattle.text.specs.Wrote.{Wrote};
+ghost use Rattle.picture_notes.specs.Notes.{knotTail, tailText, noteText, faultText};
+use basis::Basis;
+use error::Refusal;
+use picture_scale::words::put_number;
+
+// Why a line was refused last, if one was.
+pub enum Fault {
+    Nothing,
+    Is(Refusal),
+}
+
+// The knot that is told, and a line through it.
+fn put_knot_tail(out: &mut [u8], at: usize, b: Basis, n: u64, i: u64) -> usize
+    requires number { ⌜ i ≤ 65535 ⌝ }
+    requires room { ⌜ at + 80 ≤ length (now out) ⌝ }
+    ensures text { λ r. ⌜ Wrote (now (out .entry)) at (knotTail b n i) (now (out .exit)) r ⌝ }
+    ensures short { λ r. ⌜ r ≤ at + 80 ⌝ }
+{
+    let x = picture_scale::knot_column(b, n, i);
+    let a = put_number(&mut *out, at, b" at knot ", i);
+    let c = put_number(&mut *out, a, b"</text>\n<path class=\"r\" d=\"M", x);
+    text::put_word(out, c, b",400V5400\"/>\n")
+}
+
+// 4 and 10 tell a knot.
+fn put_tail(out: &mut [u8], at: usize, b: Basis, n: u64, r: Refusal) -> usize
+    requires { ⌜ at + 80 ≤ length (now out) ⌝ }
+    ensures text { λ s. ⌜ Wrote (now (out .entry)) at (tailText b n r) (now (out .exit)) s ⌝ }
+    ensures short { λ s. ⌜ s ≤ at + 80 ⌝ }
+{
+    let number = error::number(r);
+    if number == 4 {
+        return put_knot_tail(out, at, b, n, error::place(r) as u64);
+    }
+    if number == 10 {
+        return put_knot_tail(out, at, b, n, error::place(r) as u64);
+    }
+    text::put_word(out, at, b"</text>\n")
+}
+
+// The line of text that `who` was refused, in one of ten slots below the axes.
+pub fn put_note(
+    out: &mut [u8],
+    at: usize,
+    b: Basis,
+    n: u64,
+    slot: u64,
+    who: &[u8],
+    r: Refusal,
+) -> usize
+    requires slot { ⌜ slot ≤ 9 ⌝ }
+    requires who { ⌜ length (now who) ≤ 5 ⌝ }
+    requires room { ⌜ at + 160 ≤ length (now out) ⌝ }
+    ensures text { λ s. ⌜ Wrote (now (out .entry)) at (noteText b n slot (now (who .entry)) r) (now (out .exit)) s ⌝ }
+    ensures short { λ s. ⌜ s ≤ at + 160 ⌝ }
+{
+    let a = put_number(
+        &mut *out,
+        at,
+        b"<text class=\"r\" x=\"",
+        1000 + 4400 * (slot % 2),
+    );
+    let c = put_number(&mut *out, a, b"\" y=\"", 6000 + 180 * (slot / 2));
+    let d = text::put_word(&mut *out, c, b"\">");
+    let e = text::put_word(&mut *out, d, who);
+    let f = put_number(&mut *out, e, b" refused: ", error::number(r) as u64);
+    put_tail(out, f, b, n, r)
+}
+
+pub fn put_fault(out: &mut [u8], at: usize, b: Basis, n: u64, f: Fault) -> usize
+    requires { ⌜ at + 160 ≤ length (now out) ⌝ }
+    ensures text { λ s. ⌜ Wrote (now (out .entry)) at (faultText b n f) (now (out .exit)) s ⌝ }
+    ensures short { λ s. ⌜ s ≤ at + 160 ⌝ }
+{
+    match f {
+        Fault::Nothing => at,
+        Fault::Is(r) => put_note(out, at, b, n, 1, b"line", r),
+    }
+}
