@@ -21,7 +21,7 @@ use Rattle.lines_record.specs.declared.Record.the-variants.{Bad}
 use Rattle.lines_record.specs.Record.{ofFields, recordOf}
 use Rattle.lines_reply.specs.Reply.{textOf}
 use Rattle.lines_answer.specs.Answer.{Curve, on, replyTo, afterOf}
-use Rattle.table.specs.declared.Table.{Table}
+use Rattle.table_span.specs.declared.Table.{Table}
 use Rattle.inverse.specs.declared.EndsBy.{EndsBy}
 use Rattle.lines_machine.specs.Program.{widest, Line}
 use Rattle.lines_machine.specs.Contract.{openOf}

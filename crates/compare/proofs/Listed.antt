@@ -26,7 +26,7 @@ use lib.ListN.{length, getD, drop, length-drop}
 use lib.Seq.{getD-drop}
 use Rattle.basis.specs.declared.Basis.{Basis}
 use Rattle.basis.specs.declared.Basis.the-variants.{Bspline, Bezier, CatmullRom, Hermite, Linear, Power}
-use Rattle.table.specs.declared.Table.{Table}
+use Rattle.table_span.specs.declared.Table.{Table}
 use Rattle.compare.specs.Differences.{Difference, basis, span, knot, only, rankOf, basisDifference, spanDifference, knotsFrom, differencesOf}
 
 -- ---- the order

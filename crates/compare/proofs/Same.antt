@@ -6,7 +6,7 @@ use Prim.Native.Nat.{ℕ, zero, suc}
 use native.Mathlib.Omega.{arith}
 use borrow.Author.Tests.{eq-eqb, eqb-true}
 use lib.Dec.{eqb}
-use Rattle.table.specs.declared.Table.{Table}
+use Rattle.table_span.specs.declared.Table.{Table}
 use Rattle.compare.specs.Differences.{Difference, basis, span, knot, only, rankOf, basisDifference, spanDifference, knotsFrom, differencesOf, placesIn}
 use Rattle.compare.proofs.Listed.{rank-one}
 

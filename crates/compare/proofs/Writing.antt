@@ -11,7 +11,7 @@ use borrow.Author.Tests.{lt-ltb, le-ltb, ltb-true, ltb-false, eq-eqb, ne-eqb}
 use lib.Dec.{ltb, eqb}
 use lib.ListN.{length, getD, drop, drop-of-length-le, length-append}
 use lib.Seq.{drop-cons}
-use Rattle.table.specs.declared.Table.{Table}
+use Rattle.table_span.specs.declared.Table.{Table}
 use Rattle.text.specs.Wrote.{Wrote}
 use Rattle.text.proofs.Writing.{nothing, then}
 use Rattle.compare.specs.Differences.{Difference, basis, span, knot, only, basisDifference, spanDifference, knotsFrom, differencesOf, placesIn}

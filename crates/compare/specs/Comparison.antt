@@ -2,7 +2,7 @@
 use mathlib.Core.List.{List, [], _∷_, _++_}
 use Prim.Native.Nat.{ℕ}
 use Rattle.lines_record.specs.Record.{nameOf}
-use Rattle.table.specs.declared.Table.{Table}
+use Rattle.table_span.specs.declared.Table.{Table}
 use Rattle.text.specs.Text.{bytes, LF, TAB, decText, hexText}
 use Rattle.compare.specs.Differences.{Difference, basis, span, knot, only, differencesOf, placesIn}
 

@@ -6,7 +6,7 @@ use lib.Dec.{eqb}
 use lib.ListN.{getD}
 use Rattle.basis.specs.declared.Basis.{Basis}
 use Rattle.basis.specs.declared.Basis.the-variants.{Bspline, Bezier, CatmullRom, Hermite, Linear, Power}
-use Rattle.table.specs.declared.Table.{Table}
+use Rattle.table_span.specs.declared.Table.{Table}
 
 -- two bases, old and new; two spans, 0 for none; a knot place with what stood there and what stands there now;
 -- or a place that one table alone has, with what stands there

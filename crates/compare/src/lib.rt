@@ -8,7 +8,7 @@ ghost use Rattle.compare.specs.Differences.{knot, only, rankOf, basisDif
 ghost use Rattle.compare.specs.Comparison.{differenceText, linesText, comparisonText};
 ghost use Rattle.compare.specs.Contract.{most, longest, atPlace, lastLine};
 use basis::Basis;
-use table::Table;
+use table_span::Table;
 
 // Room for the longest comparison: every one of 4,096 places differs, and so do basis and span.
 pub const LONGEST: usize = 180284;

@@ -11,8 +11,8 @@ use lib.Seq.{length-take-le, take-suc-set}
 use Rattle.error.specs.declared.Refusal.the-variants.{TooMany, BadSpan}
 use Rattle.error.specs.declared.Verdict.{Verdict}
 use Rattle.error.specs.declared.Verdict.the-variants.{Passed, Failed}
-use Rattle.table.specs.declared.Table.{Table}
-use Rattle.table.specs.Second.{goodSpan}
+use Rattle.table_span.specs.declared.Table.{Table}
+use Rattle.table_span.specs.Second.{goodSpan}
 use Rattle.text.specs.Wrote.{Wrote}
 use Rattle.lines_machine.specs.Program.{Line}
 use Rattle.compare_lines.specs.declared.CompareRecord.{CompareRecord}

@@ -9,8 +9,8 @@ use Rattle.error.specs.declared.Refusal.{Refusal}
 use Rattle.error.specs.declared.Refusal.the-variants.{TooMany, BadSpan, BadLine, NoComparison}
 use Rattle.error.specs.declared.Verdict.{Verdict}
 use Rattle.error.specs.declared.Verdict.the-variants.{Passed, Failed}
-use Rattle.table.specs.declared.Table.{Table}
-use Rattle.table.specs.Second.{goodSpan}
+use Rattle.table_span.specs.declared.Table.{Table}
+use Rattle.table_span.specs.Second.{goodSpan}
 use Rattle.lines_reply.specs.Reply.{refusedText}
 use Rattle.lines_machine.specs.Program.{Line, so, over, Program}
 use Rattle.compare.specs.Comparison.{comparisonText}

@@ -18,7 +18,7 @@ use basis::Basis;
 use error::Refusal;
 use error::Verdict;
 use lines_record::BasisName;
-use table::Table;
+use table_span::Table;
 use text::HexNumber;
 
 // What a line says. A knot is its 64 bits.
@@ -176,7 +176,7 @@ fn spanned(t: Table, n: usize, s: u32, knots: &[u64]) -> EntryResult
     requires { ⌜ n ≤ places ⌝ }
     ensures { λ e. ⌜ Enters (on t (take n (now (knots .entry)))) (Span s) e (now (knots .entry)) ⌝ }
 {
-    if table::is_span(s) {
+    if table_span::is_span(s) {
         let b = t.basis;
         return EntryResult {
             listing: Listing::On(Table { basis: b, span: s }, n),

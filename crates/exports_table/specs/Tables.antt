@@ -7,7 +7,7 @@ use lib.Ieee.{Float}
 use Rattle.error.specs.declared.Refusal.the-variants.{OffCurve as OffCurveRow}
 use Rattle.error.specs.Refusals.{replyOf}
 use Rattle.basis.specs.declared.Basis.{Basis}
-use Rattle.table.specs.declared.Table.{Table}
+use Rattle.table_span.specs.declared.Table.{Table}
 use Rattle.table.specs.declared.TableInversion.{TableInversion}
 use Rattle.table.specs.declared.TableInversion.the-variants.{Refused, OffCurve, At}
 use Rattle.table.specs.declared.TableConversion.{TableConversion}

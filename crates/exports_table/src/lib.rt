@@ -22,7 +22,7 @@ use error::Refusal;
 use exports_reply::BasisChoice;
 use exports_reply::options::Way;
 use inverse::Options;
-use table::Table;
+use table_span::Table;
 use table::TableConversion;
 use table::TableInversion;
 

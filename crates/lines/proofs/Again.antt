@@ -19,8 +19,8 @@ use Rattle.lines_record.specs.declared.Record.{Record}
 use Rattle.lines_record.specs.declared.Record.the-variants.{Curve as CurveOf, Span, Knot}
 use Rattle.lines_record.specs.Record.{nameOf, wordOf, namedOf, meaningOf, ofFields, recordOf}
 use Rattle.lines_reply.specs.Reply.{spansText, knotsText, curve, textOf}
-use Rattle.table.specs.declared.Table.{Table}
-use Rattle.table.specs.Second.{day, goodSpan, spansOf}
+use Rattle.table_span.specs.declared.Table.{Table}
+use Rattle.table_span.specs.Second.{day, goodSpan, spansOf}
 use Rattle.text.specs.Text.{bytes, same, LF, TAB, onto, fieldsOf, tabOf, glyphOf, hexText, decText, doubleText}
 use Rattle.text.proofs.Fields.{fields-one}
 use Rattle.text.proofs.ReadBack.{length-hex, hex-out-in}

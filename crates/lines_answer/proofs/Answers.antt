@@ -17,8 +17,8 @@ use Rattle.error.proofs.First.{never}
 use Rattle.lines_record.specs.declared.Record.the-variants.{Knot}
 use Rattle.inverse.specs.declared.EndsBy.{EndsBy}
 use Rattle.lines_reply.specs.Reply.{silence, refused, curve}
-use Rattle.table.specs.declared.Table.{Table}
-use Rattle.table.specs.Second.{spansOf}
+use Rattle.table_span.specs.declared.Table.{Table}
+use Rattle.table_span.specs.Second.{spansOf}
 use Rattle.lines_answer.specs.Answer.{places, on, curveReply, replyTo, afterOf}
 use Rattle.lines_answer.proofs.Records.{knot-silent, knot-refused}
 

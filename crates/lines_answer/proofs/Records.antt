@@ -25,9 +25,9 @@ use Rattle.spline.specs.Evaluation.{splineOf}
 use Rattle.spline.specs.declared.Evaluation.{Evaluation}
 use Rattle.spline.specs.declared.Evaluation.the-variants as E
 use Rattle.spline.proofs.Values.{spline-finite}
-use Rattle.table.specs.declared.Table.{Table}
-use Rattle.table.specs.Second.{day, goodSpan}
-use Rattle.table.proofs.Spans.{good-least}
+use Rattle.table_span.specs.declared.Table.{Table}
+use Rattle.table_span.specs.Second.{day, goodSpan}
+use Rattle.table_span.proofs.Spans.{good-least}
 use Rattle.lines_answer.specs.Answer.{places, Curve, none, on, bare, valueReply, foundOf, placeReply, curveReply, replyTo, afterOf}
 
 -- a refused record changes neither table nor knots

@@ -21,8 +21,8 @@ use Rattle.lines_reply.specs.Reply.{Reply, silence, refused, value, place, curv
 use Rattle.spline.specs.Evaluation.{splineOf}
 use Rattle.spline.specs.declared.Evaluation.{Evaluation}
 use Rattle.spline.specs.declared.Evaluation.the-variants as E
-use Rattle.table.specs.declared.Table.{Table}
-use Rattle.table.specs.Second.{goodSpan, spansOf, secondsOf}
+use Rattle.table_span.specs.declared.Table.{Table}
+use Rattle.table_span.specs.Second.{goodSpan, spansOf, secondsOf}
 
 -- the places of the table, and those that `turn` lends
 abbrev pub places : ℕ

@@ -24,7 +24,7 @@ use inverse_segment::Inversion;
 use lines_record::Record;
 use lines_reply::LineReply;
 use spline::Evaluation;
-use table::Table;
+use table_span::Table;
 
 // The curve that is held: none before the first `curve`, then a basis with a span, by which ends it is inverted, and so many knots.
 pub enum Session {
@@ -68,7 +68,7 @@ fn place_of(t: Table, m: EndsBy, y: f64, knots: &[f64]) -> LineReply
         Inversion::OffCurve(_) => LineReply::Refused(Refusal::OffCurve),
         Inversion::At(p) => {
             let ground = p.ground;
-            let s = table::seconds_of(t.span, p.parameter);
+            let s = table_span::seconds_of(t.span, p.parameter);
             LineReply::Place(p.parameter, ground, p.count, s)
         }
     }
@@ -151,7 +151,7 @@ fn spanned(t: Table, m: EndsBy, n: usize, s: u32, table: &[f64], converted: &[f6
     requires { ⌜ n ≤ places ⌝ }
     ensures { λ a. ⌜ Answers (on t m (take n (now (table .entry)))) (Span s) a (now (table .entry)) (now (converted .entry)) ⌝ }
 {
-    if table::is_span(s) {
+    if table_span::is_span(s) {
         let b = t.basis;
         return SessionReply {
             held: Session::Curve(Table { basis: b, span: s }, m, n),

@@ -3,7 +3,7 @@ use mathlib.Core.List.{List, [], _∷_}
 use Prim.Native.Nat.{ℕ}
 use lib.Ieee.{Float}
 use lib.ListN.{take}
-use Rattle.table.specs.Second.{spansOf, secondsIn}
+use Rattle.table_span.specs.Second.{spansOf, secondsIn}
 use Rattle.lines_reply.specs.declared.LineReply.{LineReply}
 use Rattle.lines_reply.specs.declared.LineReply.the-variants.{Nothing, Refused, Value, Place, Curve}
 use Rattle.lines_reply.specs.declared.Where.{Where}

@@ -6,7 +6,7 @@ ghost use mathlib.Core.List.{[], _∷_};
 ghost use Rattle.error.specs.Refusals.{placesOf};
 ghost use Rattle.text.specs.Wrote.{Wrote};
 ghost use Rattle.lines_record.specs.Record.{nameOf};
-ghost use Rattle.table.specs.Second.{secondsIn, spansOf};
+ghost use Rattle.table_span.specs.Second.{secondsIn, spansOf};
 ghost use Rattle.lines_reply.specs.Reply.{
   groundName,
   placesText,
@@ -23,8 +23,8 @@ ghost use Rattle.lines_reply.specs.Contract.{longest, lentOf, replyOf, p
 use basis::Basis;
 use error::Refusal;
 use inverse_segment::Ground;
-use table::Seconds;
-use table::Table;
+use table_span::Seconds;
+use table_span::Table;
 
 // Room for the longest reply: a curve of 4,096 knots over CatmullRom with a span.
 pub const LONGEST: usize = 90145;
@@ -199,7 +199,7 @@ fn put_span(out: &mut [u8], at: usize, span: u32) -> usize
     ensures text { λ r. ⌜ Wrote (now (out .entry)) at (spansText (spansOf span)) (now (out .exit)) r ⌝ }
     ensures short { λ r. ⌜ r ≤ at + 16 ⌝ }
 {
-    if table::is_span(span) {
+    if table_span::is_span(span) {
         let a = text::put_word(&mut *out, at, b"span\t");
         let b = text::put_decimal(&mut *out, a, span, 9);
         return text::put_byte(out, b, b'\n');

@@ -10,7 +10,7 @@ use Rattle.inverse.specs.declared.EndsBy.{EndsBy}
 use Rattle.spline.specs.Evaluation.{splineOf}
 use Rattle.spline.specs.declared.Evaluation.{Evaluation}
 use Rattle.spline.specs.declared.Evaluation.the-variants as E
-use Rattle.table.specs.declared.Table.{Table}
+use Rattle.table_span.specs.declared.Table.{Table}
 use Rattle.text.specs.Text.{bytes}
 use Rattle.picture_scale.specs.declared.Extent.{Extent}
 use Rattle.picture_scale.specs.Scale.{heightOf, curveHeight, columnOf, piecesOf, shown, knotColumn, extentOf, stepOf, aboveOf}

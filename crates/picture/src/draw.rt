@@ -12,7 +12,7 @@ use picture_finds::Finds;
 use picture_notes::Fault;
 use picture_scale::Extent;
 use spline::Evaluation;
-use table::Table;
+use table_span::Table;
 
 // The points of the curve, at the parameters 0/p to p/p.
 fn put_points(out: &mut [u8], at: usize, b: Basis, knots: &[f64], e: Extent, p: usize) -> usize

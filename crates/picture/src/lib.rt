@@ -17,7 +17,7 @@ use lines_record::Record;
 use lines_reply::LineReply;
 use picture_finds::Finds;
 use picture_notes::Fault;
-use table::Table;
+use table_span::Table;
 
 pub mod draw;
 

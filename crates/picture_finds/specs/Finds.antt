@@ -14,7 +14,7 @@ use Rattle.inverse_segment.specs.declared.Inversion.{Inversion}
 use Rattle.inverse_segment.specs.declared.Place.{Place}
 use Rattle.inverse_segment.specs.declared.Inversion.the-variants as I
 use Rattle.lines_answer.specs.Answer.{foundOf}
-use Rattle.table.specs.Second.{secondOf}
+use Rattle.table_span.specs.Second.{secondOf}
 use Rattle.text.specs.Text.{bytes}
 use Rattle.picture_scale.specs.declared.Extent.{Extent}
 use Rattle.picture_scale.specs.Scale.{heightOf, rowOf}

@@ -84,7 +84,7 @@ pub fn ask(y: f64, f: Finds) -> Finds
 fn place_column(x: f64) -> u64
     ensures { λ r. ⌜ r ≡ placeColumn x ⌝ }
 {
-    1000 + table::second::second(8600, x) as u64
+    1000 + table_span::second(8600, x) as u64
 }
 
 // How far across a local place of segment s of k lies.

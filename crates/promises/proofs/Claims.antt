@@ -39,7 +39,7 @@ use Rattle.claim.specs.declared.ClaimAnswer.the-variants.{Refused, Holds, Diffe
 use Rattle.claim.specs.Claim.{claimUses, claimed, claimOf}
 use Rattle.claim.proofs.Own.{Accepted, holds-only, holds-where, differs-only, differs-where, Settled, own-accepted, own-segment-accepted}
 use Rattle.claim.proofs.check_claim.Reads as check_claim
-use Rattle.table.specs.declared.Table.{Table}
+use Rattle.table_span.specs.declared.Table.{Table}
 use Rattle.text.specs.Text.{bytes}
 use Rattle.lines_reply.specs.Reply.{refusedText}
 use Rattle.lines_answer.specs.Answer.{on}

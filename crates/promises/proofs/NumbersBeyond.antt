@@ -28,7 +28,7 @@ use Rattle.table.specs.declared.TableInversion.{TableInversion}
 use Rattle.table.specs.declared.TableInversion.the-variants as T
 use Rattle.table.specs.declared.TableConversion.{TableConversion}
 use Rattle.table.specs.declared.TableConversion.the-variants as H
-use Rattle.table.specs.Second.{badSpan}
+use Rattle.table_span.specs.Second.{badSpan}
 use Rattle.table.proofs.table_spline.Reads as table_spline
 use Rattle.table.proofs.table_spline_inverse_by.Reads as table_spline_inverse_by
 use Rattle.table.proofs.table_spline_inverse.Reads as table_spline_inverse

@@ -34,12 +34,12 @@ use Rattle.convert.specs.declared.ConversionAnswer.the-variants as C
 use Rattle.convert.specs.Conversion.{Conversion, gives, refuses, unless, convertUses, convertedOf}
 use Rattle.convert.specs.Buffer.{answerOf, bufferOf}
 use Rattle.convert_strict.specs.Strict.{strictUses, strictOf}
-use Rattle.table.specs.declared.Table.{Table}
+use Rattle.table_span.specs.declared.Table.{Table}
 use Rattle.table.specs.declared.TableInversion.{TableInversion}
 use Rattle.table.specs.declared.TableInversion.the-variants as T
 use Rattle.table.specs.declared.TableConversion.{TableConversion}
 use Rattle.table.specs.declared.TableConversion.the-variants as H
-use Rattle.table.specs.Second.{goodSpan, badSpan, elapsed, secondOf}
+use Rattle.table_span.specs.Second.{goodSpan, badSpan, elapsed, secondOf}
 use Rattle.table.specs.Calls.{
   verdictOf,
   valueUnless,
@@ -52,8 +52,9 @@ use Rattle.table.specs.Calls.{
   tableStrictOf,
   handedOf,
 }
-use Rattle.table.proofs.Spans.{good-least, good-verdict, spline-base, inverse-base, converted-base}
-use Rattle.table.proofs.Largest.{Largest, second-largest}
+use Rattle.table_span.proofs.Spans.{good-least}
+use Rattle.table.proofs.Spans.{good-verdict, spline-base, inverse-base, converted-base}
+use Rattle.table_span.proofs.Largest.{Largest, second-largest}
 use Rattle.table.proofs.table_spline.Reads as table_spline
 use Rattle.table.proofs.table_spline_inverse_by.Reads as table_spline_inverse_by
 use Rattle.table.proofs.table_spline_inverse.Reads as table_spline_inverse

@@ -39,13 +39,13 @@ use Rattle.inverse.proofs.Refusing.{inverse-refused-only, inverse-refused-where
 use Rattle.inverse.proofs.Timely.{timely}
 use Rattle.inverse.proofs.TurnsBack.{AgainstAt}
 use Rattle.inverse.proofs.spline_inverse_steady.Reads as spline_inverse_steady
-use Rattle.table.specs.declared.Table.{Table}
+use Rattle.table_span.specs.declared.Table.{Table}
 use Rattle.table.specs.declared.TableInversion.{TableInversion}
 use Rattle.table.specs.declared.TableInversion.the-variants as T
-use Rattle.table.specs.Second.{goodSpan, badSpan, elapsed}
+use Rattle.table_span.specs.Second.{goodSpan, badSpan, elapsed}
 use Rattle.table.specs.Calls.{verdictOf, timedOf, tableInverseBy, tableSteadyOf}
 use Rattle.table.proofs.Spans.{inverse-base}
-use Rattle.table.proofs.Largest.{Largest}
+use Rattle.table_span.proofs.Largest.{Largest}
 use Rattle.table.proofs.table_spline_inverse_steady.Reads as table_spline_inverse_steady
 use Rattle.exports_reply.specs.declared.options.Way.the-variants as W
 use Rattle.exports_reply.specs.Replies.{chosenOf}

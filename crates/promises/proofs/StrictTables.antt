@@ -20,10 +20,10 @@ use Rattle.convert.specs.Conversion.{Conversion, gives, refuses}
 use Rattle.convert.specs.Buffer.{answerOf, bufferOf}
 use Rattle.convert_strict.specs.Strict.{strictUses, strictOf}
 use Rattle.convert_strict.proofs.Call.{SeamLost, strict-is-plain, lost-only, lost-where}
-use Rattle.table.specs.declared.Table.{Table}
+use Rattle.table_span.specs.declared.Table.{Table}
 use Rattle.table.specs.declared.TableConversion.{TableConversion}
 use Rattle.table.specs.declared.TableConversion.the-variants as H
-use Rattle.table.specs.Second.{goodSpan, badSpan}
+use Rattle.table_span.specs.Second.{goodSpan, badSpan}
 use Rattle.table.specs.Calls.{tableConvertedOf, tableStrictOf, handedOf}
 use Rattle.table.proofs.Spans.{converted-base, converted-spanless, strict-base, strict-spanless}
 use Rattle.table.proofs.table_convert_spline_strict.Reads as table_convert_spline_strict

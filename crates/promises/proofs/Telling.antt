@@ -15,8 +15,8 @@ use Rattle.convert.specs.Output.{windows, windowOf, splineOutput}
 use Rattle.convert.specs.Conversion.{Conversion, gives, convertUses, convertedOf}
 use Rattle.convert.proofs.Kept.{given, spline-length}
 use Rattle.inverse.specs.declared.EndsBy.{EndsBy}
-use Rattle.table.specs.declared.Table.{Table}
-use Rattle.table.specs.Second.{day}
+use Rattle.table_span.specs.declared.Table.{Table}
+use Rattle.table_span.specs.Second.{day}
 use Rattle.lines_answer.specs.Answer.{Curve, none, on, places, curveReply, replyTo, afterOf}
 use Rattle.lines_answer.proofs.Records.{endsBefore, SpanHeld, held-after}
 use Rattle.lines_record.specs.declared.Record.the-variants.{Turn}

@@ -17,7 +17,7 @@ use basis::Basis;
 use error::Refusal;
 use lines_record::BasisName;
 use lines_reply::LineReply;
-use table::Table;
+use table_span::Table;
 use text::HexNumber;
 
 // What a line says of a depth: the sign and the thousandths, or nothing.

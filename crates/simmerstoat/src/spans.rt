@@ -33,14 +33,14 @@ pub extern "C" fn simmerstoat_table_spline(
     ensures value { λ _. ⌜ now (value .exit) ≡ chosen (chosenOf basis) (now (value .entry))
         (λ b. valueLeft (tableSplineOf (tableOf span b) x (now (knots .entry))) (now (value .entry))) ⌝ }
 {
-    if table::is_span(span) {
+    if table_span::is_span(span) {
         return crate::simmerstoat_spline(basis, x, knots, value);
     }
     let c = exports_reply::basis_of(basis);
     let BasisChoice::Known(b) = c else {
         return exports_reply::UNKNOWN;
     };
-    error::reply(table::without_span(b, knots.len()))
+    error::reply(table_span::without_span(b, knots.len()))
 }
 
 // A curve's inversion with the defaults.

@@ -2,10 +2,8 @@
 use mathlib.Core.Path.{_≡_, refl, sym, ap, _∙_}
 use mathlib.Core.Bool.{Bool, true, false, not}
 use mathlib.Core.List.{List, [], _∷_, _++_}
-use Prim.Native.Nat.{ℕ, _≤_}
-use native.Mathlib.Omega.{arith}
-use borrow.Author.Tests.{leb-true, leb-false, le-leb, lt-leb}
-use lib.Dec.{leb, ltb}
+use Prim.Native.Nat.{ℕ}
+use lib.Dec.{ltb}
 use lib.ListN.{length}
 use lib.Ieee.{Float}
 use Rattle.basis.specs.declared.Basis.{Basis}
@@ -19,7 +17,6 @@ use Rattle.error.specs.declared.Refusal.the-variants.{TooFew, BadPattern, TooMa
 use Rattle.error.specs.declared.Verdict.{Verdict}
 use Rattle.error.specs.declared.Verdict.the-variants.{Passed, Failed}
 use Rattle.error.specs.Refusals.{Uses, applies, first}
-use Rattle.error.proofs.First.{never}
 use Rattle.error.proofs.Orders.{orderOf}
 use Rattle.inverse.specs.declared.EndsBy.{EndsBy}
 use Rattle.inverse.specs.Inverse.{inverseUses, inverseBy}
@@ -29,11 +26,11 @@ use Rattle.inverse_methods.specs.declared.Method.{Method}
 use Rattle.spline.specs.Evaluation.{evaluated, splineUses, splineOf}
 use Rattle.checks.specs.Checks.{curveLength}
 use Rattle.spline.specs.declared.Evaluation.the-variants as E
-use Rattle.table.specs.declared.Table.{Table}
+use Rattle.table_span.specs.declared.Table.{Table}
 use Rattle.table.specs.declared.TableInversion.the-variants as T
 use Rattle.table.specs.declared.TableConversion.{TableConversion}
 use Rattle.table.specs.declared.TableConversion.the-variants as H
-use Rattle.table.specs.Second.{day, goodSpan, badSpan}
+use Rattle.table_span.specs.Second.{goodSpan, badSpan}
 use Rattle.table.specs.Calls.{
   verdictOf,
   valueUnless,
@@ -46,21 +43,6 @@ use Rattle.table.specs.Calls.{
   tableStrictOf,
   handedOf,
 }
-
--- ---- a good span
-pub good-least : (s : ℕ) → goodSpan s ≡ true → (1 ≤ s) × (s ≤ day)
-good-least s e = go (leb 1 s) refl (leb s day) refl e
-  where
-    go : (p : Bool) → leb 1 s ≡ p → (q : Bool) → leb s day ≡ q → goodSpan s ≡ true → (1 ≤ s) × (s ≤ day)
-    go true e true f h = (leb-true 1 s e, leb-true s day f)
-    go true e false f h = let z : false ≡ true = rw (e, f) at h in never (cc)
-    go false e q f h = let z : false ≡ true = rw e at h in never (cc)
-
-pub least-good : (s : ℕ) → 1 ≤ s → s ≤ day → goodSpan s ≡ true
-least-good s h k = rw (le-leb 1 s h, le-leb s day k) refl
-
-pub short-bad : (s : ℕ) → s ≤ 0 → goodSpan s ≡ false
-short-bad s h = rw (lt-leb 1 s (omega arith)) refl
 
 -- ---- 14 beside the rows of a call that has no other use for it
 same-rows : (us : Uses) → applies 14 us ≡ false → first ((BadSpan, false) ∷ us) ≡ first us
@@ -85,28 +67,6 @@ module _ (t : Table) (n : ℕ) (us : Uses) (r : Refusal) (g : goodSpan (t .span)
   where
     pub bad-verdict : verdictOf t (curveLength (t .basis) n ++ us) ≡ Failed r
     bad-verdict = rw g (length-first (t .basis) n us ∙ sym e)
-
--- what `without_span` answers
-module _ (b : Basis) (n : ℕ) where
-  pub by-length : {v : Verdict} (r : Refusal) → v ≡ first (curveLength b n) → v ≡ Failed r → Failed r ≡ first ((BadSpan, true) ∷ curveLength b n)
-  by-length {v} r p q = go (ltb n 4) (regular b n) (ltb 4096 n) (sym q ∙ p)
-    where
-      go : (few whole many : Bool) → Failed r ≡ first ((TooFew, few) ∷ (BadPattern, not whole) ∷ (TooMany, many) ∷ [])
-          → Failed r ≡ first ((BadSpan, true) ∷ (TooFew, few) ∷ (BadPattern, not whole) ∷ (TooMany, many) ∷ [])
-      go true whole many h = h
-      go false false many h = h
-      go false true true h = h
-      go false true false h = never (cc)
-
-  pub by-span : {v : Verdict} → v ≡ first (curveLength b n) → v ≡ Passed → Failed BadSpan ≡ first ((BadSpan, true) ∷ curveLength b n)
-  by-span {v} p q = go (ltb n 4) (regular b n) (ltb 4096 n) (sym q ∙ p)
-    where
-      go : (few whole many : Bool) → Passed ≡ first ((TooFew, few) ∷ (BadPattern, not whole) ∷ (TooMany, many) ∷ [])
-          → Failed BadSpan ≡ first ((BadSpan, true) ∷ (TooFew, few) ∷ (BadPattern, not whole) ∷ (TooMany, many) ∷ [])
-      go true whole many h = never (cc)
-      go false false many h = never (cc)
-      go false true true h = never (cc)
-      go false true false h = refl
 
 -- ---- evaluation
 value-again : (v : Verdict) (x : Float) → valueUnless v (evaluated v x) ≡ evaluated v x

@@ -24,12 +24,12 @@ use Rattle.inverse_methods.specs.Method.{steadyLimit}
 use Rattle.spline.specs.Evaluation.{splineUses, splineOf}
 use Rattle.spline.specs.declared.Evaluation.{Evaluation}
 use Rattle.spline.specs.declared.Evaluation.the-variants as E
-use Rattle.table.specs.declared.Table.{Table}
+use Rattle.table_span.specs.declared.Table.{Table}
 use Rattle.table.specs.declared.TableInversion.{TableInversion}
 use Rattle.table.specs.declared.TableInversion.the-variants as T
 use Rattle.table.specs.declared.TableConversion.{TableConversion}
 use Rattle.table.specs.declared.TableConversion.the-variants as H
-use Rattle.table.specs.Second.{badSpan, secondOf}
+use Rattle.table_span.specs.Second.{badSpan, secondOf}
 
 -- whether a row applies to a call on a table
 abbrev pub verdictOf : Table → Uses → Verdict

@@ -1,22 +1,16 @@
-// A table of depths with its span in seconds from dusk, and the calls on it.
+// The calls on a table of depths with its span.
 ghost use mathlib.Core.Path.{_≡_};
 ghost use mathlib.Core.Bool.{true};
-ghost use mathlib.Core.List.{_∷_};
 ghost use lib.ListN.{length};
 ghost use Rattle.convert.specs.Buffer.{answerOf, bufferOf};
-ghost use Rattle.error.specs.declared.Refusal.the-variants.{BadSpan};
-ghost use Rattle.error.specs.declared.Verdict.the-variants.{Failed};
-ghost use Rattle.error.specs.Refusals.{first};
 ghost use Rattle.inverse.specs.declared.EndsBy.the-variants.{Knots};
 ghost use Rattle.inverse_segment.specs.Answer.{defaultLimit, defaultPrecision};
 ghost use Rattle.inverse_methods.specs.declared.Method.the-variants.{AsCrate};
-ghost use Rattle.checks.specs.Checks.{curveLength};
-ghost use Rattle.table.specs.Second.{goodSpan, secondsOf, secondsIn};
+ghost use Rattle.table_span.specs.Second.{goodSpan};
 ghost use Rattle.table.specs.Calls.{timedOf, tableSplineOf, tableInverseBy, tableSteadyOf, tableConvertedOf, tableStrictOf, handedOf};
 use basis::Basis;
 use convert::ConversionAnswer;
 use error::Refusal;
-use error::Verdict;
 use inverse::EndsBy;
 use inverse::Options;
 use inverse_methods::Method;
@@ -26,20 +20,7 @@ use inverse_segment::DEFAULT_PRECISION;
 use inverse_segment::Inversion;
 use inverse_segment::Place;
 use spline::Evaluation;
-
-pub mod second;
-
-// A table without its knots, which are lent beside it. A span of 0 stands for none.
-pub struct Table {
-    pub basis: Basis,
-    pub span: u32,
-}
-
-// The second of a place, where the span is good.
-pub enum Seconds {
-    Nothing,
-    At(u32),
-}
+use table_span::Table;
 
 // An inversion's answer; a place comes with its second.
 pub enum TableInversion {
@@ -54,43 +35,16 @@ pub enum TableConversion {
     On(Table, usize),
 }
 
-// Whether a span is good: 1 to 86,400 seconds.
-pub fn is_span(span: u32) -> bool
-    ensures { λ r. ⌜ r ≡ goodSpan span ⌝ }
-{
-    if 1 <= span { span <= 86400 } else { false }
-}
-
-pub fn seconds_of(span: u32, parameter: f64) -> Seconds
-    ensures { λ r. ⌜ secondsIn r ≡ secondsOf span parameter ⌝ }
-{
-    if is_span(span) {
-        return Seconds::At(second::second(span, parameter));
-    }
-    Seconds::Nothing
-}
-
-// The refusal of a table without a good span: that of its length, if there is one, comes before 14.
-pub fn without_span(b: Basis, n: usize) -> Refusal
-    ensures { λ r. ⌜ Failed r ≡ first ((BadSpan, true) ∷ curveLength b n) ⌝ }
-{
-    let l = checks::curve_length(b, n);
-    match l {
-        Verdict::Failed(r) => r,
-        Verdict::Passed => Refusal::BadSpan,
-    }
-}
-
 // The curve at x.
 pub fn table_spline(t: Table, x: f64, knots: &[f64]) -> Evaluation
     ensures { λ r. ⌜ r ≡ tableSplineOf t x (now (knots .entry)) ⌝ }
 {
     let b = t.basis;
     let span = t.span;
-    if is_span(span) {
+    if table_span::is_span(span) {
         return spline::spline(b, x, knots);
     }
-    Evaluation::Refused(without_span(b, knots.len()))
+    Evaluation::Refused(table_span::without_span(b, knots.len()))
 }
 
 // An inversion's answer with the second of its place.
@@ -101,7 +55,7 @@ fn with_second(span: u32, i: Inversion) -> TableInversion
     match i {
         Inversion::Refused(r) => TableInversion::Refused(r),
         Inversion::OffCurve(n) => TableInversion::OffCurve(n),
-        Inversion::At(p) => TableInversion::At(p, second::second(span, p.parameter)),
+        Inversion::At(p) => TableInversion::At(p, table_span::second(span, p.parameter)),
     }
 }
 
@@ -111,10 +65,10 @@ pub fn table_spline_inverse_by(o: Options, t: Table, y: f64, knots: &[f64]) -> T
 {
     let b = t.basis;
     let span = t.span;
-    if is_span(span) {
+    if table_span::is_span(span) {
         return with_second(span, inverse::spline_inverse_by(o, b, y, knots));
     }
-    TableInversion::Refused(without_span(b, knots.len()))
+    TableInversion::Refused(table_span::without_span(b, knots.len()))
 }
 
 // As the crate inverts, with limit 32 and precision 1e-10.
@@ -169,10 +123,10 @@ pub fn table_convert_spline(t: Table, to: Basis, knots: &[f64], out: &mut [f64])
 {
     let b = t.basis;
     let span = t.span;
-    if is_span(span) {
+    if table_span::is_span(span) {
         return handed_on(span, to, convert::convert_spline(b, to, knots, out));
     }
-    TableConversion::Refused(without_span(b, knots.len()))
+    TableConversion::Refused(table_span::without_span(b, knots.len()))
 }
 
 // The same, unless a seam loses more than the allowance.
@@ -190,12 +144,12 @@ pub fn table_convert_spline_strict(
 {
     let b = t.basis;
     let span = t.span;
-    if is_span(span) {
+    if table_span::is_span(span) {
         return handed_on(
             span,
             to,
             convert_strict::convert_spline_strict(b, to, knots, allowance, out),
         );
     }
-    TableConversion::Refused(without_span(b, knots.len()))
+    TableConversion::Refused(table_span::without_span(b, knots.len()))
 }

@@ -2,7 +2,7 @@
 use native.Mathlib.Omega.{arith}
 use mathlib.Core.Path.{_≡_, sym, _∙_}
 use mathlib.Core.Bool.{true, false}
-use Rattle.table.specs.Second.{goodSpan}
+use Rattle.table_span.specs.Second.{goodSpan}
 use Rattle.text.proofs.Writing.{then, nothing}
 use borrow.Author.Needs.{needs}
 use Rattle.lines_reply.proofs.put_span.Statement.{statement}

@@ -1,6 +1,6 @@
 -- A case for each answer; a place gets the second of its parameter.
 use mathlib.Core.Path.{_≡_, refl, sym, ap, _∙_}
-use Rattle.table.proofs.Spans.{good-least}
+use Rattle.table_span.proofs.Spans.{good-least}
 use borrow.Author.Needs.{needs}
 use Rattle.table.proofs.with_second.Statement.{statement}
 use Rattle.table.proofs.with_second.Tie as tie

@@ -20,7 +20,7 @@ use Rattle.doubles.proofs.Bounds.{InOne}
 use Rattle.doubles.proofs.Units.{in-order, scale-up}
 use Rattle.doubles.proofs.WholePart.{double-mono, whole-le, guessed}
 use Rattle.doubles.proofs.LocalPart.{product, whole-low}
-use Rattle.table.specs.Second.{day, elapsed, secondOf}
+use Rattle.table_span.specs.Second.{day, elapsed, secondOf}
 
 value : (n : ℕ) → n ≤ 2 ^ 53 → HasValue (double n) false n 1
 unfolding ofInt

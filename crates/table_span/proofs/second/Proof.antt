@@ -3,10 +3,10 @@ use borrow.Author.Needs.{needs}
 use Prim.Native.Nat.{_+_, _-_, _/_}
 use native.Mathlib.Omega.{arith}
 use Rattle.doubles.proofs.WholePart.{Halving, begun, raised, lowered, met}
-use Rattle.table.specs.Second.{elapsed}
-use Rattle.table.proofs.Largest.{told}
-use Rattle.table.proofs.second.second.Statement.{statement}
-use Rattle.table.proofs.second.second.Tie as tie
+use Rattle.table_span.specs.Second.{elapsed}
+use Rattle.table_span.proofs.Largest.{told}
+use Rattle.table_span.proofs.second.Statement.{statement}
+use Rattle.table_span.proofs.second.Tie as tie
 
 abbrev Inv-loop : tie.InvT-loop
 Inv-loop span parameter y low₀ high₀ low high = Halving span (elapsed span parameter) low high

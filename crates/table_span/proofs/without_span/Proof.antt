@@ -1,8 +1,8 @@
 -- A length that fails is told (`by-length`); otherwise 14 is the first row that applies (`by-span`).
-use Rattle.table.proofs.Spans.{by-length, by-span}
+use Rattle.table_span.proofs.Spans.{by-length, by-span}
 use borrow.Author.Needs.{needs}
-use Rattle.table.proofs.without_span.Statement.{statement}
-use Rattle.table.proofs.without_span.Tie as tie
+use Rattle.table_span.proofs.without_span.Statement.{statement}
+use Rattle.table_span.proofs.without_span.Tie as tie
 
 curve-length-requires : tie.Need-curve-length-requires
 curve-length-requires c κs = search needs

@@ -1,7 +1,7 @@
 -- A case for each side of the first comparison; the second is the definition's.
 use borrow.Author.Tests.{le-leb, lt-leb}
-use Rattle.table.proofs.is_span.Statement.{statement}
-use Rattle.table.proofs.is_span.Tie as tie
+use Rattle.table_span.proofs.is_span.Statement.{statement}
+use Rattle.table_span.proofs.is_span.Tie as tie
 
 returns : tie.Need-returns
 returns c = simp (le-leb 1 (c .before .args .span) (c .if1 .taken))

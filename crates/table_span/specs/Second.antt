@@ -7,8 +7,8 @@ use lib.Ieee.{Float, binary64, mul}
 use Rattle.doubles.specs.Whole.{double, wholeUpTo}
 use Rattle.error.specs.declared.Refusal.{Refusal}
 use Rattle.error.specs.declared.Refusal.the-variants.{BadSpan}
-use Rattle.table.specs.declared.Seconds.{Seconds}
-use Rattle.table.specs.declared.Seconds.the-variants.{At, Nothing}
+use Rattle.table_span.specs.declared.Seconds.{Seconds}
+use Rattle.table_span.specs.declared.Seconds.the-variants.{At, Nothing}
 
 -- the longest span, in seconds
 abbrev pub day : ℕ

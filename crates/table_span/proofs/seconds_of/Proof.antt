@@ -1,9 +1,9 @@
 -- A good span is at most a day, which is what the second's function asks for; without one there is no second.
 use mathlib.Core.Path.{_≡_, refl, sym, ap, _∙_}
-use Rattle.table.proofs.Spans.{good-least}
+use Rattle.table_span.proofs.Spans.{good-least}
 use borrow.Author.Needs.{needs}
-use Rattle.table.proofs.seconds_of.Statement.{statement}
-use Rattle.table.proofs.seconds_of.Tie as tie
+use Rattle.table_span.proofs.seconds_of.Statement.{statement}
+use Rattle.table_span.proofs.seconds_of.Tie as tie
 
 is-span-requires : tie.Need-is-span-requires
 is-span-requires c κs = search needs
