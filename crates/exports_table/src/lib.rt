@@ -22,9 +22,9 @@ use error::Refusal;
 use exports_reply::BasisChoice;
 use exports_reply::options::Way;
 use inverse::Options;
-use table_span::Table;
 use table::TableConversion;
 use table::TableInversion;
+use table_span::Table;
 
 // A place leaves what it leaves without a span, and its second; refusal 11 its count.
 pub fn timed_told(a: TableInversion, place: &mut [f64; 4], whole: &mut [usize; 4]) -> u32
