@@ -18,7 +18,7 @@ use Rattle.inverse_segment.specs.Rounds.{rounds}
 use Rattle.inverse_segment.specs.Segment.{entered, enter}
 use Rattle.inverse_segment.specs.Answer.{defaultLimit, defaultPrecision}
 use Rattle.inverse_search.specs.Search.{tries, last, halve, find}
-use Rattle.inverse.specs.Order.{ordered}
+use Rattle.inverse_order.specs.Order.{ordered}
 use Rattle.inverse.specs.Curve.{parameterOf, located}
 use Rattle.inverse.specs.Inverse.{inverseBy, inverseOf}
 use Rattle.claim.specs.declared.ClaimAnswer.the-variants.{Differs}

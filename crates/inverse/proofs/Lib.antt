@@ -2,14 +2,11 @@ pub mod Cases
 pub mod Facts
 pub mod Curve
 pub mod Glue
-pub mod Scan
 pub mod Below
 pub mod Verdicts
-pub mod TurnsBack
 pub mod Promises
 pub mod Refusing
 pub mod Pace
 pub mod Timely
 pub mod InOrder
-pub mod Examples
 pub mod Fewer

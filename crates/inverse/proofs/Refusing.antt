@@ -23,12 +23,12 @@ use Rattle.inverse_methods.specs.declared.Method.{Method}
 use Rattle.inverse_methods.specs.Method.{ruleOf}
 use Rattle.inverse_search.specs.Trial.{trial}
 use Rattle.inverse_search.specs.Search.{find}
-use Rattle.inverse.specs.Order.{turnsBack, turningKnot}
+use Rattle.inverse_order.specs.Order.{turnsBack, turningKnot}
 use Rattle.inverse.specs.declared.EndsBy.{EndsBy}
 use Rattle.inverse.specs.EndRule.{atLow, atHigh, endRuleOf}
 use Rattle.inverse.specs.Curve.{parameterOf, located}
 use Rattle.inverse.specs.Inverse.{inverseUses, inverseBy}
-use Rattle.inverse.proofs.TurnsBack.{AgainstAt, turning-first, turns-back-where}
+use Rattle.inverse_order.proofs.TurnsBack.{AgainstAt, turning-first, turns-back-where}
 
 -- every row before refusal 10
 abbrev pub earlier : List ℕ

@@ -24,7 +24,6 @@ use inverse_segment::Ground;
 use inverse_segment::Inversion;
 use inverse_segment::Place;
 
-pub mod order;
 pub mod refusals;
 
 // Whether the end rule goes by the knots, as in the crate, or by the curve's own ends.
@@ -54,7 +53,7 @@ fn knot_ends(b: Basis, knots: &[f64]) -> Ends
     ensures { λ r. ⌜ r ≡ knotEnds b (now (knots .entry)) ⌝ }
 {
     let n = knots.len();
-    let rising = order::rising(knots);
+    let rising = inverse_order::rising(knots);
     if basis::step(b) == 1 {
         return Ends {
             rising: rising,

@@ -4,5 +4,4 @@ pub mod Ending
 pub mod Times
 pub mod Choosing
 pub mod OneRound
-pub mod Examples
 pub mod Timely

@@ -1,20 +1,18 @@
--- A direction: `Along rising a b` says that a is not past b. What it gives of a segment whose ends enclose the target. Assumes nothing.
+-- What a direction gives of values in order, and of a segment whose ends enclose the target. Assumes nothing.
 use mathlib.Core.Path.{_≡_, refl, subst}
 use mathlib.Core.Logic.{_⊎_, inl, inr}
-use mathlib.Core.Bool.{Bool, true, false, not, cond}
+use mathlib.Core.Bool.{Bool, true, false, not}
 use Prim.Native.Nat.{ℕ, zero, suc, _+_, _-_, _<_}
 use native.Mathlib.Omega.{arith}
 use lib.Dec.{T}
 use lib.Ieee.{Float, lt, le, isNan}
 use lib.Ieee.Fits.{and-l, and-r}
 use Rattle.doubles.proofs.Tests.{branch}
-use Rattle.doubles.proofs.Order.{lt→le, not-lt→le, le-trans-float, lt-le-absurd}
+use Rattle.doubles.proofs.Order.{lt→le, le-trans-float}
 use Rattle.inverse_segment.specs.Segment.{encloses}
 use Rattle.inverse_segment.proofs.Places.{encloses-of}
-use Rattle.inverse_search.specs.Search.{before}
-
-abbrev pub Along : Bool → Float → Float → Type 0
-Along rising a b = T (cond rising (le a b) (le b a))
+use Rattle.inverse_order.specs.Order.{before}
+use Rattle.inverse_order.proofs.Along.{Along, not-before}
 
 pub along-trans : (rising : Bool) (a b c : Float) → Along rising a b → Along rising b c → Along rising a c
 along-trans true a b c h k = le-trans-float a b c h k
@@ -38,14 +36,6 @@ other-way false v0 v1 y m n a b = encloses-of true v0 v1 y m n a b
 pub before-along : (rising : Bool) (y v : Float) → T (before rising y v) → Along rising y v
 before-along true y v h = lt→le y v h
 before-along false y v h = lt→le v y h
-
-pub before-not : (rising : Bool) (y v : Float) → T (before rising y v) → Along rising v y → ⊥
-before-not true y v h k = lt-le-absurd y v h k
-before-not false y v h k = lt-le-absurd v y h k
-
-pub not-before : (rising : Bool) (y v : Float) → T (not (isNan y)) → T (not (isNan v)) → T (not (before rising y v)) → Along rising v y
-not-before true y v p q h = not-lt→le y v p q h
-not-before false y v p q h = not-lt→le v y q p h
 
 -- from neighbours to any two in order
 far : (rising : Bool) (v : ℕ → Float) (k : ℕ) → ((i : ℕ) → suc i < k → Along rising (v i) (v (suc i))) → (i d j : ℕ) → j ≡ i + suc d → j < k

@@ -14,7 +14,8 @@ use Rattle.inverse_segment.specs.Segment.{encloses, entered, Entry, outside, in
 use Rattle.inverse_segment.proofs.Ends.{both}
 use Rattle.inverse_segment.proofs.Later.{More, entered-more}
 use Rattle.inverse_search.specs.Bound.{bitsOf}
-use Rattle.inverse_search.specs.Search.{before, Trial, tries, last, halve, find}
+use Rattle.inverse_order.specs.Order.{before}
+use Rattle.inverse_search.specs.Search.{Trial, tries, last, halve, find}
 use Rattle.inverse_search.specs.Trial.{trial}
 use Rattle.inverse_search.specs.Twice.{trialTwice}
 

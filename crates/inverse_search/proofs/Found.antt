@@ -18,8 +18,10 @@ use Rattle.inverse_segment.specs.Segment.{Entry, outside, inside, Outcome, off,
 use Rattle.inverse_segment.proofs.Ends.{both}
 use Rattle.inverse_segment.proofs.Places.{encloses-of}
 use Rattle.inverse_search.specs.Bound.{bitsOf}
-use Rattle.inverse_search.specs.Search.{before, Trial, tries, last, halve, find}
-use Rattle.inverse_search.proofs.Along.{Along, along-trans, held-by, other-way, at-start, before-along, before-not, not-before, ahead}
+use Rattle.inverse_order.specs.Order.{before}
+use Rattle.inverse_search.specs.Search.{Trial, tries, last, halve, find}
+use Rattle.inverse_order.proofs.Along.{Along, before-not, not-before}
+use Rattle.inverse_search.proofs.Along.{along-trans, held-by, other-way, at-start, before-along, ahead}
 use Rattle.inverse_search.proofs.Digits.{bits-enough}
 
 -- ---- what is said of a curve g of k segments

@@ -24,7 +24,8 @@ use Rattle.inverse_segment.proofs.Ends.{both}
 use Rattle.inverse_segment.proofs.Stops.{entered-segment, stop-kept}
 use Rattle.inverse_search.specs.declared.SearchResult.the-variants.{OffCurve, Entered}
 use Rattle.inverse_search.specs.Bound.{bitsOf}
-use Rattle.inverse_search.specs.Search.{before, Trial, tries, last, halve, find}
+use Rattle.inverse_order.specs.Order.{before}
+use Rattle.inverse_search.specs.Search.{Trial, tries, last, halve, find}
 use Rattle.inverse_search.specs.Trial.{trial}
 use Rattle.inverse_search.specs.Contract.{resultOf, went, Seeks, TriesIs, LastIs, HalveIs, SoughtIs, FindIs}
 use Rattle.inverse_search.proofs.Digits.{bits-enough}

@@ -11,7 +11,8 @@ use Rattle.inverse_segment.specs.Segment.{Entry, outside, inside, Outcome, orEl
 use Rattle.inverse_segment.specs.Agreed.{Agreed}
 use Rattle.inverse_segment.proofs.Complete.{seenIn, enter-grows, enter-same}
 use Rattle.inverse_search.specs.Bound.{bitsOf}
-use Rattle.inverse_search.specs.Search.{before, Trial, tries, last, halve, find}
+use Rattle.inverse_order.specs.Order.{before}
+use Rattle.inverse_search.specs.Search.{Trial, tries, last, halve, find}
 use Rattle.inverse_search.specs.Trial.{trial}
 
 module _ (g h : ℕ → Float → Float) where

@@ -2,14 +2,11 @@
 use mathlib.Core.Bool.{Bool, cond}
 use Prim.Native.Nat.{ℕ, zero, suc, _+_, _-_, _/_, min}
 use lib.Dec.{leb}
-use lib.Ieee.{Float, lt}
+use lib.Ieee.{Float}
 use Rattle.inverse_segment.specs.Evaluations.{Evaluations}
 use Rattle.inverse_segment.specs.Segment.{Entry, Outcome, off, orElse}
+use Rattle.inverse_order.specs.Order.{before}
 use Rattle.inverse_search.specs.Bound.{bitsOf}
-
--- y lies before the value v, in the direction
-abbrev pub before : Bool → Float → Float → Bool
-before rising y v = cond rising (lt y v) (lt v y)
 
 -- how a segment is tried, after the evaluations made until then
 abbrev pub Trial : Type 0

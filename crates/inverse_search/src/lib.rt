@@ -5,7 +5,6 @@ ghost use lib.ListN.{length, drop};
 ghost use Rattle.basis.specs.Basis.{stepOf, matrixOf};
 ghost use Rattle.spline.specs.Segment.{rowSumsOf};
 ghost use Rattle.inverse_search.specs.Bound.{bitsOf, boundOf};
-ghost use Rattle.inverse_search.specs.Search.{before};
 ghost use Rattle.inverse_search.specs.Contract.{countIn, TriesIs, LastIs, HalveIs, SoughtIs, FindIs};
 use basis::Basis;
 use inverse_methods::Method;
@@ -123,12 +122,6 @@ pub fn last_tries(
     tries(b, knots, y, k, first, end, made, ends)
 }
 
-pub fn lies_before(rising: bool, y: f64, v: f64) -> bool
-    ensures { λ r. ⌜ r ≡ before rising y v ⌝ }
-{
-    if rising { y < v } else { v < y }
-}
-
 // The `wide` segments from `left` on are open: the middle one is tested, then the part before it or the part after it is searched.
 // The knots stand behind a second reference and the answer is a number, so that each call hands on machine words alone and the compiler
 // makes a loop of the recursion.
@@ -163,7 +156,7 @@ pub fn halve(
     if holds {
         return mid;
     }
-    if lies_before(rising, y, ends[4]) {
+    if inverse_order::lies_before(rising, y, ends[4]) {
         halve(b, knots, y, rising, k, left, half, made, ends)
     } else {
         halve(b, knots, y, rising, k, mid + 1, wide - 1 - half, made, ends)

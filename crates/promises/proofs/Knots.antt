@@ -20,7 +20,7 @@ use Rattle.inverse_segment.specs.Answer.{inverseSegmentUses, defaultLimit, defa
 use Rattle.inverse_methods.specs.declared.Method.the-variants.{AsCrate}
 use Rattle.inverse.specs.declared.EndsBy.the-variants.{Knots}
 use Rattle.inverse.specs.Inverse.{inverseUses}
-use Rattle.inverse.proofs.TurnsBack.{AgainstAt}
+use Rattle.inverse_order.proofs.TurnsBack.{AgainstAt}
 use Rattle.inverse.proofs.Refusing.{inverse-turns-back}
 use Rattle.convert.specs.declared.ConversionAnswer.the-variants as C
 use Rattle.convert.specs.Conversion.{convertSegmentUses, convertUses}

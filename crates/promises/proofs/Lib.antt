@@ -6,6 +6,7 @@ pub mod Orders
 pub mod Options
 pub mod Searching
 pub mod Spending
+pub mod Spent
 pub mod Ending
 pub mod Exact
 pub mod Numbers

@@ -8,7 +8,8 @@ use lib.Ieee.{Float}
 use Rattle.doubles.proofs.Tests.{branch}
 use Rattle.inverse_segment.specs.Evaluations.{Evaluations}
 use Rattle.inverse_segment.specs.Segment.{Entry, outside, Outcome, orElse}
-use Rattle.inverse_search.specs.Search.{before, Trial, halve}
+use Rattle.inverse_order.specs.Order.{before}
+use Rattle.inverse_search.specs.Search.{Trial, halve}
 
 module _ (E : Trial) (y : Float) (rising : Bool) (k n : ℕ) where
   -- o is the search with d segments open from i on, after the evaluations t: at most half of the suc c from l on, and among these

@@ -54,7 +54,8 @@ use Rattle.inverse_segment.specs.Answer.{
 }
 use Rattle.inverse_segment.proofs.Ends.{both}
 use Rattle.inverse_search.specs.Bound.{bitsOf}
-use Rattle.inverse_search.specs.Search.{before, Trial, tries, last, halve, find}
+use Rattle.inverse_order.specs.Order.{before}
+use Rattle.inverse_search.specs.Search.{Trial, tries, last, halve, find}
 use Rattle.inverse_search.specs.Trial.{trial}
 use Rattle.inverse_methods.specs.declared.Method.{Method}
 use Rattle.inverse_methods.specs.declared.Method.the-variants.{AsCrate}

@@ -37,7 +37,7 @@ use Rattle.inverse.proofs.Fewer.{Fewer, twice}
 use Rattle.inverse.proofs.Promises.{Promised, reply-promised}
 use Rattle.inverse.proofs.Refusing.{inverse-refused-only, inverse-refused-where, inverse-turns-back}
 use Rattle.inverse.proofs.Timely.{timely}
-use Rattle.inverse.proofs.TurnsBack.{AgainstAt}
+use Rattle.inverse_order.proofs.TurnsBack.{AgainstAt}
 use Rattle.inverse.proofs.spline_inverse_steady.Reads as spline_inverse_steady
 use Rattle.table_span.specs.declared.Table.{Table}
 use Rattle.table.specs.declared.TableInversion.{TableInversion}

@@ -18,7 +18,7 @@ use Rattle.inverse_segment.specs.Segment.{entered, enter}
 use Rattle.inverse_methods.specs.Steady.{allowed, inner, secant, paced}
 use Rattle.inverse_search.specs.Bound.{bitsOf}
 use Rattle.inverse_search.specs.Search.{tries, last, halve, find}
-use Rattle.inverse.specs.Order.{ordered, turnsAt}
+use Rattle.inverse_order.specs.Order.{ordered, turnsAt}
 use Rattle.inverse.specs.Curve.{parameterOf, located, evaluations}
 use Rattle.inverse.specs.Inverse.{inverseBy, evaluationsBy}
 use Rattle.convert.specs.Conversion.{convertedOf}

@@ -14,7 +14,7 @@ use Rattle.inverse_search.proofs.halve.Reads as halve
 use Rattle.inverse_search.proofs.halve.Kinds as halve-kinds
 use Rattle.inverse_search.proofs.+halve.Lts-halve as halve-lts
 use Rattle.inverse_search.proofs.last_tries.Reads as last-tries-reads
-use Rattle.inverse_search.proofs.lies_before.Reads as lies-before-reads
+use Rattle.inverse_order.proofs.lies_before.Reads as lies-before-reads
 use Rattle.inverse_segment.proofs.probe.Reads as probe-reads
 use Rattle.inverse_search.proofs.+halve.{statement}
 use Rattle.inverse_search.proofs.+halve.Tie.{close}

@@ -1,0 +1,4 @@
+pub mod Along
+pub mod Scan
+pub mod TurnsBack
+pub mod Verdicts
