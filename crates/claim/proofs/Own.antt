@@ -39,7 +39,7 @@ use Rattle.inverse_segment.proofs.Call.{Owed, inverse-segment-owed}
 use Rattle.inverse_methods.specs.declared.Method.{Method}
 use Rattle.inverse_methods.specs.Method.{ruleOf}
 use Rattle.inverse_methods.proofs.Lawful.{lawful-of}
-use Rattle.inverse.specs.declared.EndsBy.{EndsBy}
+use Rattle.inverse_order.specs.declared.EndsBy.{EndsBy}
 use Rattle.inverse.specs.Inverse.{inverseUses, inverseBy}
 use Rattle.inverse.proofs.Facts.{AtPlace, Proper, Enclosing, Enclosed, GroundSays}
 use Rattle.inverse.proofs.Promises.{inverse-proper, inverse-enclosed, inverse-ground, here, rule, k}

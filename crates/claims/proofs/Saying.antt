@@ -22,7 +22,7 @@ use Rattle.lines_record.specs.Record.{ofFields, recordOf}
 use Rattle.lines_reply.specs.Reply.{textOf}
 use Rattle.lines_answer.specs.Answer.{Curve, on, replyTo, afterOf}
 use Rattle.table_span.specs.declared.Table.{Table}
-use Rattle.inverse.specs.declared.EndsBy.{EndsBy}
+use Rattle.inverse_order.specs.declared.EndsBy.{EndsBy}
 use Rattle.lines_machine.specs.Program.{widest, Line}
 use Rattle.lines_machine.specs.Contract.{openOf}
 use Rattle.claims.specs.declared.ClaimRecord.{ClaimRecord}

@@ -4,7 +4,7 @@ use Rattle.basis.specs.declared.Basis.{Basis}
 use Rattle.exports_reply.specs.declared.BasisChoice.{BasisChoice}
 use Rattle.exports_reply.specs.declared.BasisChoice.the-variants.{Known, Unknown}
 use Rattle.inverse_methods.specs.declared.Method.{Method}
-use Rattle.inverse.specs.declared.EndsBy.{EndsBy}
+use Rattle.inverse_order.specs.declared.EndsBy.{EndsBy}
 use Rattle.exports_reply.specs.declared.options.Way.{Way}
 use Rattle.exports_reply.specs.declared.options.Way.the-variants as W
 use Rattle.exports_reply.specs.Replies.{chosen}

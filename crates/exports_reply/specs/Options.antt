@@ -5,8 +5,8 @@ use lib.ListN.{getD}
 use Rattle.basis.specs.declared.Basis.{Basis}
 use Rattle.inverse_methods.specs.declared.Method.{Method}
 use Rattle.inverse_methods.specs.declared.Method.the-variants.{AsCrate, Taught, Steady}
-use Rattle.inverse.specs.declared.EndsBy.{EndsBy}
-use Rattle.inverse.specs.declared.EndsBy.the-variants.{Knots, Curve}
+use Rattle.inverse_order.specs.declared.EndsBy.{EndsBy}
+use Rattle.inverse_order.specs.declared.EndsBy.the-variants.{Knots, Curve}
 use Rattle.exports_reply.specs.declared.options.Way.{Way}
 use Rattle.exports_reply.specs.declared.options.Way.the-variants.{Known, Unknown}
 use Rattle.exports_reply.specs.Replies.{chosenOf, chosen}

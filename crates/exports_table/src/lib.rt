@@ -3,7 +3,7 @@
 ghost use mathlib.Core.Path.{_≡_};
 ghost use lib.ListN.{length};
 ghost use Rattle.convert.specs.Buffer.{answerOf, bufferOf};
-ghost use Rattle.inverse.specs.declared.EndsBy.the-variants.{Knots};
+ghost use Rattle.inverse_order.specs.declared.EndsBy.the-variants.{Knots};
 ghost use Rattle.inverse_segment.specs.Answer.{defaultLimit, defaultPrecision};
 ghost use Rattle.inverse_methods.specs.declared.Method.the-variants.{AsCrate};
 ghost use Rattle.table.specs.Calls.{tableInverseBy, tableSteadyOf, tableConvertedOf, tableStrictOf, handedOf};

@@ -30,7 +30,7 @@ use Rattle.inverse_search.specs.Trial.{trial}
 use Rattle.inverse_search.specs.Twice.{trialTwice}
 use Rattle.inverse_search.proofs.Fewer as search
 use Rattle.inverse.specs.declared.Ends.{Ends}
-use Rattle.inverse.specs.declared.EndsBy.{EndsBy}
+use Rattle.inverse_order.specs.declared.EndsBy.{EndsBy}
 use Rattle.inverse.specs.EndRule.{atLow, atHigh, endRuleOf}
 use Rattle.inverse.specs.Curve.{parameterOf, ended, located}
 use Rattle.inverse.specs.Inverse.{inverseUses, inverseBy}

@@ -29,8 +29,8 @@ use Rattle.inverse_search.specs.Contract.{resultOf, countIn}
 use Rattle.inverse_search.specs.Trial.{trial}
 use Rattle.inverse_search.specs.Search.{find}
 use Rattle.inverse.specs.declared.Ends.{Ends}
-use Rattle.inverse.specs.declared.EndsBy.{EndsBy}
-use Rattle.inverse.specs.declared.EndsBy.the-variants.{Knots, Curve}
+use Rattle.inverse_order.specs.declared.EndsBy.{EndsBy}
+use Rattle.inverse_order.specs.declared.EndsBy.the-variants.{Knots, Curve}
 use Rattle.inverse.specs.Contract.{LocatedIs}
 use Rattle.inverse.specs.EndRule.{atLow, atHigh, knotEnds, curveRule, endRuleOf, own}
 use Rattle.inverse.specs.Curve.{parameterOf, ended, located}

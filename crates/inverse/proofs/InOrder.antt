@@ -23,7 +23,7 @@ use Rattle.inverse_methods.specs.declared.Method.{Method}
 use Rattle.inverse_methods.specs.Method.{ruleOf}
 use Rattle.inverse_methods.proofs.Lawful.{lawful-of}
 use Rattle.inverse_search.proofs.Sound.{SoundIn, trial-tried}
-use Rattle.inverse.specs.declared.EndsBy.{EndsBy}
+use Rattle.inverse_order.specs.declared.EndsBy.{EndsBy}
 use Rattle.inverse.specs.EndRule.{atLow, atHigh, endRuleOf}
 use Rattle.inverse.specs.Curve.{parameterOf, located}
 use Rattle.inverse.specs.Inverse.{inverseBy}

@@ -28,8 +28,8 @@ use Rattle.inverse_methods.proofs.Lawful.{lawful-of}
 use Rattle.inverse_segment.proofs.Enclosing.{Numbers}
 use Rattle.inverse_search.specs.Bound.{bitsOf, boundOf}
 use Rattle.inverse_search.proofs.Found.{Holds}
-use Rattle.inverse.specs.declared.EndsBy.{EndsBy}
-use Rattle.inverse.specs.declared.EndsBy.the-variants.{Knots, Curve}
+use Rattle.inverse_order.specs.declared.EndsBy.{EndsBy}
+use Rattle.inverse_order.specs.declared.EndsBy.the-variants.{Knots, Curve}
 use Rattle.inverse.specs.EndRule.{EndRule, endRuleOf, own}
 use Rattle.inverse.specs.Curve.{located, evaluations}
 use Rattle.inverse.specs.Inverse.{inverseUses, inverseBy, evaluationsBy}

@@ -19,7 +19,7 @@ use Rattle.inverse_methods.specs.Steady.{secant}
 use Rattle.inverse_methods.proofs.Lawful.{secant-lawful}
 use Rattle.inverse_methods.proofs.Ending.{Enough}
 use Rattle.inverse_methods.proofs.Timely.{NeverSpent}
-use Rattle.inverse.specs.declared.EndsBy.{EndsBy}
+use Rattle.inverse_order.specs.declared.EndsBy.{EndsBy}
 use Rattle.inverse.specs.EndRule.{endRuleOf, own}
 use Rattle.inverse.specs.Inverse.{inverseBy}
 use Rattle.inverse.proofs.Glue.{rule-made}

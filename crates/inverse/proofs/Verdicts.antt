@@ -21,7 +21,7 @@ use Rattle.inverse_methods.specs.declared.Method.{Method}
 use Rattle.inverse_methods.specs.Method.{ruleOf}
 use Rattle.checks.proofs.Verdicts.{askedRows, lastRows}
 use Rattle.inverse_order.specs.Order.{turnsBack, turnBack}
-use Rattle.inverse.specs.declared.EndsBy.{EndsBy}
+use Rattle.inverse_order.specs.declared.EndsBy.{EndsBy}
 use Rattle.inverse.specs.EndRule.{endRuleOf}
 use Rattle.inverse.specs.Curve.{located}
 use Rattle.inverse.specs.Inverse.{inverseUses, inverseBy}

@@ -10,8 +10,8 @@ use Rattle.basis.specs.Basis.{stepOf, segmentsOf}
 use Rattle.doubles.specs.Numbers.{nought, one}
 use Rattle.inverse_segment.specs.Evaluations.{Evaluations, see}
 use Rattle.inverse.specs.declared.Ends.{Ends}
-use Rattle.inverse.specs.declared.EndsBy.{EndsBy}
-use Rattle.inverse.specs.declared.EndsBy.the-variants.{Knots, Curve}
+use Rattle.inverse_order.specs.declared.EndsBy.{EndsBy}
+use Rattle.inverse_order.specs.declared.EndsBy.the-variants.{Knots, Curve}
 use Rattle.inverse_order.specs.Order.{knot, rises}
 
 -- it goes by a direction, and a value at either end. Rising: y ≤ low gives parameter 0, and y ≥ high gives 1; falling: y ≥ low and y ≤ high

@@ -15,8 +15,8 @@ use Rattle.inverse_segment.specs.Answer.{inverted, unlessRefused, defaultPrecis
 use Rattle.inverse_methods.specs.declared.Method.{Method}
 use Rattle.inverse_methods.specs.declared.Method.the-variants.{AsCrate, Steady}
 use Rattle.inverse_methods.specs.Method.{ruleOf, steadyLimit}
-use Rattle.inverse.specs.declared.EndsBy.{EndsBy}
-use Rattle.inverse.specs.declared.EndsBy.the-variants.{Knots}
+use Rattle.inverse_order.specs.declared.EndsBy.{EndsBy}
+use Rattle.inverse_order.specs.declared.EndsBy.the-variants.{Knots}
 use Rattle.inverse_order.specs.Order.{turnBack}
 use Rattle.inverse.specs.EndRule.{endRuleOf}
 use Rattle.inverse.specs.Curve.{located, evaluations}

@@ -17,6 +17,7 @@ use basis::Basis;
 use error::Verdict;
 use inverse_methods::Method;
 use inverse_methods::STEADY_LIMIT;
+use inverse_order::EndsBy;
 use inverse_search::SearchResult;
 use inverse_segment::DEFAULT_LIMIT;
 use inverse_segment::DEFAULT_PRECISION;
@@ -25,12 +26,6 @@ use inverse_segment::Inversion;
 use inverse_segment::Place;
 
 pub mod refusals;
-
-// Whether the end rule goes by the knots, as in the crate, or by the curve's own ends.
-pub enum EndsBy {
-    Knots,
-    Curve,
-}
 
 // What the caller may choose: whether knots that turn back are refused, the most rounds, the precision, the end rule and the method.
 pub struct Options {

@@ -1,4 +1,4 @@
-// The direction of the knots, and the order check.
+// The direction of the knots, the order check, and by which ends a target may lie beyond a curve.
 ghost use mathlib.Core.Path.{_≡_};
 ghost use mathlib.Core.List.{[], _∷_};
 ghost use mathlib.Core.Bool.{not, _&&_};
@@ -11,6 +11,12 @@ ghost use Rattle.inverse_order.specs.Order.{before, rises, turnsBack, tu
 ghost use Rattle.inverse_order.specs.Contract.{follows, kept};
 use error::Refusal;
 use error::Verdict;
+
+// Whether the end rule of an inversion goes by the knots, as in the crate, or by the curve's own ends.
+pub enum EndsBy {
+    Knots,
+    Curve,
+}
 
 pub fn rising(knots: &[f64]) -> bool
     requires { ⌜ 4 ≤ length (now knots) ⌝ }

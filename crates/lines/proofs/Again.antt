@@ -14,7 +14,7 @@ use Rattle.basis.specs.declared.Basis.{Basis}
 use Rattle.error.proofs.First.{never}
 use Rattle.basis.specs.declared.Basis.the-variants.{Bspline, Bezier, CatmullRom, Hermite, Linear, Power}
 use Rattle.text_decimals.proofs.ReadBack.{number-back, dec-length}
-use Rattle.inverse.specs.declared.EndsBy.{EndsBy}
+use Rattle.inverse_order.specs.declared.EndsBy.{EndsBy}
 use Rattle.lines_record.specs.declared.Record.{Record}
 use Rattle.lines_record.specs.declared.Record.the-variants.{Curve as CurveOf, Span, Knot}
 use Rattle.lines_record.specs.Record.{nameOf, wordOf, namedOf, meaningOf, ofFields, recordOf}

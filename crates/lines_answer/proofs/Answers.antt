@@ -15,7 +15,7 @@ use Rattle.error.specs.declared.Refusal.{Refusal}
 use Rattle.error.specs.declared.Refusal.the-variants.{TooMany}
 use Rattle.error.proofs.First.{never}
 use Rattle.lines_record.specs.declared.Record.the-variants.{Knot}
-use Rattle.inverse.specs.declared.EndsBy.{EndsBy}
+use Rattle.inverse_order.specs.declared.EndsBy.{EndsBy}
 use Rattle.lines_reply.specs.Reply.{silence, refused, curve}
 use Rattle.table_span.specs.declared.Table.{Table}
 use Rattle.table_span.specs.Second.{spansOf}

@@ -15,9 +15,9 @@ ghost use Rattle.lines_answer.specs.Contract.{curveOf, countOf, Answers}
 use basis::Basis;
 use convert::ConversionAnswer;
 use error::Refusal;
-use inverse::EndsBy;
 use inverse::Options;
 use inverse_methods::Method;
+use inverse_order::EndsBy;
 use inverse_segment::DEFAULT_LIMIT;
 use inverse_segment::DEFAULT_PRECISION;
 use inverse_segment::Inversion;

@@ -6,7 +6,7 @@ ghost use Rattle.text_decimals.specs.Decimals.{numberIn};
 ghost use Rattle.lines_record.specs.declared.Record.the-variants.{Span, Ends};
 ghost use Rattle.lines_record.specs.Record.{wordOf, namedOf, endsOf, withNumber, withEnds, meaningOf, ofFields, recordOf};
 use basis::Basis;
-use inverse::EndsBy;
+use inverse_order::EndsBy;
 use text::HexNumber;
 
 pub enum Record {

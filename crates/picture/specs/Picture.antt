@@ -6,7 +6,7 @@ use lib.ListN.{length, getD}
 use lib.Ieee.{Float, nan}
 use Rattle.basis.specs.declared.Basis.{Basis}
 use Rattle.doubles.specs.Numbers.{nought}
-use Rattle.inverse.specs.declared.EndsBy.{EndsBy}
+use Rattle.inverse_order.specs.declared.EndsBy.{EndsBy}
 use Rattle.spline.specs.Evaluation.{splineOf}
 use Rattle.spline.specs.declared.Evaluation.{Evaluation}
 use Rattle.spline.specs.declared.Evaluation.the-variants as E

@@ -3,7 +3,7 @@ use mathlib.Core.List.{List, []}
 use Prim.Native.Nat.{ℕ}
 use Rattle.basis.specs.declared.Basis.the-variants.{Linear}
 use Rattle.doubles.specs.Numbers.{nought}
-use Rattle.inverse.specs.declared.EndsBy.the-variants.{Knots}
+use Rattle.inverse_order.specs.declared.EndsBy.the-variants.{Knots}
 use Rattle.lines_answer.specs.Answer.{Curve, none, on, bare, replyTo}
 use Rattle.lines_answer.specs.Answer.{afterOf as curveAfter}
 use Rattle.lines_machine.specs.Program.{Line, Program}

@@ -7,7 +7,7 @@ ghost use Rattle.lines_reply.specs.Contract.{longest};
 ghost use Rattle.picture_scale.specs.Bounds.{Open};
 ghost use Rattle.picture.specs.Picture.{pointsText, knotText, knotsText, curveText, bodyIn, headText, pictureText};
 use basis::Basis;
-use inverse::EndsBy;
+use inverse_order::EndsBy;
 use picture_finds::Finds;
 use picture_notes::Fault;
 use picture_scale::Extent;

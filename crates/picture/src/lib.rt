@@ -12,7 +12,7 @@ ghost use Rattle.lines_reply.specs.Contract.{replyOf, longest};
 ghost use Rattle.picture.specs.Program.{nothingDrawn, findsAfter, faultIn, faultAfter, pictureProgram};
 ghost use Rattle.picture.specs.Contract.{drawingOf, countOf};
 use basis::Basis;
-use inverse::EndsBy;
+use inverse_order::EndsBy;
 use lines_record::Record;
 use lines_reply::LineReply;
 use picture_finds::Finds;

@@ -18,9 +18,9 @@ ghost use Rattle.picture_finds.specs.Finds.{
 };
 use basis::Basis;
 use error::Refusal;
-use inverse::EndsBy;
 use inverse::Options;
 use inverse_methods::Method;
+use inverse_order::EndsBy;
 use inverse_segment::DEFAULT_LIMIT;
 use inverse_segment::DEFAULT_PRECISION;
 use inverse_segment::Inversion;

@@ -26,8 +26,8 @@ use Rattle.inverse_methods.specs.declared.Method.the-variants.{AsCrate, Steady}
 use Rattle.inverse_methods.specs.Method.{ruleOf, steadyLimit}
 use Rattle.inverse_methods.proofs.spline_inverse_segment_by.Reads as spline_inverse_segment_by
 use Rattle.inverse_methods.proofs.spline_inverse_segment_steady.Reads as spline_inverse_segment_steady
-use Rattle.inverse.specs.declared.EndsBy.{EndsBy}
-use Rattle.inverse.specs.declared.EndsBy.the-variants.{Knots}
+use Rattle.inverse_order.specs.declared.EndsBy.{EndsBy}
+use Rattle.inverse_order.specs.declared.EndsBy.the-variants.{Knots}
 use Rattle.inverse.specs.Inverse.{inverseBy}
 use Rattle.inverse.proofs.Facts.{AtPlace}
 use Rattle.inverse.proofs.spline_inverse_by.Reads as spline_inverse_by

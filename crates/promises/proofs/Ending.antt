@@ -19,7 +19,7 @@ use Rattle.inverse_methods.proofs.Ending.{Enough}
 use Rattle.inverse_methods.proofs.Times.{twoToMinus, default-enough, power-enough, any-enough}
 use Rattle.inverse_methods.proofs.Timely.{SegmentWithin, segment-timely}
 use Rattle.inverse_methods.proofs.spline_inverse_segment_by.Reads as spline_inverse_segment_by
-use Rattle.inverse.specs.declared.EndsBy.{EndsBy}
+use Rattle.inverse_order.specs.declared.EndsBy.{EndsBy}
 use Rattle.inverse.specs.Inverse.{inverseBy}
 use Rattle.inverse.proofs.Timely.{Within, timely}
 use Rattle.inverse.proofs.spline_inverse_by.Reads as spline_inverse_by

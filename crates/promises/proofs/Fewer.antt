@@ -11,8 +11,8 @@ use Rattle.inverse_segment.specs.declared.Inversion.{Inversion}
 use Rattle.inverse_segment.specs.Answer.{defaultLimit, defaultPrecision}
 use Rattle.inverse_methods.specs.declared.Method.{Method}
 use Rattle.inverse_methods.specs.declared.Method.the-variants.{AsCrate}
-use Rattle.inverse.specs.declared.EndsBy.{EndsBy}
-use Rattle.inverse.specs.declared.EndsBy.the-variants.{Knots}
+use Rattle.inverse_order.specs.declared.EndsBy.{EndsBy}
+use Rattle.inverse_order.specs.declared.EndsBy.the-variants.{Knots}
 use Rattle.inverse.specs.Inverse.{inverseBy}
 use Rattle.inverse.proofs.Fewer.{Fewer, twice, inverse-fewer}
 use Rattle.inverse.proofs.spline_inverse_by.Reads as spline_inverse_by

@@ -18,7 +18,7 @@ use Rattle.spline.specs.Evaluation.{splineUses, splineSegmentUses}
 use Rattle.inverse_segment.specs.declared.Inversion.the-variants as I
 use Rattle.inverse_segment.specs.Answer.{inverseSegmentUses, defaultLimit, defaultPrecision}
 use Rattle.inverse_methods.specs.declared.Method.the-variants.{AsCrate}
-use Rattle.inverse.specs.declared.EndsBy.the-variants.{Knots}
+use Rattle.inverse_order.specs.declared.EndsBy.the-variants.{Knots}
 use Rattle.inverse.specs.Inverse.{inverseUses}
 use Rattle.inverse_order.proofs.TurnsBack.{AgainstAt}
 use Rattle.inverse.proofs.Refusing.{inverse-turns-back}

@@ -11,7 +11,7 @@ use Rattle.inverse_segment.specs.declared.Inversion.the-variants as I
 use Rattle.inverse_segment.specs.Answer.{inverseSegmentBy}
 use Rattle.inverse_methods.specs.declared.Method.{Method}
 use Rattle.inverse_methods.specs.Method.{ruleOf}
-use Rattle.inverse.specs.declared.EndsBy.{EndsBy}
+use Rattle.inverse_order.specs.declared.EndsBy.{EndsBy}
 use Rattle.inverse.specs.Inverse.{inverseBy}
 use Rattle.exports_reply.specs.declared.BasisChoice.{BasisChoice}
 use Rattle.exports_reply.specs.declared.BasisChoice.the-variants.{Known, Unknown}

@@ -25,7 +25,7 @@ use Rattle.inverse_methods.specs.declared.Method.the-variants.{AsCrate}
 use Rattle.inverse_search.specs.Bound.{bitsOf}
 use Rattle.inverse_search.specs.Search.{tries, last, halve, find}
 use Rattle.inverse_search.proofs.Found.{Holds, Straight}
-use Rattle.inverse.specs.declared.EndsBy.the-variants.{Knots}
+use Rattle.inverse_order.specs.declared.EndsBy.the-variants.{Knots}
 use Rattle.inverse.specs.Curve.{parameterOf, located}
 use Rattle.inverse.specs.Inverse.{inverseBy, inverseOf}
 use Rattle.inverse.proofs.Promises.{Pass, Quiet, Premise}

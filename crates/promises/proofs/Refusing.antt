@@ -28,7 +28,7 @@ use Rattle.inverse_segment.specs.declared.Inversion.the-variants as I
 use Rattle.inverse_methods.specs.declared.Method.the-variants.{AsCrate}
 use Rattle.inverse_segment.specs.Round.{Rule, asCrate}
 use Rattle.inverse_segment.specs.Segment.{Outcome, enter, outcomeOf}
-use Rattle.inverse.specs.declared.EndsBy.the-variants.{Knots}
+use Rattle.inverse_order.specs.declared.EndsBy.the-variants.{Knots}
 use Rattle.inverse_segment.specs.Answer.{answered, inverted, alone, inverseSegmentUses, inverseSegmentBy, defaultLimit, defaultPrecision}
 use Rattle.inverse_segment.proofs.Verdicts.{answered-past, refused-by}
 use Rattle.inverse_methods.proofs.spline_inverse_segment_with.Reads as spline_inverse_segment_with

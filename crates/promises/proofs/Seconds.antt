@@ -23,8 +23,8 @@ use Rattle.inverse_segment.specs.declared.Place.{Place}
 use Rattle.inverse_segment.specs.Answer.{defaultLimit, defaultPrecision}
 use Rattle.inverse_methods.specs.declared.Method.{Method}
 use Rattle.inverse_methods.specs.declared.Method.the-variants.{AsCrate}
-use Rattle.inverse.specs.declared.EndsBy.{EndsBy}
-use Rattle.inverse.specs.declared.EndsBy.the-variants.{Knots}
+use Rattle.inverse_order.specs.declared.EndsBy.{EndsBy}
+use Rattle.inverse_order.specs.declared.EndsBy.the-variants.{Knots}
 use Rattle.inverse.specs.Inverse.{inverseUses, inverseBy}
 use Rattle.inverse.proofs.Facts.{AtPlace, Proper}
 use Rattle.inverse.proofs.Promises.{inverse-proper}

@@ -12,8 +12,8 @@ use Rattle.convert.specs.Buffer.{answerOf, bufferOf}
 use Rattle.inverse_segment.specs.Answer.{defaultLimit, defaultPrecision}
 use Rattle.inverse_methods.specs.declared.Method.{Method}
 use Rattle.inverse_methods.specs.declared.Method.the-variants.{AsCrate}
-use Rattle.inverse.specs.declared.EndsBy.{EndsBy}
-use Rattle.inverse.specs.declared.EndsBy.the-variants.{Knots}
+use Rattle.inverse_order.specs.declared.EndsBy.{EndsBy}
+use Rattle.inverse_order.specs.declared.EndsBy.the-variants.{Knots}
 use Rattle.spline.specs.declared.Evaluation.{Evaluation}
 use Rattle.spline.specs.declared.Evaluation.the-variants as E
 use Rattle.table.specs.declared.TableInversion.{TableInversion}

@@ -60,8 +60,8 @@ use Rattle.inverse_search.specs.Trial.{trial}
 use Rattle.inverse_methods.specs.declared.Method.{Method}
 use Rattle.inverse_methods.specs.declared.Method.the-variants.{AsCrate}
 use Rattle.inverse_methods.specs.Method.{ruleOf}
-use Rattle.inverse.specs.declared.EndsBy.{EndsBy}
-use Rattle.inverse.specs.declared.EndsBy.the-variants.{Knots}
+use Rattle.inverse_order.specs.declared.EndsBy.{EndsBy}
+use Rattle.inverse_order.specs.declared.EndsBy.the-variants.{Knots}
 use Rattle.inverse.specs.EndRule.{atLow, atHigh, EndRule, endRuleOf}
 use Rattle.inverse.specs.Curve.{parameterOf, ended, located, evaluations}
 use Rattle.inverse.specs.Inverse.{inverseUses, inverseBy, evaluationsBy}

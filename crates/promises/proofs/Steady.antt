@@ -30,8 +30,8 @@ use Rattle.inverse_methods.proofs.Times.{default-enough}
 use Rattle.inverse_methods.proofs.Timely.{NeverSpent, segment-timely}
 use Rattle.inverse_methods.proofs.spline_inverse_segment_steady.Reads as spline_inverse_segment_steady
 use Rattle.inverse_search.specs.Bound.{boundOf}
-use Rattle.inverse.specs.declared.EndsBy.{EndsBy}
-use Rattle.inverse.specs.declared.EndsBy.the-variants.{Knots}
+use Rattle.inverse_order.specs.declared.EndsBy.{EndsBy}
+use Rattle.inverse_order.specs.declared.EndsBy.the-variants.{Knots}
 use Rattle.inverse.specs.Inverse.{inverseUses, steadyOf}
 use Rattle.inverse.proofs.Fewer.{Fewer, twice}
 use Rattle.inverse.proofs.Promises.{Promised, reply-promised}

@@ -14,7 +14,7 @@ use Rattle.convert_matrix.specs.Elimination.{conversionOf}
 use Rattle.convert.specs.Output.{windows, windowOf, splineOutput}
 use Rattle.convert.specs.Conversion.{Conversion, gives, convertUses, convertedOf}
 use Rattle.convert.proofs.Kept.{given, spline-length}
-use Rattle.inverse.specs.declared.EndsBy.{EndsBy}
+use Rattle.inverse_order.specs.declared.EndsBy.{EndsBy}
 use Rattle.table_span.specs.declared.Table.{Table}
 use Rattle.table_span.specs.Second.{day}
 use Rattle.lines_answer.specs.Answer.{Curve, none, on, places, curveReply, replyTo, afterOf}

@@ -18,7 +18,7 @@ use Rattle.error.specs.declared.Verdict.{Verdict}
 use Rattle.error.specs.declared.Verdict.the-variants.{Passed, Failed}
 use Rattle.error.specs.Refusals.{Uses, applies, first}
 use Rattle.error.proofs.Orders.{orderOf}
-use Rattle.inverse.specs.declared.EndsBy.{EndsBy}
+use Rattle.inverse_order.specs.declared.EndsBy.{EndsBy}
 use Rattle.inverse.specs.Inverse.{inverseUses, inverseBy}
 use Rattle.inverse_segment.specs.Answer.{inverted}
 use Rattle.inverse_segment.specs.declared.Inversion.{Inversion}

@@ -23,7 +23,7 @@ use Rattle.inverse_segment.specs.declared.Inversion.{Inversion}
 use Rattle.inverse_segment.specs.declared.Inversion.the-variants as I
 use Rattle.inverse_segment.specs.Answer.{inverseSegmentBy, defaultLimit, defaultPrecision}
 use Rattle.inverse.specs.Inverse.{inverseBy, inverseOf, inverseEvaluations}
-use Rattle.inverse.specs.declared.EndsBy.the-variants.{Curve}
+use Rattle.inverse_order.specs.declared.EndsBy.the-variants.{Curve}
 use Rattle.inverse_methods.specs.declared.Method.{Method}
 use Rattle.inverse_methods.specs.declared.Method.the-variants.{AsCrate, Taught, Steady}
 use Rattle.inverse_methods.specs.Method.{ruleOf}

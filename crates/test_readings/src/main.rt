@@ -2,9 +2,9 @@
 use basis::Basis;
 use convert::ConversionAnswer;
 use error::Refusal;
-use inverse::EndsBy;
 use inverse::Options;
 use inverse_methods::Method;
+use inverse_order::EndsBy;
 use inverse_segment::Ground;
 use inverse_segment::Inversion;
 use spline::Evaluation;

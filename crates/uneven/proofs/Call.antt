@@ -27,7 +27,7 @@ use Rattle.inverse_segment.specs.declared.Inversion.the-variants.{Refused as No
 use Rattle.inverse_segment.specs.Answer.{countTold}
 use Rattle.inverse_methods.specs.declared.Method.the-variants.{AsCrate}
 use Rattle.inverse_search.specs.Bound.{bitsOf, boundOf}
-use Rattle.inverse.specs.declared.EndsBy.the-variants.{Knots}
+use Rattle.inverse_order.specs.declared.EndsBy.the-variants.{Knots}
 use Rattle.inverse.specs.Inverse.{inverseUses, inverseOf, inverseEvaluations}
 use Rattle.inverse.proofs.Facts.{AtPlace, Proper}
 use Rattle.inverse.proofs.Promises.{inverse-count, inverse-bounded, few-bound, many-bound, inverse-proper}

@@ -1,7 +1,7 @@
 -- A number that is no basis writes nothing (`unfound`); for any other the call's contract is carried over to what C sees (`found`).
 use mathlib.Core.Path.{ap, _∙_}
 use Rattle.inverse_segment.specs.Answer.{defaultLimit, defaultPrecision}
-use Rattle.inverse.specs.declared.EndsBy.the-variants.{Knots}
+use Rattle.inverse_order.specs.declared.EndsBy.the-variants.{Knots}
 use Rattle.inverse_methods.specs.declared.Method.the-variants.{AsCrate}
 use Rattle.table.specs.Calls.{tableInverseBy}
 use Rattle.exports_reply.specs.Replies.{noBasis}
