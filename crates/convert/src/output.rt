@@ -11,17 +11,13 @@ ghost use Rattle.convert.specs.Buffer.{bufferOf};
 ghost use Rattle.convert.specs.Contract.{placed, listOf};
 use spline::RowSums;
 
-// Writes the last `stride` doubles of a window, from place `at` on.
+// Writes the last `stride` doubles of a window, two or more, from place `at` on.
 pub fn put_last(out: &mut [f64], at: usize, w: RowSums, stride: usize)
-    requires some { ⌜ 0 < stride ⌝ }
+    requires some { ⌜ 1 < stride ⌝ }
     requires few { ⌜ stride ≤ 4 ⌝ }
     requires room { ⌜ at + stride ≤ length (now out) ⌝ }
     ensures { λ _. ⌜ now (out .exit) ≡ placed at (drop (4 - stride) (listOf w)) (now (out .entry)) ⌝ }
 {
-    if stride == 1 {
-        out[at] = w.w3;
-        return;
-    }
     if stride == 2 {
         out[at] = w.w2;
         out[at + 1] = w.w3;

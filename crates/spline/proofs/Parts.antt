@@ -48,7 +48,11 @@ pub put-together : (b : Basis) (x : Float) (ks : List Float) {k step s : ℕ} {r
 unfolding curveValue
 put-together b x ks {k} {step} {s} {r} {t} c e u h f = let v = subst (λ (j : ℕ). IsSpot j x s t) c u in f ∙ simp (h, rest, e, v .segment, v .local)
 
--- a segment's value, where the basis is known
+-- the row sums and a segment's value, where the basis is known
+pub by-basis-sums : (b c : Basis) (m : List (List Float)) (cv : List Float) {w : RowSums} → b ≡ c → m ≡ matrixOf c → w ≡ rowSumsOf m cv
+    → w ≡ rowSumsOf (matrixOf b) cv
+by-basis-sums b c m cv e k h = h ∙ (ap (λ (n : List (List Float)). rowSumsOf n cv) k ∙ ap (λ (d : Basis). rowSumsOf (matrixOf d) cv) (sym e))
+
 pub by-basis-segment : (b c : Basis) (m : List (List Float)) (cv : List Float) (t : Float) {w : RowSums} {r : Float} → b ≡ c → m ≡ matrixOf c
     → w ≡ rowSumsOf m cv → r ≡ hornerOf w t → r ≡ segmentValue (matrixOf b) cv t
 by-basis-segment b c m cv t e k h f =
