@@ -39,7 +39,7 @@ pub enum LineReply {
 }
 
 // The number of a knot or a segment, after a tab.
-fn put_knot(out: &mut [u8], at: usize, i: u16) -> usize
+fn put_number(out: &mut [u8], at: usize, i: u16) -> usize
     requires { ⌜ at + 6 ≤ length (now out) ⌝ }
     ensures text { λ n. ⌜ Wrote (now (out .entry)) at (placesText (i ∷ [])) (now (out .exit)) n ⌝ }
     ensures short { λ n. ⌜ n ≤ at + 6 ⌝ }
@@ -51,10 +51,10 @@ fn put_knot(out: &mut [u8], at: usize, i: u16) -> usize
 // The knot or segment that a refusal tells.
 pub enum Where {
     Nowhere,
-    Knot(u16),
+    At(u16),
 }
 
-fn knot_of(r: Refusal) -> Where
+fn where_told(r: Refusal) -> Where
     ensures { λ w. ⌜ placesIn w ≡ placesOf r ⌝ }
 {
     match r {
@@ -70,14 +70,14 @@ fn knot_of(r: Refusal) -> Where
         Refusal::ShortBuffer => Where::Nowhere,
         Refusal::BadStep => Where::Nowhere,
         Refusal::NoSegment => Where::Nowhere,
-        Refusal::BadKnot(i) => Where::Knot(i),
-        Refusal::TurnsBack(i) => Where::Knot(i),
+        Refusal::BadKnot(i) => Where::At(i),
+        Refusal::TurnsBack(i) => Where::At(i),
         Refusal::UnequalSegments => Where::Nowhere,
         Refusal::OffCurve => Where::Nowhere,
         Refusal::BadLine => Where::Nowhere,
         Refusal::BadSheet => Where::Nowhere,
         Refusal::NoComparison => Where::Nowhere,
-        Refusal::LostSeam(i) => Where::Knot(i),
+        Refusal::LostSeam(i) => Where::At(i),
     }
 }
 
@@ -87,7 +87,7 @@ fn put_places(out: &mut [u8], at: usize, w: Where) -> usize
     ensures short { λ n. ⌜ n ≤ at + 6 ⌝ }
 {
     match w {
-        Where::Knot(i) => put_knot(out, at, i),
+        Where::At(i) => put_number(out, at, i),
         Where::Nowhere => at,
     }
 }
@@ -99,7 +99,7 @@ pub fn put_refused(out: &mut [u8], at: usize, r: Refusal) -> usize
 {
     let a = text::put_word(&mut *out, at, b"refused\t");
     let b = text::put_decimal(&mut *out, a, error::number(r) as u32, 2);
-    let c = put_places(&mut *out, b, knot_of(r));
+    let c = put_places(&mut *out, b, where_told(r));
     text::put_byte(out, c, b'\n')
 }
 

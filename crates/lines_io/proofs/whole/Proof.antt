@@ -28,13 +28,25 @@ loop-less : tie.Need-loop-less Inv-loop μ-loop
 loop-less c = search needs
 
 loop-again : tie.Need-loop-again Inv-loop μ-loop
-loop-again c = (omega arith, omega arith, omega arith, c .before .before .before .before .before .before .before .before .before .before .before .before .before .before .before .before .read-once .ensures)
+loop-again c = (
+  omega arith,
+  omega arith,
+  omega arith,
+  c .before .before .before .before .before .before .before .before .before .before .before .before .before .before .before .before .read-once
+      .ensures,
+)
 
 loop-less-2 : tie.Need-loop-less-2 Inv-loop μ-loop
 loop-less-2 c = search needs
 
 loop-again-2 : tie.Need-loop-again-2 Inv-loop μ-loop
-loop-again-2 c = (omega arith, omega arith, omega arith, c .before .before .before .before .before .before .before .before .before .before .before .before .before .before .before .before .read-once .ensures)
+loop-again-2 c = (
+  omega arith,
+  omega arith,
+  omega arith,
+  c .before .before .before .before .before .before .before .before .before .before .before .before .before .before .before .before .read-once
+      .ensures,
+)
 
 close-requires : tie.Need-close-requires Inv-loop μ-loop
 close-requires c κs = (c .before .before .before .before .before .before .before .before .loop .inv .3, (omega arith, omega arith))

@@ -20,8 +20,8 @@ cast-put-decimal c = search needs
 put-decimal-requires : tie.Need-put-decimal-requires
 put-decimal-requires c κs = search needs
 
-knot-of-requires : tie.Need-knot-of-requires
-knot-of-requires c κs = search needs
+where-told-requires : tie.Need-where-told-requires
+where-told-requires c κs = search needs
 
 put-places-requires : tie.Need-put-places-requires
 put-places-requires c κs = search needs
@@ -37,7 +37,7 @@ returns c = (
   then (then (then (c .before .before .before .before .before .before .before .before .before .before .before .before .before .before .before .before
       .put-word .ensures) (rw (c .before .before .before .before .before .before .before .before .before .before .before .before .number .ensures) at
       (c .before .before .before .before .before .before .before .before .before .before .before .put-decimal .ensures .0)))
-      (rw (c .before .before .before .before .before .before .before .knot-of .ensures) at
+      (rw (c .before .before .before .before .before .before .before .where-told .ensures) at
       (c .before .before .before .before .before .before .put-places .ensures .0))) (c .before .before .put-byte .ensures),
   omega (
     arith,
@@ -58,7 +58,7 @@ put-refused-spec =
     number-requires
     cast-put-decimal
     put-decimal-requires
-    knot-of-requires
+    where-told-requires
     put-places-requires
     put-byte-requires
     same-length

@@ -1,7 +1,7 @@
--- `lines_reply::knot_of` meets its contract: in each arm the refusal is that arm's. Assumes nothing.
+-- `lines_reply::where_told` meets its contract: in each arm the refusal is that arm's. Assumes nothing.
 use borrow.Author.Needs.{needs}
-use Rattle.lines_reply.proofs.knot_of.Statement.{statement}
-use Rattle.lines_reply.proofs.knot_of.Tie as tie
+use Rattle.lines_reply.proofs.where_told.Statement.{statement}
+use Rattle.lines_reply.proofs.where_told.Tie as tie
 
 enum-told : tie.Need-enum-told
 enum-told c = search needs
@@ -123,8 +123,8 @@ returns-19 c = rw (c .enum-told17 .given .1)
 returns-20 : tie.Need-returns-20
 returns-20 c = rw (c .before .r3 .given .1)
 
-pub knot-of-spec : {M : Type 1} → statement M
-knot-of-spec =
+pub where-told-spec : {M : Type 1} → statement M
+where-told-spec =
     tie.close
     (tie.spec
     enum-told

@@ -2,8 +2,8 @@
 use native.Mathlib.Omega.{arith}
 use Rattle.text.proofs.Writing.{then, nothing}
 use borrow.Author.Needs.{needs}
-use Rattle.lines_reply.proofs.put_knot.Statement.{statement}
-use Rattle.lines_reply.proofs.put_knot.Tie as tie
+use Rattle.lines_reply.proofs.put_number.Statement.{statement}
+use Rattle.lines_reply.proofs.put_number.Tie as tie
 
 put-byte-requires : tie.Need-put-byte-requires
 put-byte-requires c κs = search needs
@@ -20,5 +20,5 @@ returns c = (
   omega (arith, c .before .before .before .before .before .before .put-byte .ensures .next, c .before .before .put-decimal .ensures .1),
 )
 
-pub put-knot-spec : {M : Type 1} → statement M
-put-knot-spec = tie.close (tie.spec put-byte-requires put-decimal-requires same-length returns)
+pub put-number-spec : {M : Type 1} → statement M
+put-number-spec = tie.close (tie.spec put-byte-requires put-decimal-requires same-length returns)
