@@ -1,13 +1,13 @@
 -- The rows in the table's order, by the tests as the code makes them; what a passed verdict says; and the answer by each way out. Assumes nothing.
 use mathlib.Core.Path.{_≡_, refl, sym, ap, _∙_}
-use mathlib.Core.Bool.{Bool, true, false, not, _||_}
+use mathlib.Core.Bool.{Bool, true, false, not}
 use mathlib.Core.List.{List, [], _∷_}
-use Prim.Native.Nat.{ℕ, _+_, _*_, _-_, _/_, _≤_, _<_}
+use Prim.Native.Nat.{ℕ, _+_, _*_, _-_, _≤_, _<_}
 use native.Mathlib.Omega.{arith}
 use borrow.Author.Tests.{lt-ltb, le-ltb, ltb-true, ltb-false, not-false}
 use lib.Dec.{ltb}
 use lib.ListN.{length, take, drop}
-use lib.Ieee.{Float, le, ne, isNan}
+use lib.Ieee.{Float, le, ne}
 use Rattle.error.specs.declared.Refusal.{Refusal}
 use Rattle.error.specs.declared.Refusal.the-variants.{NotANumber, BadPrecision, NoSegment}
 use Rattle.error.specs.declared.Verdict.{Verdict}
@@ -22,7 +22,6 @@ use Rattle.checks.specs.Checks.{curveLength, precise, badKnot}
 use Rattle.spline.specs.Segment.{segmentValue, segmentOf}
 use Rattle.spline.proofs.Parts.{rest, inside}
 use Rattle.inverse_segment.specs.Segment.{near}
-use Rattle.claim.specs.declared.ClaimAnswer.{ClaimAnswer}
 use Rattle.claim.specs.declared.ClaimAnswer.the-variants.{Refused, Holds, Differs}
 use Rattle.claim.specs.Claim.{claimUses, accepts, claimOf}
 

@@ -3,7 +3,6 @@
 use mathlib.Core.Path.{_≡_, refl}
 use mathlib.Core.Bool.{true, false}
 use mathlib.Core.List.{List, [], _∷_}
-use Prim.Native.Nat.{ℕ}
 use lib.IntN.{pos, negsuc}
 use lib.Ieee.{Float, fin, round, ofInt, ofBits, add, sub, mul, div, lt, le, eq, ne, neg, isNan}
 use Rattle.basis.specs.declared.Basis.the-variants.{Bspline, Bezier}

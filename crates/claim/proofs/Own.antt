@@ -3,12 +3,12 @@
 -- it. Assumes nothing.
 use mathlib.Core.Path.{_≡_, refl, sym, ap, subst, _∙_}
 use mathlib.Core.Logic.{_⊎_, inl, inr}
-use mathlib.Core.Bool.{Bool, true, false, cond, not, _&&_, _||_}
-use mathlib.Core.List.{List, []}
-use Prim.Native.Nat.{ℕ, _<_, _-_, _/_, _%_, _+_}
+use mathlib.Core.Bool.{Bool, true, false, not, _&&_}
+use mathlib.Core.List.{List}
+use Prim.Native.Nat.{ℕ, _<_, _-_}
 use native.Mathlib.Omega.{arith}
 use borrow.Author.Tests.{lt-ltb, not-false}
-use lib.Dec.{T, T-not, ltb, eqb}
+use lib.Dec.{T, ltb}
 use lib.ListN.{length}
 use lib.Ieee.{Float, binary64, sub, mul, lt, le, eq, isNan, fits, nan, inf, fin}
 use lib.Ieee.Fits.{and-l, and-r, and-i}
@@ -21,7 +21,7 @@ use Rattle.basis.specs.declared.Basis.the-variants.{Bspline, Bezier, CatmullRom
 use Rattle.basis.specs.Basis.{segmentsOf, regular}
 use Rattle.doubles.specs.Numbers.{nought, one, two, magnitudeOf}
 use Rattle.doubles.proofs.Bounds.{InOne}
-use Rattle.doubles.proofs.Tests.{holds, fails}
+use Rattle.doubles.proofs.Tests.{holds}
 use Rattle.doubles.proofs.Units.{nought-le}
 use Rattle.doubles.proofs.Order.{le-trans-float}
 use Rattle.spline.specs.Segment.{segmentOf}
@@ -32,19 +32,18 @@ use Rattle.inverse_segment.specs.declared.Place.{Place}
 use Rattle.inverse_segment.specs.declared.Inversion.{Inversion}
 use Rattle.inverse_segment.specs.declared.Inversion.the-variants as I
 use Rattle.inverse_segment.specs.Segment.{near}
-use Rattle.inverse_segment.specs.Answer.{inverted, answered, alone, inverseSegmentUses, inverseSegmentBy}
-use Rattle.inverse_segment.proofs.Enclosing.{Says, Sound}
-use Rattle.inverse_segment.proofs.Verdicts.{passes, answered-past}
+use Rattle.inverse_segment.specs.Answer.{inverted, inverseSegmentUses, inverseSegmentBy}
+use Rattle.inverse_segment.proofs.Enclosing.{Says}
+use Rattle.inverse_segment.proofs.Verdicts.{passes}
 use Rattle.inverse_segment.proofs.Call.{Owed, inverse-segment-owed}
 use Rattle.inverse_methods.specs.declared.Method.{Method}
 use Rattle.inverse_methods.specs.Method.{ruleOf}
 use Rattle.inverse_methods.proofs.Lawful.{lawful-of}
 use Rattle.inverse_order.specs.declared.EndsBy.{EndsBy}
 use Rattle.inverse.specs.Inverse.{inverseUses, inverseBy}
-use Rattle.inverse.proofs.Facts.{AtPlace, Proper, Enclosing, Enclosed, GroundSays}
+use Rattle.inverse.proofs.Facts.{AtPlace, Proper, Enclosed, GroundSays}
 use Rattle.inverse.proofs.Promises.{inverse-proper, inverse-enclosed, inverse-ground, here, rule, k}
-use Rattle.claim.specs.declared.ClaimAnswer.{ClaimAnswer}
-use Rattle.claim.specs.declared.ClaimAnswer.the-variants.{Refused, Holds, Differs}
+use Rattle.claim.specs.declared.ClaimAnswer.the-variants.{Holds, Differs}
 use Rattle.claim.specs.Claim.{claimUses, accepts, claimed, claimOf}
 use Rattle.claim.proofs.Swap.{difference-swapped}
 use Rattle.claim.proofs.Twice.{twice-le, lt-le-trans}

@@ -1,22 +1,20 @@
 -- A double above 0 is at most twice itself, as rounded; and less than a lesser bound is less than a greater. Assumes nothing.
 use mathlib.Core.Path.{_≡_, refl, sym}
-use mathlib.Core.Bool.{Bool, true, false, not, _&&_}
-use Prim.Native.Nat.{ℕ, _+_, _*_, _^_, _≤_, _<_}
+use mathlib.Core.Bool.{Bool, true, false, not}
+use Prim.Native.Nat.{ℕ, _*_, _^_, _≤_, _<_}
 use native.Mathlib.Nat.{le-trans, le-of-eq, lt-of-le-of-lt, mul-le-mul-right, mul-pos, one-mul}
 use native.Mathlib.Omega.{arith}
 use lib.IntN.{ℤ, pos}
-use lib.Dec.{T, T-not, not-T, lit<}
+use lib.Dec.{T, lit<}
 use lib.Pow.{pow-pos}
 use lib.Ieee.{Float, nan, inf, fin, binary64, low, up, down, mul, round, lt, le, eq, isNan, fits}
-use lib.Ieee.Fits.{down-pos, and-l, and-r}
-use lib.Ieee.Exact.{HasValue}
+use lib.Ieee.Fits.{down-pos, and-l}
 use lib.Ieee.Order.{round-mono, le-of-values}
 use lib.Ieee.Scale.{grid, round-val}
-use Rattle.doubles.specs.Numbers.{nought, two}
+use Rattle.doubles.specs.Numbers.{two}
 use Rattle.doubles.proofs.Rounding.{grid-short-le, grid-short-ge}
 use Rattle.doubles.proofs.Order.{le-trans-float, lt→le, not-lt→le, lt-le-absurd}
 use Rattle.doubles.proofs.Units.{units-of}
-use Rattle.doubles.proofs.Tests.{branch}
 use Rattle.checks.specs.Checks.{precise}
 
 -- a value of the format is at most what it rounds to

@@ -9,7 +9,6 @@ use borrow.Author.Tests.{eq-eqb, ne-eqb, eqb-true}
 use lib.Dec.{eqb}
 use lib.ListN.{length, getD, drop, drop-of-length-le}
 use lib.Seq.{drop-cons}
-use Rattle.basis.specs.declared.Basis.{Basis}
 use Rattle.table_span.specs.declared.Table.{Table}
 use Rattle.compare.specs.Differences.{
   Difference,
@@ -25,7 +24,7 @@ use Rattle.compare.specs.Differences.{
   newAt,
   rebuilt,
 }
-use Rattle.compare.proofs.Listed.{orderOf, Ordered, knots-ordered}
+use Rattle.compare.proofs.Listed.{Ordered, knots-ordered}
 
 -- a place below all that are listed is as it was
 below : (i j : ℕ) (ds : List Difference) (a : ℕ) → 2 + j < i → Ordered i ds → newAt j ds a ≡ a

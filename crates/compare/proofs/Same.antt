@@ -1,13 +1,13 @@
 -- Nothing is listed exactly where the two tables are the same: basis, span and each knot's bits. Assumes nothing.
-use mathlib.Core.Path.{_≡_, refl, sym, ap, _∙_}
+use mathlib.Core.Path.{_≡_, refl, ap}
 use mathlib.Core.Bool.{Bool, true, false, cond}
 use mathlib.Core.List.{List, [], _∷_, _++_}
-use Prim.Native.Nat.{ℕ, zero, suc}
+use Prim.Native.Nat.{ℕ, suc}
 use native.Mathlib.Omega.{arith}
 use borrow.Author.Tests.{eq-eqb, eqb-true}
 use lib.Dec.{eqb}
 use Rattle.table_span.specs.declared.Table.{Table}
-use Rattle.compare.specs.Differences.{Difference, basis, span, knot, only, rankOf, basisDifference, spanDifference, knotsFrom, differencesOf, placesIn}
+use Rattle.compare.specs.Differences.{Difference, basis, span, knot, rankOf, basisDifference, spanDifference, knotsFrom, differencesOf, placesIn}
 use Rattle.compare.proofs.Listed.{rank-one}
 
 never : {A : Type 0} {d : Difference} {ds : List Difference} → d ∷ ds ≡ [] → A

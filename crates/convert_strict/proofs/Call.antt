@@ -2,7 +2,7 @@
 -- and where doubles are given each dropped one lies within the allowance of the one that stands. Assumes nothing.
 use mathlib.Core.Path.{_≡_, refl, sym, ap, subst, _∙_}
 use mathlib.Core.Bool.{Bool, true, false}
-use mathlib.Core.List.{List, _++_}
+use mathlib.Core.List.{List}
 use Prim.Native.Nat.{ℕ, _+_, _-_, _*_, _≤_, _<_}
 use native.Mathlib.Nat.{mul-le-mul-right}
 use native.Mathlib.Omega.{arith}
@@ -20,15 +20,15 @@ use Rattle.basis.specs.declared.Basis.{Basis}
 use Rattle.basis.specs.declared.Basis.the-variants.{Bspline, Bezier, CatmullRom, Hermite, Linear, Power}
 use Rattle.basis.specs.Basis.{stepOf, segmentsOf}
 use Rattle.convert_matrix.specs.Elimination.{conversionOf}
-use Rattle.convert.specs.Output.{windowOf, windows, splineOutput, outputLength}
-use Rattle.convert.specs.Conversion.{Conversion, gives, refuses, unless, convertUses, convertedOf}
+use Rattle.convert.specs.Output.{windowOf, windows, splineOutput}
+use Rattle.convert.specs.Conversion.{gives, refuses, unless, convertUses, convertedOf}
 use Rattle.convert.specs.Buffer.{bufferOf}
 use Rattle.convert.proofs.Kept.{given, spline-length}
 use Rattle.convert_strict.specs.Seams.{isApart, isLost, loses}
 use Rattle.convert_strict.specs.Strict.{allowable, lostSeamOf, strictUses, strictOf}
 use Rattle.convert_strict.proofs.Scan.{stands}
 use Rattle.convert_strict.proofs.Lowest.{any-found, any-holds, lowest-found, lowest-is, lowest-none}
-use Rattle.convert_strict.proofs.Verdicts.{Decides, same-verdict, seam-decides, seam-decided}
+use Rattle.convert_strict.proofs.Verdicts.{same-verdict, seam-decides, seam-decided}
 
 four-at-most : (b : Basis) → stepOf b ≤ 4
 four-at-most Bspline = lit≤ tt

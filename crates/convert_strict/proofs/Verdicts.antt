@@ -7,7 +7,7 @@ use Prim.Native.Nat.{ℕ, _-_, _/_, _<_}
 use lib.Dec.{ltb}
 use lib.ListN.{length}
 use lib.Ieee.{Float}
-use borrow.Author.Tests.{ltb-true, lt-ltb, not-false}
+use borrow.Author.Tests.{lt-ltb}
 use Rattle.error.specs.declared.Refusal.{Refusal}
 use Rattle.error.specs.declared.Refusal.the-variants.{TooFew, BadPattern, TooMany, LinearOutput, BadAllowance, ShortBuffer, BadKnot, LostSeam}
 use Rattle.error.specs.declared.Verdict.{Verdict}

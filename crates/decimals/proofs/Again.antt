@@ -2,16 +2,15 @@
 use mathlib.Core.Path.{_≡_, refl, sym, ap, _∙_}
 use mathlib.Core.Bool.{Bool, true, false, cond}
 use mathlib.Core.List.{List, [], _∷_, _++_, append-assoc}
-use Prim.Native.Nat.{ℕ, zero, suc, _+_, _*_, _-_, _/_, _%_, _≤_, _<_, _^_}
+use Prim.Native.Nat.{ℕ, zero, suc, _+_, _*_, _-_, _/_, _%_, _≤_, _<_}
 use native.Mathlib.Omega.{arith}
 use borrow.Author.Tests.{lt-ltb, ne-eqb}
 use lib.Dec.{ltb, eqb}
 use lib.ListN.{length, take, drop, length-append}
 use Rattle.sheet_depth.specs.Depth.{greatest}
-use Rattle.text.specs.declared.HexNumber.{HexNumber}
-use Rattle.text.specs.declared.HexNumber.the-variants.{Is, Nothing}
-use Rattle.text.specs.Text.{bytes, decText}
-use Rattle.text_decimals.specs.Decimals.{POINT, digitIn, digitsOf, numberIn, placeOf, scaled, behindOf, joined, thousandthsOf}
+use Rattle.text.specs.declared.HexNumber.the-variants.{Is}
+use Rattle.text.specs.Text.{decText}
+use Rattle.text_decimals.specs.Decimals.{POINT, digitIn, digitsOf, numberIn, placeOf, scaled, behindOf, thousandthsOf}
 use Rattle.text_decimals.proofs.Digits.{digit-is}
 use Rattle.text_decimals.proofs.ReadBack.{number-back}
 use Rattle.text_rounded.specs.Rounded.{fixedText}

@@ -1,26 +1,9 @@
 -- A depth that was read from thousandths is printed as those thousandths: its double lies too near to them to round elsewhere. Assumes nothing.
 use mathlib.Core.Path.{_≡_, refl, sym, ap, _∙_, subst}
-use mathlib.Core.Bool.{Bool, true, false, cond, _&&_}
+use mathlib.Core.Bool.{Bool, true, false, cond}
 use mathlib.Core.Logic.{inl, inr}
-use mathlib.Core.List.{List}
-use Prim.Native.Nat.{ℕ, zero, suc, _+_, _*_, _-_, _/_, _%_, _≤_, _<_, _^_}
-use native.Mathlib.Nat.{
-  add-assoc,
-  le-trans,
-  le-of-eq,
-  lt-of-le-of-lt,
-  lt-of-lt-of-le,
-  one-mul,
-  mul-one,
-  mul-assoc,
-  mul-comm,
-  mul-right-comm,
-  add-mul,
-  suc-mul,
-  mul-le-mul-right,
-  mul-div-cancel,
-  eq-of-mul-eq-mul-right,
-}
+use Prim.Native.Nat.{ℕ, zero, suc, _+_, _*_, _-_, _/_, _≤_, _<_, _^_}
+use native.Mathlib.Nat.{add-assoc, le-trans, le-of-eq, lt-of-le-of-lt, lt-of-lt-of-le, one-mul, mul-assoc, mul-right-comm, add-mul, mul-le-mul-right, mul-div-cancel, eq-of-mul-eq-mul-right}
 use native.Mathlib.Omega.{arith}
 use borrow.Author.Tests.{ne-eqb}
 use lib.Dec.{lit<, lit≤}
@@ -31,12 +14,12 @@ use lib.Ieee.Digits.{size-le}
 use lib.Ieee.Fits.{down-pos, round-fits, kept-lt}
 use lib.Ieee.Exact.{HasValue}
 use lib.Ieee.Nearest.{closest, closest-same}
-use lib.Ieee.Scale.{grid, overflow}
+use lib.Ieee.Scale.{grid}
 use Rattle.doubles.proofs.Rounding.{le-or-lt, Short, grid-short-le, grid-short-ge}
 use Rattle.sheet_depth.specs.Depth.{greatest, depthOf}
 use Rattle.sheet_depth.proofs.Nearest.{rounded-value}
 use Rattle.text.specs.Text.{doubleOf}
-use Rattle.text_rounded.specs.Rounded.{minusIn, sizeIn, largest, significandOf, shiftOf, unitsOf, fixedText, signText, unitsText, roundedText}
+use Rattle.text_rounded.specs.Rounded.{minusIn, sizeIn, largest, significandOf, shiftOf, unitsOf, unitsText, roundedText}
 use Rattle.text_rounded.proofs.Closest.{closest-below, closest-above}
 use Rattle.text_rounded.proofs.Values.{pattern-value, number-text}
 

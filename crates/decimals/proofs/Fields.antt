@@ -1,18 +1,16 @@
 -- The cases of the code: a field, the fields behind one, a line. Assumes nothing.
 use mathlib.Core.Path.{_≡_, refl, sym, ap, _∙_, subst}
-use mathlib.Core.Bool.{Bool, true, false, cond, _||_}
+use mathlib.Core.Bool.{Bool, true, false, cond}
 use mathlib.Core.List.{List, [], _∷_, _++_}
-use Prim.Native.Nat.{ℕ, suc, _+_, _*_, _-_, _≤_, _<_}
+use Prim.Native.Nat.{ℕ, suc, _+_, _-_, _≤_, _<_}
 use native.Mathlib.Numerals.{add-one}
 use native.Mathlib.Omega.{arith}
 use borrow.Author.Tests.{le-leb, lt-leb, leb-true, leb-false, eqb-true}
 use lib.Dec.{eqb, leb}
 use lib.ListN.{length, take, drop, length-drop}
 use lib.Seq.{take-all}
-use Rattle.error.specs.declared.Refusal.the-variants.{BadLine}
 use Rattle.lines_machine.specs.Program.{widest, so, over}
 use Rattle.lines_machine.specs.Contract.{openOf}
-use Rattle.lines_reply.specs.Reply.{refusedText}
 use Rattle.text.specs.declared.HexNumber.{HexNumber}
 use Rattle.text.specs.declared.HexNumber.the-variants.{Is, Nothing}
 use Rattle.text.specs.Text.{bytes, TAB, LF, same, onto, fieldsOf, tabOf, valueOf, hexOf, decText}

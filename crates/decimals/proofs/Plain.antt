@@ -5,11 +5,10 @@ use mathlib.Core.List.{List, [], _∷_, _++_}
 use Prim.Native.Nat.{ℕ}
 use borrow.Author.Tests.{eqb-true}
 use lib.Dec.{eqb}
-use Rattle.text.specs.declared.HexNumber.{HexNumber}
 use Rattle.text.specs.declared.HexNumber.the-variants.{Nothing}
 use Rattle.text.specs.Text.{TAB, LF, onto, fieldsOf, hexOf}
 use Rattle.lines_machine.specs.Program.{so}
-use Rattle.decimals.specs.Decimals.{digitsIn, shownOf, fieldText, fieldsText, shownLine}
+use Rattle.decimals.specs.Decimals.{digitsIn, shownOf, fieldsText, shownLine}
 
 -- no field is 16 uppercase hexadecimal digits
 pub data Plain : List (List ℕ) → Type 0 where

@@ -1,9 +1,9 @@
 -- The numbers tell the refusals apart: each is one of 1 to 20, each of 1 to 20 is a row's, and two refusals that share one tell the same but
 -- for the place; number and place are read back out of a reply. Assumes nothing.
 use mathlib.Core.Path.{_≡_, refl, sym, ap, _∙_}
-use mathlib.Core.Bool.{Bool, true, cond}
+use mathlib.Core.Bool.{cond}
 use mathlib.Core.List.{List, [], _∷_}
-use Prim.Native.Nat.{ℕ, _+_, _*_, _/_, _%_, _≤_}
+use Prim.Native.Nat.{ℕ, _/_, _%_, _≤_}
 use native.Mathlib.Omega.{arith}
 use lib.Dec.{eqb}
 use Rattle.error.specs.declared.Refusal.{Refusal}
@@ -29,7 +29,7 @@ use Rattle.error.specs.declared.Refusal.the-variants.{
   NoComparison,
   LostSeam,
 }
-use Rattle.error.specs.Refusals.{numberOf, placesOf, placeIn, placeOf, replyOf, rows}
+use Rattle.error.specs.Refusals.{numberOf, placeOf, replyOf}
 
 -- all refusals, with a place for those that tell one
 abbrev all : ℕ → List Refusal

@@ -1,6 +1,6 @@
 -- The order in which a call tests its rows comes out of the one table: the rows that it names, as the table lists them. A call that names
 -- no row twice hears each of its tests. Assumes nothing.
-use mathlib.Core.Path.{_≡_, refl, sym, subst}
+use mathlib.Core.Path.{_≡_, refl, subst}
 use mathlib.Core.Bool.{Bool, true, false, not, cond, _&&_}
 use mathlib.Core.List.{List, [], _∷_}
 use Prim.Native.Nat.{ℕ}

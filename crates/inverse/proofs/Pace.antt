@@ -1,21 +1,19 @@
 -- A lawful rule kept to the pace, on a curve: where N rounds are enough for the precision and the limit is above N, it is never told as spent; and the count is
 -- bounded by N as by a limit. Assumes nothing.
-use mathlib.Core.Path.{_≡_, refl, sym, ap, _∙_, subst}
 use mathlib.Core.Bool.{Bool, true, false, not, cond}
-use Prim.Native.Nat.{ℕ, _+_, _-_, _*_, _^_, _≤_, _<_}
+use Prim.Native.Nat.{ℕ, _+_, _-_, _*_, _≤_, _<_}
 use native.Mathlib.Nat.{le-trans, lt-of-le-of-lt}
 use native.Mathlib.Omega.{arith}
-use lib.Dec.{T, T-not, leb, lit<}
+use lib.Dec.{T, leb, lit<}
 use lib.ListN.{length}
 use lib.Ieee.{Float}
 use Rattle.doubles.specs.Numbers.{nought, one}
 use Rattle.doubles.proofs.Tests.{branch}
 use Rattle.doubles.proofs.Units.{nought-in, one-in}
 use Rattle.inverse_segment.specs.declared.Inversion.{Inversion}
-use Rattle.inverse_segment.specs.declared.Inversion.the-variants.{OffCurve, At}
 use Rattle.inverse_segment.specs.Evaluations.{Evaluations}
 use Rattle.inverse_segment.specs.Rounds.{Arrival}
-use Rattle.inverse_segment.specs.Segment.{encloses, near, entered, enter, Outcome, off, placed}
+use Rattle.inverse_segment.specs.Segment.{encloses, entered, enter, Outcome, off, placed}
 use Rattle.inverse_segment.specs.Answer.{answered, countTold}
 use Rattle.inverse_segment.proofs.Ends.{both}
 use Rattle.inverse_segment.proofs.Enclosing.{Numbers}
@@ -25,7 +23,7 @@ use Rattle.inverse_search.specs.Trial.{trial}
 use Rattle.inverse_search.proofs.Found.{Nothing, Straight, Tried, shut, hit, Result, missed, got, probes, find-says}
 use Rattle.inverse.specs.declared.Ends.{Ends}
 use Rattle.inverse.specs.EndRule.{atLow, atHigh}
-use Rattle.inverse.specs.Curve.{parameterOf, ended, located}
+use Rattle.inverse.specs.Curve.{parameterOf, located}
 use Rattle.inverse_segment.specs.Round.{Rule}
 use Rattle.inverse_segment.proofs.Rules.{Lawful}
 use Rattle.inverse_methods.specs.Steady.{paced}

@@ -3,32 +3,31 @@
 -- function
 -- of the local place. Assumes nothing.
 use mathlib.Core.Path.{_≡_, refl, sym, ap, _∙_, subst, subst₂}
-use mathlib.Core.Logic.{_⊎_, inl, inr}
-use mathlib.Core.Bool.{Bool, true, false, not, cond, _&&_, Bool·beq}
+use mathlib.Core.Logic.{inl, inr}
+use mathlib.Core.Bool.{Bool, true, false, not, Bool·beq}
 use Prim.Native.Nat.{ℕ, zero, suc, _+_, _-_, _*_, _^_, _≤_, _<_}
-use native.Mathlib.Nat.{le-trans, le-of-eq, not-le-of-lt, lt-of-le-of-lt, le-antisymm, mul-one, one-mul, mul-comm, mul-assoc, mul-pos, two-pow-succ}
+use native.Mathlib.Nat.{le-trans, le-of-eq, lt-of-le-of-lt, le-antisymm, mul-one, one-mul, mul-comm, mul-assoc, mul-pos, two-pow-succ}
 use native.Mathlib.Omega.{arith}
 use lib.IntN.{pos, negsuc}
 use lib.Dec.{T, T-not, lit<, lit≤}
-use lib.Pow.{pow-add, pow-pos, pow-mono, pow-lt}
+use lib.Pow.{pow-pos, pow-lt}
 use lib.ListN.{length}
-use lib.Ieee.{Float, nan, inf, fin, binary64, prec, emax, low, sub, mul, lt, le, eq, isNan}
+use lib.Ieee.{Float, nan, inf, fin, binary64, emax, low, sub, mul, lt, le, eq, isNan}
 use lib.Ieee.Fits.{sub-fits}
 use lib.Ieee.Exact.{HasValue}
 use lib.Ieee.Scale.{grid, overflow, round-val}
 use Rattle.doubles.specs.Numbers.{nought, one, half, trillionth, magnitudeOf}
-use Rattle.doubles.specs.Lerp.{lerpOf}
 use Rattle.doubles.proofs.Tests.{branch}
 use Rattle.doubles.proofs.Order.{lt→le, not-lt→le, le-trans-float, lt-le-absurd}
 use Rattle.doubles.proofs.Rounding.{le-or-lt, Short, grid-le, grid-short-ge}
-use Rattle.doubles.proofs.Units.{clear, Units, units-of, mul-at, in-order, clear-of, InUnit, nought-in, one-in, magnitude-clear, sub-clear, trillionth-le}
+use Rattle.doubles.proofs.Units.{clear, units-of, mul-at, in-order, InUnit, nought-in, one-in, magnitude-clear, sub-clear, trillionth-le}
 use Rattle.doubles.proofs.Interpolation.{Inside}
 use Rattle.inverse_segment.specs.declared.Ground.{Ground}
 use Rattle.inverse_segment.specs.declared.Ground.the-variants.{End, Edge, Value, Width, Spent}
 use Rattle.inverse_segment.specs.declared.Bracket.{Bracket}
 use Rattle.inverse_segment.specs.declared.State.{State}
 use Rattle.inverse_segment.specs.Evaluations.{Evaluations}
-use Rattle.inverse_segment.specs.Round.{greater, narrow, midpoint, Choice, Rule, moved, Round, found, on, settled, probed, roundOf}
+use Rattle.inverse_segment.specs.Round.{narrow, midpoint, Choice, Rule, moved, Round, found, on, settled, probed, roundOf}
 use Rattle.inverse_segment.specs.Rounds.{Arrival, rounds}
 use Rattle.inverse_segment.specs.Segment.{opening, start}
 use Rattle.inverse_segment.proofs.Rules.{Placing, Lawful}

@@ -1,7 +1,7 @@
 -- The secant's rule is lawful, and a lawful rule kept to the pace is lawful: so is the steady rule, and all that is proved of a lawful rule holds of it.
 -- Assumes nothing.
-use mathlib.Core.Path.{_≡_, refl, sym, subst₂}
-use mathlib.Core.Bool.{Bool, true, false, _&&_}
+use mathlib.Core.Path.{_≡_, refl, subst₂}
+use mathlib.Core.Bool.{true, false, _&&_}
 use Prim.Native.Nat.{ℕ}
 use lib.Dec.{T}
 use lib.Ieee.{Float, nan, inf, fin, binary64, sub, mul, div, add, lt, fits}

@@ -6,8 +6,7 @@ use lib.Ieee.{Float, fin, binary64, sub, mul, div, lt}
 use Rattle.doubles.specs.Numbers.{half}
 use Rattle.doubles.specs.Lerp.{lerpOf}
 use Rattle.inverse_segment.specs.declared.Bracket.{Bracket}
-use Rattle.inverse_segment.specs.declared.State.{State}
-use Rattle.inverse_segment.specs.Round.{toward, midpoint, weighed, Choice, Rule}
+use Rattle.inverse_segment.specs.Round.{toward, midpoint, weighed, Rule}
 
 -- the width allowed in round i: 16, and half as much in each round after
 unfoldable pub allowed : ℕ → Float

@@ -1,6 +1,6 @@
 -- What a search comes to, for any curve and any trial of its segments: how many evaluations it makes, which segment it enters, and when it enters none. Assumes
 -- nothing.
-use mathlib.Core.Path.{_≡_, sym, subst}
+use mathlib.Core.Path.{sym, subst}
 use mathlib.Core.Logic.{inl, inr}
 use mathlib.Core.Bool.{Bool, true, false, not, cond}
 use Prim.Native.Nat.{ℕ, zero, suc, _+_, _-_, _*_, _/_, _^_, _≤_, _<_, min}

@@ -27,7 +27,7 @@ use Rattle.inverse_search.specs.Bound.{bitsOf}
 use Rattle.inverse_order.specs.Order.{before}
 use Rattle.inverse_search.specs.Search.{Trial, tries, last, halve, find}
 use Rattle.inverse_search.specs.Trial.{trial}
-use Rattle.inverse_search.specs.Contract.{resultOf, went, Seeks, TriesIs, LastIs, HalveIs, SoughtIs, FindIs}
+use Rattle.inverse_search.specs.Contract.{resultOf, went, TriesIs, LastIs, HalveIs, SoughtIs, FindIs}
 use Rattle.inverse_search.proofs.Digits.{bits-enough}
 
 -- ---- where a segment lies

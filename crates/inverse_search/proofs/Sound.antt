@@ -17,7 +17,7 @@ use Rattle.inverse_segment.proofs.Enclosing.{Numbers}
 use Rattle.inverse_segment.proofs.Places as places
 use Rattle.inverse_search.specs.Search.{find}
 use Rattle.inverse_search.specs.Trial.{trial}
-use Rattle.inverse_search.proofs.Found.{Holds, Nothing, Straight, Tried, shut, hit, Result, probes, find-says}
+use Rattle.inverse_search.proofs.Found.{Nothing, Straight, Tried, shut, hit, Result, probes, find-says}
 
 module _ (g : ℕ → Float → Float) (y ε : Float) (limit : ℕ) where
   -- the place p is in segment s, and sound there

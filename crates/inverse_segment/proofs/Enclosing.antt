@@ -2,19 +2,18 @@
 -- and any function of the local place that is a number on 0 to 1. Assumes nothing.
 use mathlib.Core.Path.{_≡_, sym, subst₂}
 use mathlib.Core.Logic.{_⊎_}
-use mathlib.Core.Bool.{Bool, true, false, not, cond, _&&_, Bool·beq}
+use mathlib.Core.Bool.{Bool, true, false, not, cond, Bool·beq}
 use Prim.Native.Nat.{ℕ, suc, _+_, _≤_}
 use native.Mathlib.Omega.{arith}
-use lib.Dec.{T, ltb, eqb}
+use lib.Dec.{T}
 use lib.ListN.{length}
-use lib.Ieee.{Float, nan, inf, fin, binary64, sub, mul, lt, le, isNan}
-use lib.Ieee.Fits.{and-l, and-r, sub-fits}
-use Rattle.doubles.specs.Numbers.{nought, one, half, hundredth, ninetyNineHundredths, trillionth, magnitudeOf}
-use Rattle.doubles.specs.Lerp.{lerpOf}
+use lib.Ieee.{Float, fin, binary64, sub, mul, lt, le, isNan}
+use lib.Ieee.Fits.{sub-fits}
+use Rattle.doubles.specs.Numbers.{nought, one, half, trillionth, magnitudeOf}
 use Rattle.doubles.proofs.Tests.{branch}
 use Rattle.doubles.proofs.Order.{lt→le, not-lt→le, le-trans-float, lt-le-absurd}
 use Rattle.doubles.proofs.Units.{clear, InUnit, le-refl-clear, magnitude-clear, sub-clear, trillionth-le}
-use Rattle.doubles.proofs.Interpolation.{Inside, lerp-inside}
+use Rattle.doubles.proofs.Interpolation.{Inside}
 use Rattle.inverse_segment.specs.declared.Ground.{Ground}
 use Rattle.inverse_segment.specs.declared.Ground.the-variants.{End, Edge, Value, Width, Spent}
 use Rattle.inverse_segment.specs.declared.Bracket.{Bracket}

@@ -1,35 +1,20 @@
 -- The law of a rule: the weighed bracket has the state's places, and the place chosen lies between them. The crate's rule keeps it, with any weighting
 -- that keeps the places. Assumes nothing.
 use mathlib.Core.Path.{_≡_, refl, sym, subst₂}
-use mathlib.Core.Bool.{Bool, true, false, cond, _&&_}
+use mathlib.Core.Bool.{Bool, true, false, _&&_}
 use Prim.Native.Nat.{ℕ}
 use lib.Dec.{T, ltb, eqb}
-use lib.Ieee.{Float, nan, inf, fin, binary64, sub, mul, div, add, lt, le, fits}
-use lib.Ieee.Fits.{and-l, and-r, add-fits}
-use Rattle.doubles.specs.Numbers.{nought, half, hundredth, ninetyNineHundredths}
+use lib.Ieee.{Float, nan, inf, fin, sub, lt, le}
+use lib.Ieee.Fits.{and-l, and-r}
+use Rattle.doubles.specs.Numbers.{half, hundredth, ninetyNineHundredths}
 use Rattle.doubles.specs.Lerp.{lerpOf}
 use Rattle.doubles.proofs.Tests.{branch}
-use Rattle.doubles.proofs.Order.{lt→le, lt-le-absurd, le-trans-float}
-use Rattle.doubles.proofs.Units.{clear, InUnit, nought-le}
+use Rattle.doubles.proofs.Units.{clear, InUnit}
 use Rattle.doubles.proofs.Interpolation.{Inside, lerp-inside}
 use Rattle.inverse_segment.specs.declared.Bracket.{Bracket}
 use Rattle.inverse_segment.specs.declared.State.{State}
 use Rattle.inverse_segment.specs.declared.Weighing.{Weighing}
-use Rattle.inverse_segment.specs.Round.{
-  Weighting,
-  halving,
-  midpoint,
-  usesRegulaFalsi,
-  weighed,
-  kept,
-  fraction,
-  Choice,
-  Rule,
-  chord,
-  asCrate,
-  weightingOf,
-  chordOf,
-}
+use Rattle.inverse_segment.specs.Round.{Weighting, halving, midpoint, usesRegulaFalsi, weighed, kept, fraction, Rule, chord, asCrate, weightingOf, chordOf}
 use Rattle.inverse_segment.proofs.Weighting.{Keeps, halving-keeps, weighing-keeps}
 
 -- two places in 0 to 1, the lower not above the upper

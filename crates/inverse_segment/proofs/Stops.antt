@@ -9,7 +9,6 @@ use Rattle.doubles.specs.Numbers.{nought, one}
 use Rattle.spline.specs.declared.RowSums.{RowSums}
 use Rattle.spline.specs.Segment.{hornerOf}
 use Rattle.inverse_segment.specs.declared.Ground.the-variants.{Edge}
-use Rattle.inverse_segment.specs.declared.Place.{Place}
 use Rattle.inverse_segment.specs.declared.Stop.{Stop}
 use Rattle.inverse_segment.specs.Evaluations.{Evaluations}
 use Rattle.inverse_segment.specs.Round.{Rule, Round, found, on, roundOf}

@@ -4,7 +4,7 @@ use mathlib.Core.Bool.{Bool, true, false, cond}
 use mathlib.Core.List.{List, [], _∷_, _++_, append-assoc, append-nil}
 use Prim.Native.Nat.{ℕ, zero, suc, _+_, _/_, _%_, _≤_, _<_, _^_}
 use native.Mathlib.Omega.{arith}
-use borrow.Author.Tests.{le-leb, leb-true, leb-false, ne-eqb}
+use borrow.Author.Tests.{le-leb, leb-false, ne-eqb}
 use lib.Dec.{T, leb, ltb}
 use lib.ListN.{length, length-append}
 use lib.Ieee.{Float, fits, toBits, binary64}

@@ -8,7 +8,7 @@ use lib.ListN.{take}
 use lib.Ieee.{Float}
 use Rattle.lines_answer.specs.declared.SessionReply.{SessionReply}
 use Rattle.lines_answer.specs.Answer.{Curve, replyTo, afterOf}
-use Rattle.lines_answer.specs.Contract.{curveOf, Answers}
+use Rattle.lines_answer.specs.Contract.{Answers}
 use Rattle.lines_record.specs.declared.Record.{Record}
 use Rattle.lines_record.specs.declared.Record.the-variants.{Bad}
 use Rattle.lines_record.specs.Record.{recordOf}

@@ -1,6 +1,5 @@
 -- The line program: what a line gets, and the curve after it. Definitions only.
-use mathlib.Core.List.{List, []}
-use Prim.Native.Nat.{ℕ}
+use mathlib.Core.List.{[]}
 use Rattle.lines_answer.specs.Answer.{Curve, replyTo, afterOf}
 use Rattle.lines_record.specs.declared.Record.{Record}
 use Rattle.lines_record.specs.declared.Record.the-variants.{Bad}

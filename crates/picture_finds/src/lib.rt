@@ -3,7 +3,6 @@ ghost use mathlib.Core.Path.{_≡_};
 ghost use Prim.Native.Nat.{_≤_, _+_, min};
 ghost use lib.ListN.{length};
 ghost use Rattle.text.specs.Wrote.{Wrote};
-ghost use Rattle.lines_answer.specs.Answer.{foundOf};
 ghost use Rattle.picture_scale.specs.Bounds.{Open};
 ghost use Rattle.picture_finds.specs.Finds.{
   asked,

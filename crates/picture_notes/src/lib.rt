@@ -1,5 +1,4 @@
 // The refusals in the picture, each a line of text below the axes, and a line through the knot that is told.
-ghost use mathlib.Core.Path.{_≡_};
 ghost use Prim.Native.Nat.{_≤_, _+_};
 ghost use lib.ListN.{length};
 ghost use Rattle.text.specs.Wrote.{Wrote};

@@ -14,7 +14,6 @@ use Rattle.inverse_segment.specs.Answer.{inverseSegmentBy, defaultPrecision}
 use Rattle.inverse_methods.specs.declared.Method.{Method}
 use Rattle.inverse_methods.specs.declared.Method.the-variants.{Steady}
 use Rattle.inverse_methods.specs.Method.{ruleOf}
-use Rattle.inverse_methods.specs.Steady.{steady}
 use Rattle.inverse_methods.proofs.Ending.{Enough}
 use Rattle.inverse_methods.proofs.Times.{twoToMinus, default-enough, power-enough, any-enough}
 use Rattle.inverse_methods.proofs.Timely.{SegmentWithin, segment-timely}

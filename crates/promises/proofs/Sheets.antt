@@ -1,6 +1,6 @@
 -- A sheet's listing, read by the line program, is the sheet's curve: one knot for each depth line, in order. Assumes nothing.
 use mathlib.Core.Path.{_≡_, ap, _∙_}
-use mathlib.Core.List.{List, [], _∷_}
+use mathlib.Core.List.{List, []}
 use Prim.Native.Nat.{ℕ}
 use lib.Ieee.{Float}
 use native.Mathlib.Omega.{arith}

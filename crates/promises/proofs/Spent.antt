@@ -4,7 +4,7 @@ use mathlib.Core.Path.{_≡_, refl}
 use mathlib.Core.Bool.{true, false, cond}
 use mathlib.Core.List.{[]}
 use lib.IntN.{negsuc}
-use lib.Ieee.{Float, fin, inf, nan, round, add, sub, mul, div, neg, lt, le, eq}
+use lib.Ieee.{Float, fin, round, add, sub, mul, div, neg, lt, le, eq}
 use Rattle.doubles.specs.Numbers.{nought, one, half, magnitudeOf}
 use Rattle.doubles.specs.Lerp.{lerpOf}
 use Rattle.inverse_segment.specs.declared.Ground.the-variants.{Width, Spent}

@@ -9,8 +9,6 @@ use lib.ListN.{length, getD}
 use lib.Ieee.{Float, nan}
 use Rattle.error.specs.declared.Refusal.{Refusal}
 use Rattle.error.specs.declared.Refusal.the-variants.{BadAllowance, LostSeam}
-use Rattle.error.specs.declared.Verdict.{Verdict}
-use Rattle.error.specs.declared.Verdict.the-variants.{Passed, Failed}
 use Rattle.error.specs.Refusals.{rows, first}
 use Rattle.error.proofs.First.{never, First, first-sound, first-complete}
 use Rattle.basis.specs.declared.Basis.{Basis}

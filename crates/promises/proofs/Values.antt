@@ -2,8 +2,8 @@
 -- finite, leaves every place beyond them as it was, and
 -- every product and sum of its windows is finite. Each is known of the definition, and a contract is an equation with it. Assumes nothing.
 use mathlib.Core.Path.{_≡_, refl, sym, ap, _∙_, subst}
-use mathlib.Core.List.{List, _++_}
-use Prim.Native.Nat.{ℕ, _+_, _-_, _*_, _/_, _≤_, _<_}
+use mathlib.Core.List.{List}
+use Prim.Native.Nat.{ℕ, _+_, _-_, _*_, _≤_, _<_}
 use native.Mathlib.Omega.{arith}
 use denote.Ref.{now}
 use lib.Dec.{T, lit≤}
@@ -33,7 +33,7 @@ use Rattle.convert.specs.Output.{segmentOutput, splineOutput, outputLength}
 use Rattle.convert.specs.Conversion.{Conversion, gives, refuses, unless, convertSegmentUses, convertUses, convertedSegmentOf, convertedOf}
 use Rattle.convert.specs.Buffer.{answerOf, bufferOf}
 use Rattle.convert.proofs.Finite as converted
-use Rattle.convert.proofs.Kept.{given, spline-length, segment-length, beyond-stays}
+use Rattle.convert.proofs.Kept.{spline-length, segment-length, beyond-stays}
 use Rattle.convert.proofs.Verdicts.{segment-passed, spline-passed}
 use Rattle.convert.proofs.convert_segment.Reads as convert_segment
 use Rattle.convert.proofs.convert_spline.Reads as convert_spline

@@ -1,31 +1,15 @@
 -- A depth is the double nearest to its decimal: every other double lies further off. Assumes nothing.
 use mathlib.Core.Path.{_≡_, refl, sym, ap, _∙_, subst}
 use mathlib.Core.Logic.{inl, inr}
-use mathlib.Core.Bool.{Bool, true, false, cond, not, _&&_, _||_, Bool·beq}
+use mathlib.Core.Bool.{Bool, true, false, not, _&&_, _||_, Bool·beq}
 use borrow.Author.Tests.{ne-eqb}
 use Prim.Native.Nat.{ℕ, zero, suc, _+_, _-_, _*_, _/_, _%_, _^_, _≤_, _<_}
-use native.Mathlib.Nat.{
-  add-mul,
-  one-mul,
-  le-trans,
-  le-of-eq,
-  lt-of-le-of-lt,
-  mul-one,
-  mul-comm,
-  mul-assoc,
-  mul-right-comm,
-  zero-mul,
-  mul-pos,
-  mul-le-mul-right,
-  le-of-mul-le-mul-right,
-  eq-of-mul-eq-mul-right,
-  div-add-mod',
-}
+use native.Mathlib.Nat.{add-mul, one-mul, le-trans, le-of-eq, lt-of-le-of-lt, mul-comm, mul-assoc, mul-right-comm, zero-mul, mul-pos, mul-le-mul-right, le-of-mul-le-mul-right, eq-of-mul-eq-mul-right, div-add-mod'}
 use native.Mathlib.Omega.{arith}
-use lib.IntN.{ℤ, pos}
+use lib.IntN.{pos}
 use lib.Dec.{T, T-not, eqb, lit<, lit≤}
 use lib.Pow.{pow-add, pow-pos, pow-mono}
-use lib.Ieee.{Float, nan, inf, fin, binary64, prec, low, up, down, round, div, neg, eq, ofInt, fits}
+use lib.Ieee.{Float, nan, inf, fin, binary64, low, up, down, round, div, neg, eq, ofInt, fits}
 use lib.Ieee.Digits.{back}
 use lib.Ieee.Fits.{down-pos, and-i, eq→eqb}
 use lib.Ieee.Exact.{HasValue}

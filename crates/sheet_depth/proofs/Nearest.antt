@@ -30,7 +30,7 @@ use lib.Arith.{lt-of-le-ne}
 use lib.IntN.{ℤ}
 use lib.Dec.{T, T-not, isLe, isEq, eqb, eqb-refl, leb→le, nleb→lt, eqb→eq, lit<}
 use lib.Pow.{pow-add, pow-pos, pow-mono, shl-lt}
-use lib.Ieee.{Float, nan, inf, fin, Format, prec, low, up, down, size, nearest, round, eq, fits}
+use lib.Ieee.{Float, nan, inf, fin, Format, prec, low, up, down, nearest, round, eq, fits}
 use lib.Ieee.Digits.{back}
 use lib.Ieee.Fits.{two, down-pos, round-is, and-i, eq→eqb}
 use lib.Ieee.Exact.{HasValue, units-val}

@@ -1,6 +1,6 @@
 -- Where a parameter lies, as the code tells it. Definitions only.
 use mathlib.Core.Path.{_≡_}
-use Prim.Native.Nat.{ℕ, _-_, _<_}
+use Prim.Native.Nat.{ℕ, _<_}
 use lib.Ieee.{Float}
 use Rattle.spline.specs.Curve.{segmentAt, localAt}
 

@@ -1,5 +1,5 @@
 -- What the two calls of evaluation answer on whole knots: no row of the refusals applies but those of the lengths, and the value is exact. Assumes nothing.
-use mathlib.Core.Path.{_≡_, refl, sym, ap, _∙_, subst}
+use mathlib.Core.Path.{_≡_, refl, sym, ap, _∙_}
 use mathlib.Core.Bool.{Bool, true, false, not, _&&_}
 use mathlib.Core.List.{List, [], _∷_}
 use Prim.Native.Nat.{ℕ, zero, suc, _+_, _-_, _*_, _^_, _≤_, _<_}
@@ -25,12 +25,12 @@ use Rattle.spline.specs.declared.Evaluation.the-variants.{Value}
 use Rattle.spline.specs.Segment.{segmentValue}
 use Rattle.checks.specs.Checks.{bound, inRange, allInRange, curveLength}
 use Rattle.spline.specs.Curve.{segmentAt, localAt, curveValue}
-use Rattle.spline.specs.Evaluation.{splineUses, splineOf, splineSegmentUses, splineSegmentOf, evaluated}
+use Rattle.spline.specs.Evaluation.{splineOf, splineSegmentUses, splineSegmentOf, evaluated}
 use Rattle.spline.proofs.Parts.{inside}
 use Rattle.checks.proofs.Verdicts.{length-passed}
 use Rattle.spline.proofs.Verdicts.{curve-passes}
 use Rattle.spline_exact.specs.Cubic.{at}
-use Rattle.spline_exact.specs.Exact.{isExact, exactOf, parts, WholeKnots, Answers}
+use Rattle.spline_exact.specs.Exact.{isExact, exactOf, WholeKnots, Answers}
 use Rattle.spline_exact.proofs.Segment.{whole-knots-exact}
 
 true-of : (b : Bool) → T b → b ≡ true

@@ -8,7 +8,7 @@ use lib.ListN.{length}
 use lib.Ieee.{Float}
 use Rattle.basis.specs.declared.Basis.{Basis}
 use Rattle.basis.specs.Basis.{regular}
-use Rattle.convert.specs.Conversion.{Conversion, gives, refuses, unless, convertUses, convertedOf}
+use Rattle.convert.specs.Conversion.{Conversion, refuses, unless, convertUses, convertedOf}
 use Rattle.convert.specs.Buffer.{answerOf, bufferOf}
 use Rattle.convert.specs.declared.ConversionAnswer.{ConversionAnswer}
 use Rattle.convert_strict.specs.Strict.{strictUses, strictOf}

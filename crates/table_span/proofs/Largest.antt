@@ -1,17 +1,17 @@
 -- The second told is the largest whole number not above the product, and lies in 0 to the span. Assumes nothing.
-use mathlib.Core.Path.{_≡_, refl, sym, ap, _∙_}
+use mathlib.Core.Path.{_≡_, sym, ap}
 use mathlib.Core.Logic.{inl, inr}
-use mathlib.Core.Bool.{Bool, true, false, not}
-use Prim.Native.Nat.{ℕ, zero, suc, _+_, _-_, _*_, _^_, _≤_, _<_}
-use native.Mathlib.Nat.{le-trans, le-of-mul-le-mul-right, mul-one}
+use mathlib.Core.Bool.{false, not}
+use Prim.Native.Nat.{ℕ, zero, suc, _+_, _-_, _*_, _^_, _≤_}
+use native.Mathlib.Nat.{le-trans, le-of-mul-le-mul-right}
 use native.Mathlib.Omega.{arith}
 use lib.IntN.{pos, negsuc}
-use lib.Dec.{T, T-not, lit<, lit≤}
+use lib.Dec.{T, T-not, lit≤}
 use lib.Pow.{pow-pos}
 use lib.Ieee.{Float, fin, binary64, low, mul, le, lt, ofInt}
 use lib.Ieee.Exact.{HasValue}
 use lib.Ieee.Back.{round-whole}
-use Rattle.doubles.specs.Numbers.{nought, one, half}
+use Rattle.doubles.specs.Numbers.{one, half}
 use Rattle.doubles.specs.Whole.{double, wholeUpTo}
 use Rattle.doubles.proofs.Rounding.{le-or-lt}
 use Rattle.doubles.proofs.Tests.{branch}

@@ -9,7 +9,6 @@ use borrow.Author.Tests.{ltb-true, ltb-false, ne-eqb}
 use lib.Dec.{ltb, eqb}
 use lib.ListN.{length, length-append}
 use Rattle.text.specs.Text.{decText}
-use Rattle.text.specs.declared.HexNumber.{HexNumber}
 use Rattle.text.specs.declared.HexNumber.the-variants.{Is}
 use Rattle.text_decimals.specs.Decimals.{digitIn, digitsOf, numberIn}
 use Rattle.text_decimals.proofs.Digits.{digit-is, number-is}

@@ -1,25 +1,13 @@
 -- Significand and shift of a magnitude's pattern, and the units that they make. Assumes nothing.
 use mathlib.Core.Path.{_≡_, refl, sym, ap, _∙_}
-use mathlib.Core.Bool.{Bool, true, false}
 use Prim.Native.Nat.{ℕ, suc, _+_, _*_, _-_, _/_, _%_, _≤_, _<_, _^_}
-use native.Mathlib.Nat.{
-  add-mul,
-  mul-assoc,
-  mul-comm,
-  mul-right-comm,
-  pow-suc,
-  pow-le-pow-right,
-  mul-le-mul-right,
-  mul-lt-mul-of-pos-right,
-  div-add-mod',
-  div-lt-iff-lt-mul,
-}
+use native.Mathlib.Nat.{add-mul, mul-comm, mul-right-comm, pow-suc, pow-le-pow-right, mul-le-mul-right, div-add-mod'}
 use native.Mathlib.Numerals.{add-one}
 use native.Mathlib.Omega.{arith}
 use borrow.Author.Tests.{lt-ltb, le-ltb}
 use lib.Ieee.Nearest.{closest}
 use lib.Pow.{pow-add, pow-pos, pow-mono}
-use Rattle.text_rounded.specs.Rounded.{largest, significandOf, shiftOf, unitsOf}
+use Rattle.text_rounded.specs.Rounded.{significandOf, shiftOf, unitsOf}
 use Rattle.text_rounded.proofs.Closest.{closest-below, closest-bound}
 
 -- ---- the code's two cases

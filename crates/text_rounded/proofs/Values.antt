@@ -1,9 +1,9 @@
 -- What a pattern's text tells of its double: the nearest multiple of 10^-d, no sign on zero, a word for what is no number or too large. Assumes nothing.
 use mathlib.Core.Path.{_≡_, refl, sym, ap, _∙_, subst}
-use mathlib.Core.Bool.{Bool, true, false, cond, _&&_}
+use mathlib.Core.Bool.{Bool, true, false}
 use mathlib.Core.List.{_++_}
 use Prim.Native.Nat.{ℕ, zero, suc, _+_, _*_, _-_, _/_, _%_, _≤_, _<_, _^_}
-use native.Mathlib.Nat.{mul-assoc, mul-one, mul-right-comm, eq-of-mul-eq-mul-right, div-eq-of-lt, mod-eq-of-lt, mod-lt}
+use native.Mathlib.Nat.{mul-assoc, mul-one, mul-right-comm, eq-of-mul-eq-mul-right, div-eq-of-lt, mod-eq-of-lt}
 use native.Mathlib.Omega.{arith}
 use borrow.Author.Tests.{le-ltb, ltb-true, ltb-false, le-leb, lt-leb, eq-eqb, ne-eqb}
 use lib.Dec.{T, ltb, eqb}

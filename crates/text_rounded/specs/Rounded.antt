@@ -1,6 +1,6 @@
 -- A double's bit pattern as a decimal: the nearest multiple of 10^-d, ties to even. Whole numbers alone: nothing here is a float.
 -- Definitions only.
-use mathlib.Core.Bool.{Bool, cond, not, _&&_}
+use mathlib.Core.Bool.{Bool, cond, _&&_}
 use mathlib.Core.List.{List, [], _∷_, _++_}
 use Prim.Native.Nat.{ℕ, zero, suc, _+_, _*_, _-_, _/_, _%_, _^_}
 use lib.Dec.{leb, ltb, eqb}

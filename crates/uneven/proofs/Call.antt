@@ -35,7 +35,7 @@ use Rattle.inverse.proofs.Refusing.{inverse-refused-only, inverse-refused-where
 use Rattle.uneven.specs.declared.DepthAnswer.{DepthAnswer}
 use Rattle.uneven.specs.declared.DepthAnswer.the-variants.{Refused, OffCurve, At}
 use Rattle.uneven.specs.declared.WhichTable.the-variants.{Times, Depths}
-use Rattle.uneven.specs.Uneven.{depthUses, depthAt, suited, unsuited, sounded, depthOf}
+use Rattle.uneven.specs.Uneven.{depthUses, depthAt, suited, sounded, depthOf}
 
 -- the evaluations told: of both tables for a depth, of the times for 11; 0 for the other refusals
 abbrev pub countOf : DepthAnswer → ℕ

@@ -7,7 +7,7 @@ use mathlib.Core.Bool.{Bool, true, false, not, cond}
 use Prim.Native.Nat.{ℕ, zero, suc, _+_, _-_, _*_, _≤_, _<_}
 use native.Mathlib.Nat.{add-zero, add-suc, le-add-right}
 use native.Mathlib.Omega.{arith}
-use lib.IntN.{ℤ, pos, negsuc, subℕ, _+ℤ_, _*ℤ_, +ℤ-idr, +ℤ-assoc, +ℤ-comm, *ℤ-comm, *ℤ-zero, sucℤ-*ℤ}
+use lib.IntN.{ℤ, pos, negsuc, _+ℤ_, _*ℤ_, +ℤ-idr, +ℤ-assoc, +ℤ-comm, *ℤ-comm, *ℤ-zero, sucℤ-*ℤ}
 use lib.Dec.{T, ltb, le→leb, leb→le, lit<}
 use borrow.Author.Tests.{ltb-true, ltb-false}
 use lib.Signed.{leZ, leZ-yes, _≤ℤ_}

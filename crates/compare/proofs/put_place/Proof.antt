@@ -1,10 +1,6 @@
 -- Four cases: both have the place and agree, both have it and differ, the first alone has it, the second alone.
 use native.Mathlib.Omega.{arith}
-use mathlib.Core.Path.{_≡_}
-use mathlib.Core.List.{[], _∷_}
-use lib.ListN.{getD}
 use Rattle.compare.specs.Differences.{knot, only, placesIn}
-use Rattle.compare.specs.Contract.{atPlace}
 use Rattle.compare.proofs.Writing.{no-line, one-line, place-same, place-knot, place-old, place-new}
 use borrow.Author.Needs.{needs}
 use Rattle.compare.proofs.put_place.Statement.{statement}

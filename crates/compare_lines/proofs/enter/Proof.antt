@@ -1,5 +1,4 @@
 -- Before the listing's `curve` (`first`), or after it (`later`).
-use native.Mathlib.Omega.{arith}
 use Prim.Native.Nat.{_≤_}
 use Rattle.compare_lines.specs.Listings.{places}
 use borrow.Author.Needs.{needs}

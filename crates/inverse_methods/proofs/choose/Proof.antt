@@ -1,5 +1,5 @@
 -- Where the bracket is wider than the pace allows, the midpoint (`choose-middle`); otherwise the chord's place (`choose-chord`).
-use mathlib.Core.Path.{_≡_, refl, sym, _∙_}
+use mathlib.Core.Path.{refl}
 use lib.Ieee.{ofBits}
 use Rattle.inverse_methods.proofs.Choosing.{choose-middle, choose-chord}
 use borrow.Author.Needs.{needs}

@@ -1,6 +1,6 @@
 -- A conversion that was made is told as a curve whose knots stand in the lent places; a refusal is told as one.
 use native.Mathlib.Omega.{arith}
-use mathlib.Core.Path.{_≡_, refl, sym, ap, _∙_}
+use mathlib.Core.Path.{sym, _∙_}
 use Rattle.convert.specs.Conversion.{convertedOf}
 use Rattle.lines_answer.specs.Answer.{places}
 use Rattle.lines_answer.proofs.Answers.{turn-written, turn-refused}

@@ -1,6 +1,6 @@
 -- A case for each record; the reply and the curve after it are the definition's.
 use native.Mathlib.Omega.{arith}
-use mathlib.Core.Path.{_≡_, refl, sym, ap, _∙_}
+use mathlib.Core.Path.{_≡_, refl}
 use Prim.Native.Nat.{_-_}
 use Rattle.lines_answer.specs.Answer.{afterOf, replyTo}
 use borrow.Author.Needs.{needs}

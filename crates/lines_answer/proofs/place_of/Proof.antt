@@ -1,5 +1,5 @@
 -- A case for each answer of the inversion; each is told as the definition tells it.
-use mathlib.Core.Path.{_≡_, refl, sym, ap, _∙_}
+use mathlib.Core.Path.{_≡_, refl, sym, _∙_}
 use Rattle.inverse_segment.specs.declared.Inversion.the-variants.{Refused, OffCurve, At}
 use Rattle.lines_answer.specs.Answer.{foundOf}
 use borrow.Author.Needs.{needs}

@@ -1,6 +1,6 @@
 -- A good span is kept and nothing is told (`span-silent`); any other is refused and changes nothing (`span-refused`).
 use native.Mathlib.Omega.{arith}
-use mathlib.Core.Path.{_≡_, refl, sym, ap, _∙_}
+use mathlib.Core.Path.{sym, _∙_}
 use lib.ListN.{take}
 use Rattle.lines_answer.proofs.Records.{span-silent, span-refused}
 use borrow.Author.Needs.{needs}

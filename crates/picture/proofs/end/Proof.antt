@@ -1,9 +1,9 @@
 -- No curve, or the one that is held.
 use borrow.Author.Needs.{needs}
 use native.Mathlib.Omega.{arith}
-use mathlib.Core.Path.{_≡_, refl, sym, ap, _∙_}
-use Prim.Native.Nat.{_+_, _*_, _-_, _/_, _%_, _≤_, _<_}
-use Rattle.picture.specs.Program.{faultAfter, endsWith}
+use mathlib.Core.Path.{_≡_}
+use Prim.Native.Nat.{_-_, _≤_}
+use Rattle.picture.specs.Program.{endsWith}
 use mathlib.Core.Path.{_≡_}
 use lib.ListN.{length-take}
 use Rattle.lines_answer.specs.Answer.{places}

@@ -1,6 +1,6 @@
 -- A case for each record.
 use borrow.Author.Needs.{needs}
-use mathlib.Core.Path.{_≡_, refl, sym, ap, _∙_}
+use mathlib.Core.Path.{refl}
 use Rattle.picture.proofs.fault_after.Statement.{statement}
 use Rattle.picture.proofs.fault_after.Tie as tie
 

@@ -1,6 +1,6 @@
 -- A case for each reply.
 use borrow.Author.Needs.{needs}
-use mathlib.Core.Path.{_≡_, refl, sym, ap, _∙_}
+use mathlib.Core.Path.{refl}
 use Rattle.picture.proofs.fault_in.Statement.{statement}
 use Rattle.picture.proofs.fault_in.Tie as tie
 

@@ -1,6 +1,5 @@
 -- The curve after the record, the targets after it and the fault after it are each the definition's.
 use borrow.Author.Needs.{needs}
-use mathlib.Core.Path.{_≡_, refl, sym, ap, _∙_}
 use Rattle.picture.proofs.Steps.{drawn-so}
 use Rattle.lines_machine.specs.Contract.{openOf}
 use Rattle.picture.proofs.line.Statement.{statement}

@@ -1,9 +1,8 @@
 -- A label within the extent, and none beyond it.
 use borrow.Author.Needs.{needs}
 use native.Mathlib.Omega.{arith}
-use borrow.Author.Tests.{le-leb, lt-leb, le-ltb, lt-ltb, eq-eqb, ne-eqb}
-use mathlib.Core.Path.{_≡_, refl, sym, ap, _∙_}
-use Rattle.text.proofs.Writing.{nothing, then}
+use borrow.Author.Tests.{le-leb, lt-leb}
+use Rattle.text.proofs.Writing.{nothing}
 use Rattle.picture_axes.proofs.put_depth_label.Statement.{statement}
 use Rattle.picture_axes.proofs.put_depth_label.Tie as tie
 

@@ -1,9 +1,8 @@
 -- Below 0 with a sign, else without.
 use borrow.Author.Needs.{needs}
 use native.Mathlib.Omega.{arith}
-use borrow.Author.Tests.{le-leb, lt-leb, le-ltb, lt-ltb, eq-eqb, ne-eqb}
-use mathlib.Core.Path.{_≡_, refl, sym, ap, _∙_}
-use Rattle.text.proofs.Writing.{nothing, then}
+use borrow.Author.Tests.{le-ltb, lt-ltb}
+use Rattle.text.proofs.Writing.{then}
 use Rattle.picture_axes.proofs.put_label.Statement.{statement}
 use Rattle.picture_axes.proofs.put_label.Tie as tie
 

@@ -1,8 +1,7 @@
 -- Seven labels, one after another.
 use borrow.Author.Needs.{needs}
 use native.Mathlib.Omega.{arith}
-use mathlib.Core.Path.{_≡_, refl, sym, ap, _∙_}
-use Rattle.text.proofs.Writing.{nothing, then}
+use Rattle.text.proofs.Writing.{then}
 use Rattle.picture_axes.proofs.put_times.Statement.{statement}
 use Rattle.picture_axes.proofs.put_times.Tie as tie
 

@@ -1,7 +1,6 @@
 -- Without a span, and with one.
 use borrow.Author.Needs.{needs}
-use borrow.Author.Tests.{le-leb, lt-leb, le-ltb, lt-ltb, eq-eqb, ne-eqb}
-use mathlib.Core.Path.{_≡_, refl, sym, ap, _∙_}
+use borrow.Author.Tests.{eq-eqb, ne-eqb}
 use Rattle.picture_axes.proofs.time_column.Statement.{statement}
 use Rattle.picture_axes.proofs.time_column.Tie as tie
 

@@ -1,6 +1,5 @@
 -- Every field is the definition's.
 use borrow.Author.Needs.{needs}
-use mathlib.Core.Path.{_≡_, refl, sym, ap, _∙_}
 use Rattle.picture_finds.proofs.ask.Statement.{statement}
 use Rattle.picture_finds.proofs.ask.Tie as tie
 

@@ -1,5 +1,5 @@
 -- Every field is the definition's.
-use mathlib.Core.Path.{_≡_, refl, sym, ap, _∙_}
+use mathlib.Core.Path.{refl}
 use Rattle.picture_finds.proofs.clear.Statement.{statement}
 use Rattle.picture_finds.proofs.clear.Tie as tie
 

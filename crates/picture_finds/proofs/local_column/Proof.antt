@@ -1,6 +1,5 @@
 -- The parameter of the local place.
 use borrow.Author.Needs.{needs}
-use mathlib.Core.Path.{_≡_, refl, sym, ap, _∙_}
 use Rattle.picture_finds.specs.Finds.{localColumn}
 use Rattle.picture_finds.proofs.local_column.Statement.{statement}
 use Rattle.picture_finds.proofs.local_column.Tie as tie

@@ -1,7 +1,6 @@
 -- Up to eight.
 use borrow.Author.Needs.{needs}
 use native.Mathlib.Omega.{arith}
-use mathlib.Core.Path.{_≡_, refl, sym, ap, _∙_}
 use Rattle.picture_finds.proofs.one_more.Statement.{statement}
 use Rattle.picture_finds.proofs.one_more.Tie as tie
 

@@ -1,8 +1,8 @@
 -- The second of a span of 8,600.
 use borrow.Author.Needs.{needs}
-use mathlib.Core.Path.{_≡_, refl, sym, ap, _∙_}
+use mathlib.Core.Path.{ap}
 use Rattle.picture_finds.specs.Finds.{placeColumn}
-use Prim.Native.Nat.{_+_, _*_, _-_, _/_, _%_, _≤_, _<_}
+use Prim.Native.Nat.{_+_, _-_}
 use Rattle.picture_finds.proofs.place_column.Statement.{statement}
 use Rattle.picture_finds.proofs.place_column.Tie as tie
 

@@ -1,9 +1,8 @@
 -- A target that was asked, and none.
 use borrow.Author.Needs.{needs}
 use native.Mathlib.Omega.{arith}
-use borrow.Author.Tests.{le-leb, lt-leb, le-ltb, lt-ltb, eq-eqb, ne-eqb}
-use mathlib.Core.Path.{_≡_, refl, sym, ap, _∙_}
-use Rattle.text.proofs.Writing.{nothing, then}
+use borrow.Author.Tests.{le-leb, lt-leb}
+use Rattle.text.proofs.Writing.{nothing}
 use Prim.Native.Nat.{_-_}
 use Rattle.picture_finds.proofs.put_find.Statement.{statement}
 use Rattle.picture_finds.proofs.put_find.Tie as tie

@@ -1,7 +1,5 @@
 -- A case for each answer of the inversion.
 use borrow.Author.Needs.{needs}
-use mathlib.Core.Path.{_≡_, refl, sym, ap, _∙_}
-use Rattle.text.proofs.Writing.{nothing, then}
 use Rattle.picture_finds.proofs.put_found.Statement.{statement}
 use Rattle.picture_finds.proofs.put_found.Tie as tie
 

@@ -1,7 +1,5 @@
 -- Every column and the row are the definition's.
 use borrow.Author.Needs.{needs}
-use mathlib.Core.Path.{_≡_, refl, sym, ap, _∙_}
-use Rattle.text.proofs.Writing.{nothing, then}
 use Rattle.picture_finds.proofs.put_place.Statement.{statement}
 use Rattle.picture_finds.proofs.put_place.Tie as tie
 

@@ -1,8 +1,7 @@
 -- A fault, or none.
 use borrow.Author.Needs.{needs}
 use native.Mathlib.Omega.{arith}
-use mathlib.Core.Path.{_≡_, refl, sym, ap, _∙_}
-use Rattle.text.proofs.Writing.{nothing, then}
+use Rattle.text.proofs.Writing.{nothing}
 use Rattle.picture_notes.proofs.put_fault.Statement.{statement}
 use Rattle.picture_notes.proofs.put_fault.Tie as tie
 

@@ -1,8 +1,8 @@
 -- The parts one after another, each where the last ended (`then`).
 use borrow.Author.Needs.{needs}
 use native.Mathlib.Omega.{arith}
-use mathlib.Core.Path.{_≡_, refl, sym, ap, _∙_}
-use Rattle.text.proofs.Writing.{nothing, then}
+use mathlib.Core.Path.{_≡_}
+use Rattle.text.proofs.Writing.{then}
 use Prim.Native.Nat.{_+_}
 use lib.ListN.{length}
 use Rattle.picture_notes.proofs.put_note.Statement.{statement}

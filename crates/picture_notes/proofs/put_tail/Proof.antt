@@ -1,9 +1,8 @@
 -- 4, 10, and any other.
 use borrow.Author.Needs.{needs}
 use native.Mathlib.Omega.{arith}
-use borrow.Author.Tests.{le-leb, lt-leb, le-ltb, lt-ltb, eq-eqb, ne-eqb}
-use mathlib.Core.Path.{_≡_, refl, sym, ap, _∙_}
-use Rattle.text.proofs.Writing.{nothing, then}
+use borrow.Author.Tests.{eq-eqb, ne-eqb}
+use mathlib.Core.Path.{sym, _∙_}
 use Rattle.error.specs.Refusals.{numberOf}
 use Rattle.picture_notes.proofs.put_tail.Statement.{statement}
 use Rattle.picture_notes.proofs.put_tail.Tie as tie

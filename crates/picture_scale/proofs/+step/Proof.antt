@@ -1,7 +1,6 @@
 -- By recursion on k, which falls.
 use native.Mathlib.Omega.{arith}
-use mathlib.Core.Path.{_≡_, refl, sym, ap, _∙_}
-use Rattle.picture_scale.proofs.Steps.{few-segments, step-none, step-5, step-10, step-25, step-more}
+use Rattle.picture_scale.proofs.Steps.{step-none, step-5, step-10, step-25, step-more}
 use Prim.Native.Nat.{ℕ, _<_}
 use borrow.Fn.Kinds.{In}
 use borrow.Fn.PlainCycle.{Measures, is, falls, and}

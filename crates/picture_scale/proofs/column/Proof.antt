@@ -1,21 +1,7 @@
 -- No parts at all, and any other number of them.
 use native.Mathlib.Omega.{arith}
-use borrow.Author.Tests.{le-leb, lt-leb, eq-eqb, ne-eqb}
-use mathlib.Core.Path.{_≡_, refl, sym, ap, _∙_}
-use Rattle.picture_scale.specs.Scale.{
-  heightOf,
-  thousandths,
-  curveHeight,
-  columnOf,
-  rowOf,
-  piecesOf,
-  shown,
-  knotColumn,
-  curveExtent,
-  knotsExtent,
-  extentOf,
-  aboveOf,
-}
+use borrow.Author.Tests.{eq-eqb, ne-eqb}
+use Rattle.picture_scale.specs.Scale.{columnOf}
 use borrow.Author.Needs.{needs}
 use Rattle.picture_scale.proofs.column.Statement.{statement}
 use Rattle.picture_scale.proofs.column.Tie as tie

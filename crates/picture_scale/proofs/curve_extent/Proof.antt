@@ -1,23 +1,10 @@
 -- The invariant: the extent of the curve at 0/p to i/p is known.
 use native.Mathlib.Omega.{arith}
-use mathlib.Core.Path.{_≡_, refl, sym, ap, _∙_}
-use Prim.Native.Nat.{_+_, _*_, _-_, _/_, _%_, _≤_, _<_}
-use Rattle.picture_scale.specs.Scale.{
-  heightOf,
-  thousandths,
-  curveHeight,
-  columnOf,
-  rowOf,
-  piecesOf,
-  shown,
-  knotColumn,
-  curveExtent,
-  knotsExtent,
-  extentOf,
-  aboveOf,
-}
-use Rattle.picture_scale.specs.Bounds.{Narrow, Open}
-use Rattle.picture_scale.proofs.Heights.{height-below, height-above, curve-begins, curve-goes-on, no-knots, knots-go-on}
+use mathlib.Core.Path.{_≡_, ap, _∙_}
+use Prim.Native.Nat.{_-_, _≤_}
+use Rattle.picture_scale.specs.Scale.{curveExtent}
+use Rattle.picture_scale.specs.Bounds.{Narrow}
+use Rattle.picture_scale.proofs.Heights.{curve-begins, curve-goes-on}
 use Rattle.picture_scale.proofs.curve_extent.Statement.{statement}
 use Rattle.picture_scale.proofs.curve_extent.Tie as tie
 use Rattle.picture_scale.proofs.curve_extent.Reads as reads

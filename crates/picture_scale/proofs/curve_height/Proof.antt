@@ -1,20 +1,7 @@
 -- A value, or a refusal.
 use native.Mathlib.Omega.{arith}
-use mathlib.Core.Path.{_≡_, refl, sym, ap, _∙_}
-use Rattle.picture_scale.specs.Scale.{
-  heightOf,
-  thousandths,
-  curveHeight,
-  columnOf,
-  rowOf,
-  piecesOf,
-  shown,
-  knotColumn,
-  curveExtent,
-  knotsExtent,
-  extentOf,
-  aboveOf,
-}
+use mathlib.Core.Path.{refl}
+use Rattle.picture_scale.specs.Scale.{curveHeight}
 use borrow.Author.Needs.{needs}
 use Rattle.picture_scale.proofs.curve_height.Statement.{statement}
 use Rattle.picture_scale.proofs.curve_height.Tie as tie

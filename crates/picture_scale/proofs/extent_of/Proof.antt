@@ -1,22 +1,8 @@
 -- The margin keeps the greatest above the least.
 use native.Mathlib.Omega.{arith}
-use mathlib.Core.Path.{_≡_, refl, sym, ap, _∙_}
-use Prim.Native.Nat.{_+_, _*_, _-_, _/_, _%_, _≤_, _<_}
-use Rattle.picture_scale.specs.Scale.{
-  heightOf,
-  thousandths,
-  curveHeight,
-  columnOf,
-  rowOf,
-  piecesOf,
-  shown,
-  knotColumn,
-  curveExtent,
-  knotsExtent,
-  extentOf,
-  aboveOf,
-}
-use Rattle.picture_scale.specs.Bounds.{Narrow, Open}
+use mathlib.Core.Path.{ap}
+use Prim.Native.Nat.{_+_, _-_}
+use Rattle.picture_scale.specs.Scale.{extentOf}
 use Rattle.picture_scale.specs.declared.Extent.{Extent}
 use borrow.Author.Needs.{needs}
 use Rattle.picture_scale.proofs.extent_of.Statement.{statement}

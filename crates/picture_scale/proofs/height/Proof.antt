@@ -1,8 +1,7 @@
 -- A negative depth lies below the level of 0, any other at it or above it.
 use borrow.Author.Needs.{needs}
 use native.Mathlib.Omega.{arith}
-use mathlib.Core.Path.{_≡_, refl, sym, ap, _∙_}
-use Rattle.picture_scale.proofs.Heights.{height-below, height-above, curve-begins, curve-goes-on, no-knots, knots-go-on}
+use Rattle.picture_scale.proofs.Heights.{height-below, height-above}
 use Rattle.picture_scale.proofs.height.Statement.{statement}
 use Rattle.picture_scale.proofs.height.Tie as tie
 

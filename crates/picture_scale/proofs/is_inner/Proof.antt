@@ -1,6 +1,6 @@
 -- A knot before the first one shown, and any other.
 use native.Mathlib.Omega.{arith}
-use borrow.Author.Tests.{le-leb, lt-leb, eq-eqb, ne-eqb}
+use borrow.Author.Tests.{le-leb, lt-leb}
 use borrow.Author.Needs.{needs}
 use Rattle.picture_scale.proofs.is_inner.Statement.{statement}
 use Rattle.picture_scale.proofs.is_inner.Tie as tie

@@ -1,20 +1,6 @@
 -- A case for each basis.
-use borrow.Author.Tests.{le-leb, lt-leb, eq-eqb, ne-eqb}
-use mathlib.Core.Path.{_≡_, refl, sym, ap, _∙_}
-use Rattle.picture_scale.specs.Scale.{
-  heightOf,
-  thousandths,
-  curveHeight,
-  columnOf,
-  rowOf,
-  piecesOf,
-  shown,
-  knotColumn,
-  curveExtent,
-  knotsExtent,
-  extentOf,
-  aboveOf,
-}
+use mathlib.Core.Path.{refl}
+use Rattle.picture_scale.specs.Scale.{shown}
 use borrow.Author.Needs.{needs}
 use Rattle.picture_scale.proofs.is_shown.Statement.{statement}
 use Rattle.picture_scale.proofs.is_shown.Tie as tie

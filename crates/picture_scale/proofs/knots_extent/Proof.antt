@@ -1,24 +1,11 @@
 -- The invariant: the extent with the first j knots is known.
 use borrow.Author.Needs.{needs}
 use native.Mathlib.Omega.{arith}
-use mathlib.Core.Path.{_≡_, refl, sym, ap, _∙_}
-use Prim.Native.Nat.{_+_, _*_, _-_, _/_, _%_, _≤_, _<_}
-use Rattle.picture_scale.specs.Scale.{
-  heightOf,
-  thousandths,
-  curveHeight,
-  columnOf,
-  rowOf,
-  piecesOf,
-  shown,
-  knotColumn,
-  curveExtent,
-  knotsExtent,
-  extentOf,
-  aboveOf,
-}
-use Rattle.picture_scale.specs.Bounds.{Narrow, Open}
-use Rattle.picture_scale.proofs.Heights.{height-below, height-above, curve-begins, curve-goes-on, no-knots, knots-go-on}
+use mathlib.Core.Path.{_≡_, ap, _∙_}
+use Prim.Native.Nat.{_-_, _≤_}
+use Rattle.picture_scale.specs.Scale.{knotsExtent}
+use Rattle.picture_scale.specs.Bounds.{Narrow}
+use Rattle.picture_scale.proofs.Heights.{no-knots, knots-go-on}
 use lib.ListN.{length}
 use Rattle.picture_scale.proofs.knots_extent.Statement.{statement}
 use Rattle.picture_scale.proofs.knots_extent.Tie as tie

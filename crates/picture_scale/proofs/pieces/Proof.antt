@@ -1,20 +1,6 @@
 -- 256 for each segment, as far as they go.
 use native.Mathlib.Omega.{arith}
-use mathlib.Core.Path.{_≡_, refl, sym, ap, _∙_}
-use Rattle.picture_scale.specs.Scale.{
-  heightOf,
-  thousandths,
-  curveHeight,
-  columnOf,
-  rowOf,
-  piecesOf,
-  shown,
-  knotColumn,
-  curveExtent,
-  knotsExtent,
-  extentOf,
-  aboveOf,
-}
+use Rattle.picture_scale.specs.Scale.{piecesOf}
 use borrow.Author.Needs.{needs}
 use Rattle.picture_scale.proofs.pieces.Statement.{statement}
 use Rattle.picture_scale.proofs.pieces.Tie as tie

@@ -1,21 +1,8 @@
 -- The clamp keeps it in the frame.
 use native.Mathlib.Omega.{arith}
-use mathlib.Core.Path.{_≡_, refl, sym, ap, _∙_}
-use Prim.Native.Nat.{_+_, _*_, _-_, _/_, _%_, _≤_, _<_}
-use Rattle.picture_scale.specs.Scale.{
-  heightOf,
-  thousandths,
-  curveHeight,
-  columnOf,
-  rowOf,
-  piecesOf,
-  shown,
-  knotColumn,
-  curveExtent,
-  knotsExtent,
-  extentOf,
-  aboveOf,
-}
+use mathlib.Core.Path.{ap}
+use Prim.Native.Nat.{_-_}
+use Rattle.picture_scale.specs.Scale.{rowOf}
 use borrow.Author.Needs.{needs}
 use Rattle.picture_scale.proofs.row.Statement.{statement}
 use Rattle.picture_scale.proofs.row.Tie as tie

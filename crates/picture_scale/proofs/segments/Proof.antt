@@ -1,7 +1,6 @@
 -- Fewer than four knots stand as one segment.
 use native.Mathlib.Omega.{arith}
-use mathlib.Core.Path.{_≡_, refl, sym, ap, _∙_}
-use Rattle.picture_scale.proofs.Steps.{few-segments, one-segment, step-none, step-5, step-10, step-25, step-more}
+use Rattle.picture_scale.proofs.Steps.{few-segments, one-segment}
 use borrow.Author.Needs.{needs}
 use Rattle.picture_scale.proofs.segments.Statement.{statement}
 use Rattle.picture_scale.proofs.segments.Tie as tie

@@ -1,7 +1,5 @@
 -- The least of both and the greatest of both.
 use native.Mathlib.Omega.{arith}
-use mathlib.Core.Path.{_≡_, refl, sym, ap, _∙_}
-use Rattle.picture_scale.specs.Bounds.{Narrow, Open}
 use borrow.Author.Needs.{needs}
 use Rattle.picture_scale.proofs.widen.Statement.{statement}
 use Rattle.picture_scale.proofs.widen.Tie as tie

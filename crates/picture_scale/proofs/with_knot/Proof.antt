@@ -1,19 +1,6 @@
 -- A knot that is shown, and one that is not.
-use mathlib.Core.Path.{_≡_, refl, sym, ap, _∙_}
-use Rattle.picture_scale.specs.Scale.{
-  heightOf,
-  thousandths,
-  curveHeight,
-  columnOf,
-  rowOf,
-  piecesOf,
-  shown,
-  knotColumn,
-  curveExtent,
-  knotsExtent,
-  extentOf,
-  aboveOf,
-}
+use mathlib.Core.Path.{refl}
+use Rattle.picture_scale.specs.Scale.{shown}
 use borrow.Author.Needs.{needs}
 use Rattle.picture_scale.proofs.with_knot.Statement.{statement}
 use Rattle.picture_scale.proofs.with_knot.Tie as tie

@@ -1,5 +1,5 @@
 -- A case for a conversion that was made and for one that was refused.
-use mathlib.Core.Path.{_≡_, refl, sym, ap, _∙_}
+use mathlib.Core.Path.{refl}
 use borrow.Author.Needs.{needs}
 use Rattle.table.proofs.handed_on.Statement.{statement}
 use Rattle.table.proofs.handed_on.Tie as tie

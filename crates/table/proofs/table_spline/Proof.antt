@@ -1,5 +1,5 @@
 -- With a good span the call is the base's; without one the length's row, or 14, is the first that applies.
-use mathlib.Core.Path.{_≡_, refl, sym, ap, _∙_}
+use mathlib.Core.Path.{sym, _∙_}
 use Rattle.table.proofs.Spans.{spline-base, spline-spanless}
 use borrow.Author.Needs.{needs}
 use Rattle.table.proofs.table_spline.Statement.{statement}

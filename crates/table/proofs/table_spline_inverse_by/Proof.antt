@@ -1,5 +1,5 @@
 -- With a good span the call is the base's, with the second; without one the length's row, or 14, is the first that applies.
-use mathlib.Core.Path.{_≡_, refl, sym, ap, _∙_}
+use mathlib.Core.Path.{sym, ap, _∙_}
 use Rattle.table.specs.Calls.{timedOf}
 use Rattle.table.proofs.Spans.{inverse-base, inverse-spanless}
 use borrow.Author.Needs.{needs}

@@ -1,5 +1,5 @@
 -- A case for each answer; a place gets the second of its parameter.
-use mathlib.Core.Path.{_≡_, refl, sym, ap, _∙_}
+use mathlib.Core.Path.{refl}
 use Rattle.table_span.proofs.Spans.{good-least}
 use borrow.Author.Needs.{needs}
 use Rattle.table.proofs.with_second.Statement.{statement}

@@ -1,5 +1,5 @@
 -- A good span is at most a day, which is what the second's function asks for; without one there is no second.
-use mathlib.Core.Path.{_≡_, refl, sym, ap, _∙_}
+use mathlib.Core.Path.{sym, _∙_}
 use Rattle.table_span.proofs.Spans.{good-least}
 use borrow.Author.Needs.{needs}
 use Rattle.table_span.proofs.seconds_of.Statement.{statement}

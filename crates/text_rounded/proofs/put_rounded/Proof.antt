@@ -1,8 +1,6 @@
 -- The cases of the definition, in its order.
 use borrow.Author.Needs.{needs}
 use native.Mathlib.Omega.{arith}
-use mathlib.Core.Path.{sym, subst}
-use Rattle.text.specs.Wrote.{Wrote}
 use Rattle.text_rounded.proofs.Parts.{units-short}
 use Rattle.text_rounded.proofs.Writing.{is-nan, is-infinite, is-large, is-number}
 use Rattle.text_rounded.proofs.put_rounded.Statement.{statement}

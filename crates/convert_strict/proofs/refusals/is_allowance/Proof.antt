@@ -1,5 +1,4 @@
 -- By the two comparisons. Assumes nothing.
-use borrow.Author.Needs.{needs}
 use lib.Ieee.{ofBits, div}
 use Rattle.convert_strict.specs.Strict.{allowable}
 use Rattle.convert_strict.proofs.refusals.is_allowance.Statement.{statement}

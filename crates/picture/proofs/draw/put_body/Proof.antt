@@ -1,8 +1,6 @@
 -- The curve, or the refusal of the table.
 use borrow.Author.Needs.{needs}
 use native.Mathlib.Omega.{arith}
-use mathlib.Core.Path.{_≡_, refl, sym, ap, _∙_}
-use Rattle.text.proofs.Writing.{nothing, then}
 use Rattle.picture.proofs.draw.put_body.Statement.{statement}
 use Rattle.picture.proofs.draw.put_body.Tie as tie
 

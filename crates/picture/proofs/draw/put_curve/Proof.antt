@@ -1,8 +1,8 @@
 -- The parts one after another, each where the last ended (`then`).
 use borrow.Author.Needs.{needs}
 use native.Mathlib.Omega.{arith}
-use mathlib.Core.Path.{_≡_, refl, sym, ap, _∙_}
-use Rattle.text.proofs.Writing.{nothing, then}
+use mathlib.Core.Path.{_∙_}
+use Rattle.text.proofs.Writing.{then}
 use Rattle.picture.specs.Picture.{curveText}
 use Rattle.picture.proofs.draw.put_curve.Statement.{statement}
 use Rattle.picture.proofs.draw.put_curve.Tie as tie

@@ -1,8 +1,7 @@
 -- Five words, one after another.
 use borrow.Author.Needs.{needs}
 use native.Mathlib.Omega.{arith}
-use mathlib.Core.Path.{_≡_, refl, sym, ap, _∙_}
-use Rattle.text.proofs.Writing.{nothing, then}
+use Rattle.text.proofs.Writing.{then}
 use Rattle.picture.specs.Picture.{headText}
 use Rattle.picture.proofs.draw.put_head.Statement.{statement}
 use Rattle.picture.proofs.draw.put_head.Tie as tie

@@ -1,8 +1,7 @@
 -- A knot that is shown, and one that is not.
 use borrow.Author.Needs.{needs}
 use native.Mathlib.Omega.{arith}
-use mathlib.Core.Path.{_≡_, refl, sym, ap, _∙_}
-use Rattle.text.proofs.Writing.{nothing, then}
+use Rattle.text.proofs.Writing.{nothing}
 use Rattle.picture.proofs.draw.put_knot.Statement.{statement}
 use Rattle.picture.proofs.draw.put_knot.Tie as tie
 

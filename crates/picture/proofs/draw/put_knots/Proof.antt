@@ -1,11 +1,10 @@
 -- The invariant: the first j knots stand from `at` on, at most 12 bytes each.
 use borrow.Author.Needs.{needs}
 use native.Mathlib.Omega.{arith}
-use mathlib.Core.Path.{_≡_, refl, sym, ap, _∙_}
-use Rattle.text.proofs.Writing.{nothing, then}
-use Prim.Native.Nat.{_+_, _*_, _-_, _/_, _%_, _≤_, _<_}
+use mathlib.Core.Path.{_≡_}
+use Prim.Native.Nat.{_+_, _*_, _-_, _≤_}
 use Rattle.picture.specs.Picture.{knotsText}
-use Rattle.picture.proofs.Steps.{no-points, points-go-on, no-knots, knots-go-on}
+use Rattle.picture.proofs.Steps.{no-knots, knots-go-on}
 use lib.ListN.{length}
 use Rattle.text.specs.Wrote.{Wrote}
 use Rattle.picture.proofs.draw.put_knots.Statement.{statement}

@@ -1,8 +1,7 @@
 -- The word, then the number, which the clamp keeps to four digits.
 use borrow.Author.Needs.{needs}
 use native.Mathlib.Omega.{arith}
-use mathlib.Core.Path.{_≡_, refl, sym, ap, _∙_}
-use Rattle.text.proofs.Writing.{nothing, then}
+use Rattle.text.proofs.Writing.{then}
 use Rattle.picture_scale.proofs.words.put_number.Statement.{statement}
 use Rattle.picture_scale.proofs.words.put_number.Tie as tie
 
