@@ -106,8 +106,8 @@ fn once(t: &mut Tally) {
     }
 }
 
-/// Any claim on these knots; then our own answers on them, and on a segment of them.
-fn knots(t: &mut Tally, r: &mut Rng, b: usize, knots: &[f64]) {
+/// Any claim on these knots.
+pub fn any(r: &mut Rng, b: usize, knots: &[f64]) -> Claim {
     let k = model::curve_length(b, knots.len()).unwrap_or(1);
     let local = match r.below(8) {
         0 => r.one_of(&AWKWARD),
@@ -119,7 +119,12 @@ fn knots(t: &mut Tally, r: &mut Rng, b: usize, knots: &[f64]) {
         Some(cv) if cv.len() >= 4 && r.below(2) == 0 => model::value(b, local, cv),
         _ => inputs::target(r, b, knots),
     };
-    _ = compare(t, b, &Claim { y, segment, local, precision: r.one_of(&PRECISIONS) }, knots);
+    Claim { y, segment, local, precision: r.one_of(&PRECISIONS) }
+}
+
+/// Any claim on these knots; then our own answers on them, and on a segment of them.
+fn knots(t: &mut Tally, r: &mut Rng, b: usize, knots: &[f64]) {
+    _ = compare(t, b, &any(r, b, knots), knots);
     let o = inputs::options(r);
     let y = inputs::target(r, b, knots);
     own(t, b, y, knots, &o, &port::spline_inverse_by(b as u8, y, knots, &o));

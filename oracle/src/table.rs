@@ -13,7 +13,7 @@ use crate::tally::{of_ground, of_reply, Call, Tally};
 pub const PART: Part = Part { once, knots };
 
 /// Spans at the edges of the range, and beyond.
-const SPANS: [u32; 9] = [0, 1, 2, 3_600, 43_201, 86_399, 86_400, 86_401, u32::MAX];
+pub const SPANS: [u32; 9] = [0, 1, 2, 3_600, 43_201, 86_399, 86_400, 86_401, u32::MAX];
 
 // ---- the model
 
@@ -28,15 +28,37 @@ fn spanned(b: usize, n: usize, span: u32) -> Result<(), RefusalNumber> {
 }
 
 /// The largest whole second not above parameter × span.
-fn second(span: u32, parameter: f64) -> usize {
+pub fn second(span: u32, parameter: f64) -> usize {
     (parameter * f64::from(span)).floor() as usize
 }
 
-fn inversion(b: usize, span: u32, y: f64, knots: &[f64], o: &Options) -> Inversion {
+pub fn inversion(b: usize, span: u32, y: f64, knots: &[f64], o: &Options) -> Inversion {
     match spanned(b, knots.len(), span) {
         Ok(()) => model::spline_inverse(b, y, knots, o),
         Err(why) => Inversion { answer: Err(why), count: 0, rounds: 0, fate: Fate::Answers },
     }
+}
+
+pub fn value(b: usize, span: u32, x: f64, knots: &[f64]) -> Result<f64, RefusalNumber> {
+    spanned(b, knots.len(), span)?;
+    model::spline(b, x, knots)
+}
+
+pub fn conversion(b: usize, span: u32, to: usize, knots: &[f64], room: usize) -> Result<Vec<f64>, RefusalNumber> {
+    spanned(b, knots.len(), span)?;
+    model::convert_spline(b, to, knots, room)
+}
+
+pub fn strict_conversion(
+    b: usize,
+    span: u32,
+    to: usize,
+    knots: &[f64],
+    allowance: f64,
+    room: usize,
+) -> Result<Vec<f64>, RefusalNumber> {
+    spanned(b, knots.len(), span)?;
+    strict::model(b, to, knots, allowance, room)
 }
 
 // ---- the port
@@ -134,8 +156,7 @@ fn knots(t: &mut Tally, r: &mut Rng, b: usize, knots: &[f64]) {
     let x = inputs::parameter(r, knots.len());
     let input = Input { call: Call::TableSpline, bases: &[b], at: x, knots, more: &span };
     let ours = spline(b as u8, span, x, knots);
-    let answer = spanned(b, knots.len(), span).and_then(|()| model::spline(b, x, knots));
-    hold("the model", &input, valued(answer), ours);
+    hold("the model", &input, valued(value(b, span, x, knots)), ours);
     t.add(input.call, of_reply(ours.reply), false);
 
     let y = if knots.is_empty() { 0.5 } else { inputs::target(r, b, knots) };
@@ -145,7 +166,7 @@ fn knots(t: &mut Tally, r: &mut Rng, b: usize, knots: &[f64]) {
     let room = knots.len() * 4 / (1 + r.below(3));
     let input = Input { call: Call::TableConvertSpline, bases: &[b, to], at: 0.0, knots, more: &(span, room) };
     let (ours, handed) = convert_spline(b as u8, span, to as u8, knots, room);
-    let answer = spanned(b, knots.len(), span).and_then(|()| model::convert_spline(b, to, knots, room));
+    let answer = conversion(b, span, to, knots, room);
     hold("the model", &input, converted(answer.as_deref().map_err(|why| *why), room, true), ours.clone());
     hold("the span handed on", &input, if ours.reply == 0 { span } else { 77 }, handed);
     t.add(input.call, of_reply(ours.reply), false);
@@ -158,7 +179,7 @@ fn compare_strict(t: &mut Tally, b: usize, span: u32, to: usize, knots: &[f64], 
     let more = &(span, room);
     let input = Input { call: Call::TableConvertSplineStrict, bases: &[b, to], at: allowance, knots, more };
     let (ours, handed) = convert_spline_strict(b as u8, span, to as u8, knots, allowance, room);
-    let answer = spanned(b, knots.len(), span).and_then(|()| strict::model(b, to, knots, allowance, room));
+    let answer = strict_conversion(b, span, to, knots, allowance, room);
     hold("the model", &input, converted(answer.as_deref().map_err(|why| *why), room, true), ours.clone());
     hold("the span handed on", &input, if ours.reply == 0 { span } else { 77 }, handed);
     if ours.reply == 0 {

@@ -17,16 +17,16 @@ pub const PART: Part = Part { once, knots };
 const DEPTHS: u32 = 1 << 31;
 
 /// A table: the number of its basis, and its knots.
-type Table<'a> = (usize, &'a [f64]);
+pub type Table<'a> = (usize, &'a [f64]);
 
 /// A reply; the bits of the depth, and of parameter, local place, lower and upper end; ground, segment, the inversion's
 /// count and that of both.
 #[derive(Clone, Copy, Debug, PartialEq, Eq)]
-struct DepthReply {
-    reply: u32,
-    depth: u64,
-    place: [u64; 4],
-    whole: [usize; 4],
+pub struct DepthReply {
+    pub reply: u32,
+    pub depth: u64,
+    pub place: [u64; 4],
+    pub whole: [usize; 4],
 }
 
 const NOTHING: DepthReply =
@@ -42,7 +42,8 @@ fn depths_refused(times: Table, depths: Table) -> Result<(), RefusalNumber> {
     Ok(())
 }
 
-fn model(times: Table, depths: Table, y: f64, o: &Options) -> (DepthReply, usize, bool) {
+/// What the port owes, its kind for the tally, and whether the crate answers.
+pub fn model(times: Table, depths: Table, y: f64, o: &Options) -> (DepthReply, usize, bool) {
     let i = model::spline_inverse(times.0, y, times.1, o);
     let answers = i.fate == Fate::Answers;
     match (i.answer, depths_refused(times, depths)) {

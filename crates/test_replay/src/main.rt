@@ -1,6 +1,25 @@
 // Replays stored answers: standard input has a case to a line, and the port must answer each as it is stored.
 // README.md beside this folder says what a line holds and how the list was made.
 ghost use Prim.Native.Nat.{_+_, _≤_, _<_};
+use simmerstoat::claims::simmerstoat_check_claim;
+use simmerstoat::hours::simmerstoat_depth_at;
+use simmerstoat::options::simmerstoat_spline_inverse_by;
+use simmerstoat::options::simmerstoat_spline_inverse_segment_by;
+use simmerstoat::seams::simmerstoat_convert_spline_strict;
+use simmerstoat::simmerstoat_convert_segment;
+use simmerstoat::simmerstoat_convert_spline;
+use simmerstoat::simmerstoat_spline;
+use simmerstoat::simmerstoat_spline_inverse_segment_with;
+use simmerstoat::simmerstoat_spline_inverse_with;
+use simmerstoat::simmerstoat_spline_segment;
+use simmerstoat::spans::simmerstoat_table_convert_spline;
+use simmerstoat::spans::simmerstoat_table_convert_spline_strict;
+use simmerstoat::spans::simmerstoat_table_spline;
+use simmerstoat::spans::simmerstoat_table_spline_inverse;
+use simmerstoat::spans::simmerstoat_table_spline_inverse_by;
+use simmerstoat::steady::simmerstoat_spline_inverse_segment_steady;
+use simmerstoat::steady::simmerstoat_spline_inverse_steady;
+use simmerstoat::steady::simmerstoat_table_spline_inverse_steady;
 
 // The line until now: its letter, how many words are whole, and the word that is being read, if a digit was seen.
 struct Line {
@@ -34,6 +53,10 @@ fn short(n: u64) -> u16 {
     if n < 65536 { n as u16 } else { 0 }
 }
 
+fn seconds(n: u64) -> u32 {
+    if n < 4294967296 { n as u32 } else { 0 }
+}
+
 fn up_to_64(n: u64) -> usize
     ensures { λ r. ⌜ r ≤ 64 ⌝ }
 {
@@ -45,19 +68,35 @@ fn told(reply: u32, stored: u64) -> bool {
     reply as u64 == stored
 }
 
-// v and s: basis, parameter, reply, value.
+// v, s and t: basis, parameter, reply, value; for t the span.
 fn value_equal(letter: u8, w: [u64; 64], knots: &[f64]) -> bool {
     let mut value = 0.0;
+    let b = byte(w[0]);
     let x = text::of_bits(w[1]);
-    let reply = if letter == b'v' {
-        simmerstoat::simmerstoat_spline(byte(w[0]), x, knots, &mut value)
-    } else {
-        simmerstoat::simmerstoat_spline_segment(byte(w[0]), x, knots, &mut value)
+    let reply = match letter {
+        b'v' => simmerstoat_spline(b, x, knots, &mut value),
+        b's' => simmerstoat_spline_segment(b, x, knots, &mut value),
+        _ => simmerstoat_table_spline(b, seconds(w[4]), x, knots, &mut value),
     };
-    if told(reply, w[2]) {
-        return reply != 0 || text::to_bits(value) == w[3];
-    }
-    false
+    told(reply, w[2]) & ((reply != 0) | (text::to_bits(value) == w[3]))
+}
+
+// a: basis, target, segment, local place, precision, reply, 1 where the claim holds.
+fn claim_equal(w: [u64; 64], knots: &[f64]) -> bool {
+    let mut holds = false;
+    let y = text::of_bits(w[1]);
+    let x = text::of_bits(w[3]);
+    let precision = text::of_bits(w[4]);
+    let reply = simmerstoat_check_claim(
+        byte(w[0]),
+        y,
+        w[2] as usize,
+        x,
+        precision,
+        knots,
+        &mut holds,
+    );
+    told(reply, w[5]) & (holds == (w[6] == 1))
 }
 
 // What an inversion left: parameter, local place, lower and upper end, ground, segment, count; for refusal 11 the count.
@@ -79,69 +118,119 @@ fn place_equal(reply: u32, place: [f64; 4], whole: [usize; 3], w: [u64; 64]) -> 
     places & wholes
 }
 
-// i and j: basis, target, order check, limit, precision, reply, and the record.
-fn inversion_equal(letter: u8, w: [u64; 64], knots: &[f64]) -> bool {
+// What the line of an inversion asks: its first five words, and those past reply and record.
+struct Question {
+    pub basis: u8,
+    pub y: f64,
+    pub check: bool,
+    pub limit: u16,
+    pub precision: f64,
+    pub ends: u8,
+    pub method: u8,
+    pub span: u32,
+}
+
+fn asked(w: [u64; 64]) -> Question {
+    Question {
+        basis: byte(w[0]),
+        y: text::of_bits(w[1]),
+        check: w[2] == 1,
+        limit: short(w[3]),
+        precision: text::of_bits(w[4]),
+        ends: byte(w[13]),
+        method: byte(w[14]),
+        span: seconds(w[15]),
+    }
+}
+
+// i and j by limit and precision, m and n by the end rule and the method besides, o and p by the steady method's defaults.
+fn inversion_equal(letter: u8, q: Question, knots: &[f64], w: [u64; 64]) -> bool {
     let mut place = [0.0; 4];
     let mut whole: [usize; 3] = [0; 3];
-    let y = text::of_bits(w[1]);
-    let precision = text::of_bits(w[4]);
-    let reply = if letter == b'i' {
-        simmerstoat::simmerstoat_spline_inverse_with(
-            byte(w[0]),
+    let b = q.basis;
+    let y = q.y;
+    let c = q.check;
+    let n = q.limit;
+    let e = q.precision;
+    let m = q.method;
+    let reply = match letter {
+        b'i' => simmerstoat_spline_inverse_with(b, y, knots, c, n, e, &mut place, &mut whole),
+        b'j' => simmerstoat_spline_inverse_segment_with(b, y, knots, n, e, &mut place, &mut whole),
+        b'm' => simmerstoat_spline_inverse_by(
+            b,
             y,
             knots,
-            w[2] == 1,
-            short(w[3]),
-            precision,
+            c,
+            n,
+            e,
+            q.ends,
+            m,
             &mut place,
             &mut whole,
-        )
-    } else {
-        simmerstoat::simmerstoat_spline_inverse_segment_with(
-            byte(w[0]),
-            y,
-            knots,
-            short(w[3]),
-            precision,
-            &mut place,
-            &mut whole,
-        )
+        ),
+        b'n' => simmerstoat_spline_inverse_segment_by(b, y, knots, n, e, m, &mut place, &mut whole),
+        b'o' => simmerstoat_spline_inverse_steady(b, y, knots, c, &mut place, &mut whole),
+        _ => simmerstoat_spline_inverse_segment_steady(b, y, knots, &mut place, &mut whole),
     };
     place_equal(reply, place, whole, w)
 }
 
-// m and n: the same, then the number of the end rule and of the method.
-fn inversion_by_equal(letter: u8, w: [u64; 64], knots: &[f64]) -> bool {
+// The same with a fourth whole number: a table's second, or the count of both calls behind a depth.
+fn place_equal_with(reply: u32, place: [f64; 4], whole: [usize; 4], w: [u64; 64]) -> bool {
+    let three: [usize; 3] = [whole[0], whole[1], whole[2]];
+    place_equal(reply, place, three, w) & ((reply != 0) | (whole[3] as u64 == w[16]))
+}
+
+// A table's: w by the crate's defaults, x by every option, y by the steady method's defaults.
+fn table_inversion_equal(letter: u8, q: Question, knots: &[f64], w: [u64; 64]) -> bool {
     let mut place = [0.0; 4];
-    let mut whole: [usize; 3] = [0; 3];
-    let y = text::of_bits(w[1]);
-    let precision = text::of_bits(w[4]);
-    let reply = if letter == b'm' {
-        simmerstoat::options::simmerstoat_spline_inverse_by(
-            byte(w[0]),
+    let mut whole: [usize; 4] = [0; 4];
+    let b = q.basis;
+    let span = q.span;
+    let y = q.y;
+    let c = q.check;
+    let reply = match letter {
+        b'w' => simmerstoat_table_spline_inverse(b, span, y, knots, c, &mut place, &mut whole),
+        b'x' => simmerstoat_table_spline_inverse_by(
+            b,
+            span,
             y,
             knots,
-            w[2] == 1,
-            short(w[3]),
-            precision,
-            byte(w[13]),
-            byte(w[14]),
+            c,
+            q.limit,
+            q.precision,
+            q.ends,
+            q.method,
             &mut place,
             &mut whole,
-        )
-    } else {
-        simmerstoat::options::simmerstoat_spline_inverse_segment_by(
-            byte(w[0]),
-            y,
-            knots,
-            short(w[3]),
-            precision,
-            byte(w[14]),
-            &mut place,
-            &mut whole,
-        )
+        ),
+        _ => simmerstoat_table_spline_inverse_steady(b, span, y, knots, c, &mut place, &mut whole),
     };
-    place_equal(reply, place, whole, w)
+    place_equal_with(reply, place, whole, w)
+}
+
+// h: the basis of the depths stands where the end rule does, then how many of the knots are the times, and the depth.
+fn depth_equal(q: Question, knots: &[f64], w: [u64; 64]) -> bool {
+    let n = w[14] as usize;
+    if n > knots.len() {
+        return false;
+    }
+    let mut depth = 0.0;
+    let mut place = [0.0; 4];
+    let mut whole: [usize; 4] = [0; 4];
+    let reply = simmerstoat_depth_at(
+        q.basis,
+        &knots[0..n],
+        q.ends,
+        &knots[n..],
+        q.y,
+        q.limit,
+        q.precision,
+        &mut depth,
+        &mut place,
+        &mut whole,
+    );
+    place_equal_with(reply, place, whole, w) & ((reply != 0) | (text::to_bits(depth) == w[15]))
 }
 
 // The first n doubles are those of the words.
@@ -157,43 +246,83 @@ fn same(n: usize, out: &[f64], w: &[u64]) -> bool {
     good
 }
 
-// c and d: basis, output basis, reply, length, and what is written.
-fn output_equal(reply: u32, written: usize, out: &[f64], w: [u64; 64]) -> bool {
-    if !told(reply, w[2]) {
+// What a conversion left, with the reply, the length and what is written as stored.
+fn output_equal(
+    reply: u32,
+    written: usize,
+    out: [f64; 64],
+    stored: u64,
+    length: u64,
+    w: &[u64],
+) -> bool {
+    if !told(reply, stored) {
         return false;
     }
     if reply != 0 {
         return true;
     }
-    written as u64 == w[3] && same(written, out, &w[4..])
+    written as u64 == length && same(written, &out, w)
 }
 
-fn curve_conversion_equal(w: [u64; 64], knots: &[f64]) -> bool {
+// c and d: basis, output basis, reply, length, and what is written; d always writes four.
+fn conversion_equal(letter: u8, w: [u64; 64], knots: &[f64]) -> bool {
+    let mut out = [0.0; 64];
+    let mut written: usize = 4;
+    let from = byte(w[0]);
+    let to = byte(w[1]);
+    let reply = if letter == b'c' {
+        simmerstoat_convert_spline(from, to, knots, &mut out, &mut written)
+    } else {
+        simmerstoat_convert_segment(from, to, knots, &mut out)
+    };
+    output_equal(reply, written, out, w[2], w[3], &w[4..])
+}
+
+// e strictly, f of a table, g both: basis, output basis, allowance, span, reply, length, and what is written.
+// A table's span is handed on; e has none, which is 0.
+fn further_conversion_equal(letter: u8, w: [u64; 64], knots: &[f64]) -> bool {
     let mut out = [0.0; 64];
     let mut written: usize = 0;
-    let reply = simmerstoat::simmerstoat_convert_spline(
-        byte(w[0]),
-        byte(w[1]),
-        knots,
-        &mut out,
-        &mut written,
-    );
-    output_equal(reply, written, &out, w)
-}
-
-fn segment_conversion_equal(w: [u64; 64], knots: &[f64]) -> bool {
-    let mut out = [0.0; 64];
-    let reply = simmerstoat::simmerstoat_convert_segment(byte(w[0]), byte(w[1]), knots, &mut out);
-    output_equal(reply, 4, &out, w)
+    let from = byte(w[0]);
+    let to = byte(w[1]);
+    let a = text::of_bits(w[2]);
+    let span = seconds(w[3]);
+    let mut handed: u32 = 0;
+    let reply = match letter {
+        b'e' => simmerstoat_convert_spline_strict(from, to, knots, a, &mut out, &mut written),
+        b'f' => simmerstoat_table_convert_spline(
+            from,
+            span,
+            to,
+            knots,
+            &mut out,
+            &mut handed,
+            &mut written,
+        ),
+        _ => simmerstoat_table_convert_spline_strict(
+            from,
+            span,
+            to,
+            knots,
+            a,
+            &mut out,
+            &mut handed,
+            &mut written,
+        ),
+    };
+    output_equal(reply, written, out, w[4], w[5], &w[6..]) & ((reply != 0) | (handed == span))
 }
 
 fn is_equal(letter: u8, w: [u64; 64], knots: &[f64]) -> bool {
+    let q = asked(w);
     match letter {
-        b'v' | b's' => value_equal(letter, w, knots),
-        b'i' | b'j' => inversion_equal(letter, w, knots),
-        b'm' | b'n' => inversion_by_equal(letter, w, knots),
-        b'c' => curve_conversion_equal(w, knots),
-        b'd' => segment_conversion_equal(w, knots),
+        b'v' | b's' | b't' => value_equal(letter, w, knots),
+        b'a' => claim_equal(w, knots),
+        b'c' | b'd' => conversion_equal(letter, w, knots),
+        b'e' | b'f' | b'g' => further_conversion_equal(letter, w, knots),
+        b'h' => depth_equal(q, knots, w),
+        b'w' | b'x' | b'y' => table_inversion_equal(letter, q, knots, w),
+        b'i' | b'j' | b'm' | b'n' | b'o' | b'p' => inversion_equal(letter, q, knots, w),
         _ => false,
     }
 }
@@ -219,6 +348,14 @@ fn ended(line: Line, w: [u64; 64], table: &mut [f64], t: Tally) -> Tally {
             compared: t.compared,
             equal: t.equal,
             knots: stored(&w[0..words], table),
+        };
+    }
+    // z: so many knots from now on
+    if line.letter == b'z' {
+        return Tally {
+            compared: t.compared,
+            equal: t.equal,
+            knots: w[0] as usize,
         };
     }
     let knots = t.knots;
@@ -348,7 +485,8 @@ fn replayed(chunk: &mut [u8], w: &mut [u64; 64], table: &mut [f64]) -> Tally {
 fn main() {
     let mut chunk = io::large_buffer();
     let mut w: [u64; 64] = [0; 64];
-    let mut table = [0.0; 64];
+    // more than 4,096, for refusal 3, and the other table of a depth besides
+    let mut table = [0.0; 4200];
     let t = replayed(&mut chunk, &mut w, &mut table);
     io::print_decimal(1, t.compared);
     io::write_all(1, b" answers compared, ");
