@@ -3,7 +3,20 @@ use mathlib.Core.Path.{_≡_, refl, sym, ap, _∙_, subst}
 use mathlib.Core.Bool.{Bool, true, false, cond}
 use mathlib.Core.Logic.{inl, inr}
 use Prim.Native.Nat.{ℕ, zero, suc, _+_, _*_, _-_, _/_, _≤_, _<_, _^_}
-use native.Mathlib.Nat.{add-assoc, le-trans, le-of-eq, lt-of-le-of-lt, lt-of-lt-of-le, one-mul, mul-assoc, mul-right-comm, add-mul, mul-le-mul-right, mul-div-cancel, eq-of-mul-eq-mul-right}
+use native.Mathlib.Nat.{
+  add-assoc,
+  le-trans,
+  le-of-eq,
+  lt-of-le-of-lt,
+  lt-of-lt-of-le,
+  one-mul,
+  mul-assoc,
+  mul-right-comm,
+  add-mul,
+  mul-le-mul-right,
+  mul-div-cancel,
+  eq-of-mul-eq-mul-right,
+}
 use native.Mathlib.Omega.{arith}
 use borrow.Author.Tests.{ne-eqb}
 use lib.Dec.{lit<, lit≤}

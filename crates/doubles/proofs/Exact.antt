@@ -2,7 +2,26 @@
 use mathlib.Core.Path.{_≡_, refl, sym, ap, _∙_, subst}
 use mathlib.Core.Bool.{Bool, true, false, not, _&&_, cond}
 use Prim.Native.Nat.{ℕ, zero, suc, _+_, _-_, _*_, _^_, _≤_, _<_}
-use native.Mathlib.Nat.{le-trans, le-of-eq, lt-of-lt-of-le, lt-of-le-of-lt, mul-zero, zero-mul, mul-comm, mul-assoc, mul-right-comm, mul-mul-mul-comm, mul-le-mul, mul-le-mul-right, mul-pos, add-mul, mul-sub, sub-add-cancel, eq-of-mul-eq-mul-right, le-of-mul-le-mul-right}
+use native.Mathlib.Nat.{
+  le-trans,
+  le-of-eq,
+  lt-of-lt-of-le,
+  lt-of-le-of-lt,
+  mul-zero,
+  zero-mul,
+  mul-comm,
+  mul-assoc,
+  mul-right-comm,
+  mul-mul-mul-comm,
+  mul-le-mul,
+  mul-le-mul-right,
+  mul-pos,
+  add-mul,
+  mul-sub,
+  sub-add-cancel,
+  eq-of-mul-eq-mul-right,
+  le-of-mul-le-mul-right,
+}
 use native.Mathlib.Omega.{arith}
 use lib.IntN.{ℤ, pos, negsuc, negℤ, natAbs, _+ℤ_, _*ℤ_, +ℤ-comm, +ℤ-negℤ-cancel, negℤ-+ℤ, negℤ-negℤ}
 use lib.Dec.{T, ltb, ltb→lt, nltb→le, lit≤, lit<}

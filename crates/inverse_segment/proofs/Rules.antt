@@ -14,7 +14,20 @@ use Rattle.doubles.proofs.Interpolation.{Inside, lerp-inside}
 use Rattle.inverse_segment.specs.declared.Bracket.{Bracket}
 use Rattle.inverse_segment.specs.declared.State.{State}
 use Rattle.inverse_segment.specs.declared.Weighing.{Weighing}
-use Rattle.inverse_segment.specs.Round.{Weighting, halving, midpoint, usesRegulaFalsi, weighed, kept, fraction, Rule, chord, asCrate, weightingOf, chordOf}
+use Rattle.inverse_segment.specs.Round.{
+  Weighting,
+  halving,
+  midpoint,
+  usesRegulaFalsi,
+  weighed,
+  kept,
+  fraction,
+  Rule,
+  chord,
+  asCrate,
+  weightingOf,
+  chordOf,
+}
 use Rattle.inverse_segment.proofs.Weighting.{Keeps, halving-keeps, weighing-keeps}
 
 -- two places in 0 to 1, the lower not above the upper

@@ -5,7 +5,22 @@ ghost use lib.ListN.{length};
 ghost use lib.Dec.{leb, ltb};
 ghost use mathlib.Core.Bool.{_&&_};
 ghost use Rattle.basis.specs.Basis.{segmentsOf};
-ghost use Rattle.picture_scale.specs.Scale.{heightOf, curveHeight, columnOf, rowOf, piecesOf, shown, knotColumn, widened, withKnot, curveExtent, knotsExtent, extentOf, stepOf, aboveOf};
+ghost use Rattle.picture_scale.specs.Scale.{
+  heightOf,
+  curveHeight,
+  columnOf,
+  rowOf,
+  piecesOf,
+  shown,
+  knotColumn,
+  widened,
+  withKnot,
+  curveExtent,
+  knotsExtent,
+  extentOf,
+  stepOf,
+  aboveOf,
+};
 ghost use Rattle.picture_scale.specs.Bounds.{lowest, highest, Between, Narrow, Open};
 use basis::Basis;
 use spline::Evaluation;

@@ -4,7 +4,22 @@ use mathlib.Core.Logic.{inl, inr}
 use mathlib.Core.Bool.{Bool, true, false, not, _&&_, _||_, Bool·beq}
 use borrow.Author.Tests.{ne-eqb}
 use Prim.Native.Nat.{ℕ, zero, suc, _+_, _-_, _*_, _/_, _%_, _^_, _≤_, _<_}
-use native.Mathlib.Nat.{add-mul, one-mul, le-trans, le-of-eq, lt-of-le-of-lt, mul-comm, mul-assoc, mul-right-comm, zero-mul, mul-pos, mul-le-mul-right, le-of-mul-le-mul-right, eq-of-mul-eq-mul-right, div-add-mod'}
+use native.Mathlib.Nat.{
+  add-mul,
+  one-mul,
+  le-trans,
+  le-of-eq,
+  lt-of-le-of-lt,
+  mul-comm,
+  mul-assoc,
+  mul-right-comm,
+  zero-mul,
+  mul-pos,
+  mul-le-mul-right,
+  le-of-mul-le-mul-right,
+  eq-of-mul-eq-mul-right,
+  div-add-mod',
+}
 use native.Mathlib.Omega.{arith}
 use lib.IntN.{pos}
 use lib.Dec.{T, T-not, eqb, lit<, lit≤}
