@@ -1,13 +1,12 @@
-// The end of a line and of the input, for whichever program over lines runs.
+// The end of a line, for whichever program over lines runs.
 ghost use mathlib.Core.Path.{_≡_};
 ghost use Prim.Native.Nat.{_+_, _≤_};
 ghost use lib.ListN.{length};
 ghost use Rattle.lines_answer.specs.Answer.{places};
 ghost use Rattle.lines_reply.specs.Contract.{longest};
-ghost use Rattle.text.specs.Wrote.{Wrote};
 ghost use Rattle.lines_machine.specs.Bytes.{closed, closeText};
-ghost use Rattle.lines_programs.specs.Programs.{running, endsOf};
-ghost use Rattle.lines_programs.specs.Contract.{lastRoom, runningOf, countOf, stateOf, Good, Went};
+ghost use Rattle.lines_programs.specs.Programs.{running};
+ghost use Rattle.lines_programs.specs.Contract.{stateOf, Good, Went};
 use lines_programs::Job;
 use lines_programs::Reader;
 
@@ -101,26 +100,5 @@ pub fn ended(
                 at: at,
             }
         }
-    }
-}
-
-// What the end prints.
-pub fn ends(job: Job, table: &[f64], old: &[u64], new: &[u64], out: &mut [u8], at: usize) -> usize
-    requires held { ⌜ countOf job ≤ places ⌝ }
-    requires table { ⌜ length (now table) ≡ places ⌝ }
-    requires old { ⌜ length (now old) ≡ places ⌝ }
-    requires new { ⌜ length (now new) ≡ places ⌝ }
-    requires room { ⌜ at + lastRoom ≤ length (now out) ⌝ }
-    ensures text { λ r. ⌜ Wrote (now (out .entry)) at (endsOf (runningOf job (now (table .entry)) (now (old .entry)) (now (new .entry))))
-        (now (out .exit)) r ⌝ }
-    ensures short { λ r. ⌜ r ≤ at + lastRoom ⌝ }
-{
-    match job {
-        Job::Asking(_) => at,
-        Job::Reading(held) => sheet::end(held, table, out, at),
-        Job::Claiming(_) => at,
-        Job::Showing => at,
-        Job::Comparing(held) => compare_lines::end(held, old, new, out, at),
-        Job::Drawing(held) => picture::end(held, table, out, at),
     }
 }

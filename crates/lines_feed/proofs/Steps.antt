@@ -1,24 +1,21 @@
--- A byte, the end of the input and a chunk, case by case. Assumes nothing.
+-- A byte and a chunk, case by case. Assumes nothing.
 use mathlib.Core.Path.{_≡_, refl, ap, subst, _∙_}
-use mathlib.Core.Bool.{Bool, true, false}
 use mathlib.Core.List.{List, [], _∷_, _++_, append-nil}
-use Prim.Native.Nat.{ℕ, _+_, _≤_, _<_}
-use native.Mathlib.Omega.{arith}
-use borrow.Author.Tests.{eq-eqb, ne-eqb, leb-true}
-use lib.Dec.{leb}
+use Prim.Native.Nat.{ℕ, _+_, _<_}
+use borrow.Author.Tests.{eq-eqb, ne-eqb}
 use lib.ListN.{length, take, getD}
 use native.Mathlib.Numerals.{add-one}
-use lib.Seq.{length-take-le, take-suc}
+use lib.Seq.{take-suc}
 use lib.Ieee.{Float}
 use Rattle.text.specs.Text.{LF}
 use Rattle.text.specs.Wrote.{Wrote}
 use Rattle.text.proofs.Writing.{nothing, then}
-use Rattle.lines_machine.specs.Program.{widest, Line, so}
-use Rattle.lines_machine.specs.Bytes.{State, stateAt, push, closeText, closed, nextOf, tellOf, toldOf, ranOf, lastText, endOf}
+use Rattle.lines_machine.specs.Program.{Line}
+use Rattle.lines_machine.specs.Bytes.{State, stateAt, push, closeText, closed, nextOf, tellOf, toldOf, ranOf}
 use Rattle.lines_machine.specs.Contract.{openOf}
 use Rattle.lines_machine.proofs.Whole.{ran-append, told-append}
 use Rattle.lines_programs.specs.declared.Reader.{Reader}
-use Rattle.lines_programs.specs.Programs.{Running, tellsOf, afterOf, endsOf, running}
+use Rattle.lines_programs.specs.Programs.{Running, running}
 use Rattle.lines_programs.specs.Contract.{runningOf, stateOf, Good, Went}
 
 -- ---- a byte
@@ -39,40 +36,6 @@ step-push st byte next line line′ table old new out at other g e l = rw (ne-eq
   wrote = nothing out at;
   good = record { few = g .few; full = g .full; older = g .older; newer = g .newer; wide = l ∙ g .wide };
 })
-
--- ---- the end of the input
-pub finish-none : (st : Reader) (line : List ℕ) (table : List Float) (old new : List ℕ) {out out′ : List ℕ} {at r : ℕ} → st .len ≡ 0
-    → Wrote out at (endsOf (runningOf (st .job) table old new)) out′ r → Wrote out at (endOf running (stateOf st line table old new)) out′ r
-unfolding lastText
-finish-none st line table old new e w = rw e w
-
-last-some : (l : List ℕ) (h : Running) → 0 < length l → lastText running (so l) h ≡ tellsOf h (so l) ++ endsOf (afterOf h (so l))
-unfolding lastText
-last-some [] h k = absurd (omega arith)
-last-some (b ∷ l) h k = refl
-
-last-full : (n : ℕ) (line : List ℕ) (h : Running) → 0 < n → length line ≡ widest
-    → lastText running (openOf n line) h ≡ tellsOf h (openOf n line) ++ endsOf (afterOf h (openOf n line))
-unfolding lastText
-last-full n line h k f = go (leb n widest) refl
-  where
-    go : (u : Bool) → leb n widest ≡ u → lastText running (openOf n line) h ≡ tellsOf h (openOf n line) ++ endsOf (afterOf h (openOf n line))
-    go true e =
-        let m : n ≤ widest = leb-true n widest e in
-        let z : 0 < length (take n line) = rw (length-take-le n line (omega arith)) k in
-        rw e (last-some (take n line) h z)
-    go false e = rw e refl
-
-pub finish-some : (st : Reader) (line : List ℕ) (table table′ : List Float) (old new old′ new′ : List ℕ) {st′ : Reader} {out out₁ out₂ : List ℕ}
-    {at a r : ℕ} → (st .len ≡ 0 → ⊥) → Good st line table old new
-    → Went (closed running (stateOf st line table old new)) (closeText running (stateOf st line table old new)) st′ line table′ old′ new′ out at out₁ a
-    → Wrote out₁ a (endsOf (runningOf (st′ .job) table′ old′ new′)) out₂ r
-    → Wrote out at (endOf running (stateOf st line table old new)) out₂ r
-finish-some st line table table′ old new old′ new′ {st′} {out} {out₁} {out₂} {at} {a} {r} ne g w v =
-    let h : Running = runningOf (st .job) table old new in
-    let e : runningOf (st′ .job) table′ old′ new′ ≡ afterOf h (openOf (st .len) line) = ap (λ (s : State Running). s .held) (w .state) in
-    let u : Wrote out₁ a (endsOf (afterOf h (openOf (st .len) line))) out₂ r = subst (λ (x : Running). Wrote out₁ a (endsOf x) out₂ r) e v in
-    rw (last-full (st .len) line h (omega arith) (g .wide)) (then (w .wrote) u)
 
 -- ---- a chunk
 pub feed-none : (st : Reader) (line : List ℕ) (table : List Float) (old new out : List ℕ) → Good st line table old new

@@ -4,13 +4,11 @@ ghost use Prim.Native.Nat.{_+_, _≤_, _<_};
 ghost use lib.ListN.{length, take};
 ghost use Rattle.lines_answer.specs.Answer.{places};
 ghost use Rattle.lines_reply.specs.Contract.{longest};
-ghost use Rattle.text.specs.Wrote.{Wrote};
-ghost use Rattle.lines_machine.specs.Bytes.{nextOf, tellOf, endOf, ranOf, toldOf};
+ghost use Rattle.lines_machine.specs.Bytes.{nextOf, tellOf, ranOf, toldOf};
 ghost use Rattle.lines_programs.specs.Programs.{running};
-ghost use Rattle.lines_programs.specs.Contract.{lastRoom, stateOf, Good, Went};
+ghost use Rattle.lines_programs.specs.Contract.{stateOf, Good, Went};
 use lines_ends::StepResult;
 use lines_ends::ended;
-use lines_ends::ends;
 use lines_programs::Reader;
 
 // A byte of the input. What it prints is written from place `at` of `out` on.
@@ -46,45 +44,6 @@ pub fn step(
         },
         at: at,
     }
-}
-
-// The end of the input: a last line may lack its LF.
-pub fn finish(
-    st: Reader,
-    line: &[u8],
-    table: &mut [f64],
-    converted: &mut [f64],
-    old: &mut [u64],
-    new: &mut [u64],
-    out: &mut [u8],
-    at: usize,
-) -> usize
-    requires good { ⌜ Good st (now line) (now table) (now old) (now new) ⌝ }
-    requires converted { ⌜ length (now converted) ≡ places ⌝ }
-    requires room { ⌜ at + longest + lastRoom ≤ length (now out) ⌝ }
-    ensures text { λ r. ⌜ Wrote (now (out .entry)) at
-        (endOf running (stateOf st (now (line .entry)) (now (table .entry)) (now (old .entry)) (now (new .entry)))) (now (out .exit)) r ⌝ }
-    ensures short { λ r. ⌜ r ≤ at + longest + lastRoom ⌝ }
-{
-    let len = st.len;
-    if len == 0 {
-        let job = st.job;
-        return ends(job, &table[..], &old[..], &new[..], out, at);
-    }
-    let s = ended(
-        st,
-        line,
-        &mut *table,
-        converted,
-        &mut *old,
-        &mut *new,
-        &mut *out,
-        at,
-    );
-    let after = s.st;
-    let job = after.job;
-    let from = s.at;
-    ends(job, &table[..], &old[..], &new[..], out, from)
 }
 
 pub struct FeedResult {

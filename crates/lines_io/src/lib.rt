@@ -128,7 +128,7 @@ pub fn close(
     requires converted { ⌜ length (now converted) ≡ places ⌝ }
     requires room { ⌜ longest + lastRoom ≤ length (now out) ⌝ }
 {
-    let at = lines_feed::finish(st, line, table, converted, old, new, &mut *out, 0);
+    let at = lines_finish::finish(st, line, table, converted, old, new, &mut *out, 0);
     written(&out[0..at]);
 }
 

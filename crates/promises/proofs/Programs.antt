@@ -24,7 +24,7 @@ use Rattle.lines_programs.proofs.claims_program.Reads as claims_program
 use Rattle.lines_programs.proofs.compare_program.Reads as compare_program
 use Rattle.lines_programs.proofs.picture_program.Reads as picture_program
 use Rattle.lines_feed.proofs.step.Reads as step
-use Rattle.lines_feed.proofs.finish.Reads as finish
+use Rattle.lines_finish.proofs.finish.Reads as finish
 use Rattle.lines_feed.proofs.feed.Reads as feed
 use Rattle.promises.specs.Calls.{Keeps, OneReply}
 

@@ -7,8 +7,8 @@ use Rattle.lines_answer.specs.Answer.{places}
 use Rattle.lines_programs.specs.declared.Job.the-variants.{Reading, Comparing, Drawing}
 use Rattle.lines_programs.specs.Programs.{endsOf}
 use Rattle.lines_programs.specs.Contract.{countOf}
-use Rattle.lines_ends.proofs.ends.Statement.{statement}
-use Rattle.lines_ends.proofs.ends.Tie as tie
+use Rattle.lines_finish.proofs.ends.Statement.{statement}
+use Rattle.lines_finish.proofs.ends.Tie as tie
 
 enum-told : tie.Need-enum-told
 enum-told c = search needs

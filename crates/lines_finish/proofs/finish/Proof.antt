@@ -1,9 +1,9 @@
 -- A line that was begun ends first, then the program does.
 use native.Mathlib.Omega.{arith}
-use Rattle.lines_feed.proofs.Steps.{finish-none, finish-some}
+use Rattle.lines_finish.proofs.Steps.{finish-none, finish-some}
 use borrow.Author.Needs.{needs}
-use Rattle.lines_feed.proofs.finish.Statement.{statement}
-use Rattle.lines_feed.proofs.finish.Tie as tie
+use Rattle.lines_finish.proofs.finish.Statement.{statement}
+use Rattle.lines_finish.proofs.finish.Tie as tie
 
 ends-requires : tie.Need-ends-requires
 ends-requires c κs = search needs
