@@ -44,7 +44,7 @@ pub fn convert_spline(from: Basis, to: Basis, knots: &[f64], out: &mut [f64]) ->
         Verdict::Passed => {
             let m = convert_matrix::conversion_matrix(from, to);
             ConversionAnswer::Written(output::put_windows(
-                &m,
+                m,
                 basis::step(from),
                 knots,
                 basis::step(to),

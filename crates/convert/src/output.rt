@@ -36,33 +36,34 @@ pub fn put_last(out: &mut [f64], at: usize, w: RowSums, stride: usize)
 }
 
 // The last of a window's four doubles: the last row of the matrix alone is summed.
-fn last_sum(m: &[[f64; 4]; 4], cv: &[f64]) -> f64
+fn last_sum(m: [[f64; 4]; 4], cv: &[f64]) -> f64
     requires { ⌜ 4 ≤ length (now cv) ⌝ }
-    ensures { λ r. ⌜ r ≡ rowSum (now (cv .entry)) (getD (now (m .entry)) 3 []) ⌝ }
+    ensures { λ r. ⌜ r ≡ rowSum (now (cv .entry)) (getD m 3 []) ⌝ }
 {
     cv[0] * m[3][0] + cv[1] * m[3][1] + cv[2] * m[3][2] + cv[3] * m[3][3]
 }
 
 // The last `stride` of a window's four. Where one is written the other three are not worked out: to Bspline and CatmullRom this halves the
 // time.
-fn put_window(out: &mut [f64], at: usize, m: &[[f64; 4]; 4], cv: &[f64], stride: usize)
+fn put_window(out: &mut [f64], at: usize, m: [[f64; 4]; 4], cv: &[f64], stride: usize)
     requires some { ⌜ 0 < stride ⌝ }
     requires few { ⌜ stride ≤ 4 ⌝ }
     requires enough { ⌜ 4 ≤ length (now cv) ⌝ }
     requires room { ⌜ at + stride ≤ length (now out) ⌝ }
     ensures { λ _. ⌜ now (out .exit)
-        ≡ placed at (drop (4 - stride) (listOf (rowSumsOf (now (m .entry)) (now (cv .entry))))) (now (out .entry)) ⌝ }
+        ≡ placed at (drop (4 - stride) (listOf (rowSumsOf m (now (cv .entry))))) (now (out .entry)) ⌝ }
 {
     if stride == 1 {
         out[at] = last_sum(m, cv);
         return;
     }
-    put_last(out, at, spline::segment::sums(*m, cv), stride);
+    put_last(out, at, spline::segment::sums(m, cv), stride);
 }
 
-// Segment 0 fills four places, and each later one `stride` more. The matrix is lent: by value it would stand on the stack twice.
+// Segment 0 fills four places, and each later one `stride` more. The matrix is a value: so no write to the buffer can change it, and it is
+// read once.
 pub fn put_windows(
-    m: &[[f64; 4]; 4],
+    m: [[f64; 4]; 4],
     step: usize,
     knots: &[f64],
     stride: usize,
@@ -76,17 +77,17 @@ pub fn put_windows(
     requires room { ⌜ 4 + (length (now knots) - 4) / step * stride ≤ length (now out) ⌝ }
     ensures answer { λ r. ⌜ r ≡ 4 + (length (now (knots .entry)) - 4) / step * stride ⌝ }
     ensures out { λ _. ⌜ now (out .exit) ≡ bufferOf
-        (gives (windows (now (m .entry)) step stride (now (knots .entry)) ((length (now (knots .entry)) - 4) / step)))
+        (gives (windows m step stride (now (knots .entry)) ((length (now (knots .entry)) - 4) / step)))
         (now (out .entry)) ⌝ }
 {
     let last = (knots.len() - 4) / step;
-    put_last(&mut *out, 0, spline::segment::sums(*m, knots), 4);
+    put_last(&mut *out, 0, spline::segment::sums(m, knots), 4);
     let mut s = 0;
     while s < last {
         let at = 4 + s * stride;
         s += 1;
         let start = s * step;
-        put_window(&mut *out, at, &*m, &knots[start..], stride);
+        put_window(&mut *out, at, m, &knots[start..], stride);
     }
     4 + last * stride
 }

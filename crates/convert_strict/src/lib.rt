@@ -34,7 +34,7 @@ pub fn convert_spline_strict(
             if 0 < s {
                 return ConversionAnswer::Refused(Refusal::LostSeam(s as u16));
             }
-            ConversionAnswer::Written(convert::output::put_windows(&m, step, knots, stride, out))
+            ConversionAnswer::Written(convert::output::put_windows(m, step, knots, stride, out))
         }
     }
 }

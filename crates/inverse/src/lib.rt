@@ -76,7 +76,7 @@ fn is_at_high(e: Ends, y: f64) -> bool
 }
 
 // By the curve's own ends, of k segments: two evaluations.
-fn curve_ends(b: Basis, knots: &[f64], k: usize) -> Ends
+pub fn curve_ends(b: Basis, knots: &[f64], k: usize) -> Ends
     requires segments { ⌜ k ≡ segmentsOf b (length (now knots)) ⌝ }
     requires enough { ⌜ 4 ≤ length (now knots) ⌝ }
     requires most { ⌜ length (now knots) ≤ 4096 ⌝ }
@@ -115,7 +115,7 @@ fn parameter(k: usize, s: usize, x: f64) -> f64
 }
 
 // The search's answer, with the parameter of its place on the whole curve; n evaluations have been made before.
-fn searched(
+pub fn searched(
     how: Method,
     b: Basis,
     y: f64,

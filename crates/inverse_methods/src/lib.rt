@@ -2,12 +2,15 @@
 ghost use mathlib.Core.Path.{_≡_};
 ghost use Prim.Native.Nat.{_≤_, _<_, _+_};
 ghost use mathlib.Core.Bool.{true};
+ghost use lib.ListN.{length};
+ghost use Rattle.basis.specs.Basis.{matrixOf};
+ghost use Rattle.spline.specs.Segment.{rowSumsOf};
 ghost use Rattle.inverse_segment.specs.Round.{toward, weighed};
 ghost use Rattle.inverse_segment.specs.Contract.{repeatsAfter, countAfter};
 ghost use Rattle.inverse_segment.specs.Answer.{inverseSegmentBy, inverseSegmentOf, defaultLimit, defaultPrecision};
 ghost use Rattle.inverse_methods.specs.Method.{ruleOf, roundsOf, steadySegmentOf};
 ghost use Rattle.inverse_methods.specs.Steady.{inner};
-ghost use Rattle.inverse_methods.specs.Contract.{NextPlaceIs, RoundIs, RoundsIs, EnteredIs, EnteredBy};
+ghost use Rattle.inverse_methods.specs.Contract.{NextPlaceIs, RoundIs, RoundsIs, EnteredIs, EnteredBy, EnterIs, endsOf};
 use basis::Basis;
 use error::Verdict;
 use inverse_segment::Bracket;
@@ -18,6 +21,7 @@ use inverse_segment::Inversion;
 use inverse_segment::RoundResult;
 use inverse_segment::State;
 use inverse_segment::Stop;
+use inverse_segment::Trial;
 use inverse_segment::Weighing;
 use spline::RowSums;
 
@@ -39,6 +43,13 @@ pub enum RoundsBy {
 pub struct NextPlace {
     pub bracket: Bracket,
     pub place: f64,
+}
+
+// A segment's row sums, and the values of both its ends.
+struct SegmentEnds {
+    pub sums: RowSums,
+    pub v0: f64,
+    pub v1: f64,
 }
 
 pub fn weighed(y: f64, st: State) -> Bracket
@@ -188,7 +199,7 @@ fn method_rounds(how: Method) -> RoundsBy
 }
 
 // By the method that is asked for. One call of `inverse_segment::entered` serves both its weightings, so that it is inlined here.
-pub fn entered_by(
+fn entered_by(
     how: Method,
     w: RowSums,
     y: f64,
@@ -208,6 +219,50 @@ pub fn entered_by(
     inverse_segment::entered(m, w, y, precision, limit, v0, v1, n)
 }
 
+fn ends_of(w: RowSums) -> SegmentEnds
+    ensures { λ r. ⌜ r ≡ endsOf w ⌝ }
+{
+    let v0 = spline::segment::horner(w, 0.0);
+    let v1 = spline::segment::horner(w, 1.0);
+    SegmentEnds {
+        sums: w,
+        v0: v0,
+        v1: v1,
+    }
+}
+
+// A match on the basis, so that each matrix is known where its row sums and end values are worked out.
+fn ends_in(b: Basis, cv: &[f64]) -> SegmentEnds
+    requires { ⌜ 4 ≤ length (now cv) ⌝ }
+    ensures { λ r. ⌜ r ≡ endsOf (rowSumsOf (matrixOf b) (now (cv .entry))) ⌝ }
+{
+    match b {
+        Basis::Bspline => ends_of(spline::segment::sums(basis::basis_macros::bspline(), cv)),
+        Basis::Bezier => ends_of(spline::segment::sums(basis::basis_macros::bezier(), cv)),
+        Basis::CatmullRom => ends_of(spline::segment::sums(basis::basis_macros::catmull_rom(), cv)),
+        Basis::Hermite => ends_of(spline::segment::sums(basis::basis_macros::hermite(), cv)),
+        Basis::Linear => ends_of(spline::segment::sums(basis::basis_macros::linear(), cv)),
+        Basis::Power => ends_of(spline::segment::sums(basis::basis_macros::power(), cv)),
+    }
+}
+
+// The segment whose four knots stand at the front of cv is tried: both its ends are evaluated, once, and it is entered where they enclose y.
+// n evaluations have been made before.
+pub fn enter(how: Method, b: Basis, cv: &[f64], y: f64, precision: f64, limit: u16, n: u32) -> Trial
+    requires enough { ⌜ 4 ≤ length (now cv) ⌝ }
+    requires count { ⌜ n ≤ 900000 ⌝ }
+    ensures { λ r. ⌜ EnterIs how b (now (cv .entry)) y precision limit n r ⌝ }
+{
+    let ends = ends_in(b, cv);
+    let w = ends.sums;
+    let v0 = ends.v0;
+    let v1 = ends.v1;
+    if inverse_segment::encloses(v0, v1, y) {
+        return Trial::Inside(entered_by(how, w, y, precision, limit, v0, v1, n + 2));
+    }
+    Trial::Outside(v0)
+}
+
 // The place of y on the segment whose four knots are cv, by the method that is asked for.
 pub fn spline_inverse_segment_by(
     b: Basis,
@@ -223,13 +278,11 @@ pub fn spline_inverse_segment_by(
     match v {
         Verdict::Failed(r) => Inversion::Refused(r),
         Verdict::Passed => {
-            let mut ends = [0.0, 0.0, 0.0, 0.0, 0.0, 0.0];
-            if inverse_segment::probe(b, cv, 0, y, &mut ends) {
-                let w = inverse_segment::kept_sums(&ends);
-                let e = entered_by(how, w, y, precision, limit, ends[4], ends[5], 2);
-                return Inversion::At(inverse_segment::place_of(e.local, 0, e));
-            }
-            Inversion::OffCurve(2)
+            let t = enter(how, b, cv, y, precision, limit, 0);
+            let Trial::Inside(e) = t else {
+                return Inversion::OffCurve(2);
+            };
+            Inversion::At(inverse_segment::place_of(e.local, 0, e))
         }
     }
 }

@@ -1,18 +1,20 @@
 -- The definitions' results as the code has them: a count stands for each list of evaluations. Definitions only.
 use mathlib.Core.Path.{_≡_}
-use mathlib.Core.List.{List}
+use mathlib.Core.List.{List, [], _∷_}
 use mathlib.Core.Bool.{Bool, cond}
-use Prim.Native.Nat.{ℕ, _^_, _<_}
-use lib.Dec.{ltb}
+use Prim.Native.Nat.{ℕ, _<_}
+use lib.Dec.{eqb}
 use lib.ListN.{length}
 use lib.Ieee.{Float}
 use Rattle.basis.specs.declared.Basis.{Basis}
-use Rattle.doubles.specs.Numbers.{nought, one}
 use Rattle.spline.specs.Segment.{segmentOf}
+use Rattle.inverse_segment.specs.declared.Ground.{Ground}
+use Rattle.inverse_segment.specs.declared.Ground.the-variants.{End, Edge, Value, Width, Spent}
+use Rattle.inverse_segment.specs.declared.Stop.{Stop}
+use Rattle.inverse_segment.specs.declared.Trial.{Trial as Tried}
 use Rattle.inverse_segment.specs.Evaluations.{Evaluations}
-use Rattle.inverse_segment.specs.Round.{Rule}
-use Rattle.inverse_segment.specs.Segment.{Outcome, off, placed, entered}
-use Rattle.inverse_segment.specs.Contract.{stopOf, keptOf, rowSumsAt}
+use Rattle.inverse_segment.specs.Segment.{Outcome, off, placed}
+use Rattle.inverse_segment.specs.Contract.{stopOf, trialOf}
 use Rattle.inverse_methods.specs.declared.Method.{Method}
 use Rattle.inverse_methods.specs.Method.{ruleOf}
 use Rattle.inverse_search.specs.declared.SearchResult.{SearchResult}
@@ -33,32 +35,43 @@ countIn (Entered s e) = e .count
 abbrev pub Is : (Evaluations → Outcome) → ℕ → SearchResult → Type 0
 Is o n r = (ev : Evaluations) → length ev ≡ n → r ≡ resultOf (o ev)
 
--- segment s of k is entered after both its ends were evaluated; where s is k, none is
-abbrev pub went : (ℕ → Float → Float) → Float → ℕ → ℕ → Rule → Float → ℕ → Evaluations → Outcome
-went g y k s R ε limit ev = cond (ltb s k) (placed (entered R (g s) s y ε limit (g s nought) (g s one) ev)) (off ev)
+-- ---- a stop as it is told: its ground by a number above 0, and its doubles
+abbrev pub numberOf : Ground → ℕ
+numberOf End = 1
+numberOf Edge = 2
+numberOf Value = 3
+numberOf Width = 4
+numberOf Spent = 5
 
-module _ (b : Basis) (ks : List Float) (y : Float) where
-  -- a search that comes to segment r of k, whatever the n evaluations before it were:
-  -- m have been made by then, and e is what it keeps of segment r
-  pub record Seeks (o : Trial → Evaluations → Outcome) (k n r m : ℕ) (e : List Float) : Type 0 where
-    pub comes-to : (ev : Evaluations) → length ev ≡ n
-        → (t : Evaluations) × (length t ≡ m)
-        × ((R : Rule) (ε : Float) (limit : ℕ) → o (trial R (segmentOf b ks) y ε limit) ev ≡ went (segmentOf b ks) y k r R ε limit t)
-    pub keeps : r < k → e ≡ keptOf (rowSumsAt b ks r)
+abbrev pub groundOf : ℕ → Ground
+groundOf n = cond (eqb n 1) End (cond (eqb n 2) Edge (cond (eqb n 3) Value (cond (eqb n 4) Width Spent)))
 
-  abbrev pub TriesIs : ℕ → ℕ → ℕ → ℕ → ℕ → ℕ → List Float → Type 0
-  TriesIs n s = Seeks (λ E. tries E n s)
+abbrev pub doublesOf : Stop → List Float
+doublesOf e = e .local ∷ e .lower ∷ e .upper ∷ []
 
-  abbrev pub LastIs : ℕ → ℕ → ℕ → ℕ → ℕ → List Float → Type 0
-  LastIs k l = Seeks (λ E. last E k l) k
-
-  -- by whatever number of halvings is enough
-  abbrev pub HalveIs : Bool → ℕ → ℕ → ℕ → ℕ → ℕ → ℕ → List Float → Type 0
-  HalveIs rising k l c n r m e = (h : ℕ) → c < 2 ^ h → Seeks (λ E. halve E y rising k h l c) k n r m e
-
-  abbrev pub SoughtIs : Bool → ℕ → ℕ → ℕ → ℕ → List Float → Type 0
-  SoughtIs rising k = Seeks (λ E. find E y rising k) k
-
+-- ---- the searches of a curve's knots, by a method
 module _ (how : Method) (b : Basis) (ks : List Float) (y ε : Float) (limit : ℕ) where
+  abbrev pub trialBy : Trial
+  trialBy = trial (ruleOf how) (segmentOf b ks) y ε limit
+
+  abbrev pub TrialIs : ℕ → ℕ → Tried → Type 0
+  TrialIs s n r = (ev : Evaluations) → length ev ≡ n → r ≡ trialOf (trialBy s ev)
+
+  abbrev pub TriesIs : ℕ → ℕ → ℕ → SearchResult → Type 0
+  TriesIs n s = Is (tries trialBy n s)
+
+  abbrev pub LastIs : ℕ → ℕ → ℕ → SearchResult → Type 0
+  LastIs k l = Is (last trialBy k l)
+
+  -- the halving of c segments from l on came to r: it entered that segment, and g, m and p tell the stop; or, where the ground's number g is
+  -- still 0, the last tries are at r, after m evaluations. Whatever the number k of segments, and the n evaluations before it, were
+  pub record Halved (rising : Bool) (h l c k : ℕ) (ev : Evaluations) (r g m : ℕ) (p : List Float) : Type 0 where
+    pub ends : g ≡ 0 → (t : Evaluations) × (length t ≡ m) × (halve trialBy y rising k h l c ev ≡ last trialBy k r t)
+    pub enters : 0 < g → (e : Stop) × (g ≡ numberOf (e .ground)) × (m ≡ e .count) × (p ≡ doublesOf e)
+        × (Entered r e ≡ resultOf (halve trialBy y rising k h l c ev))
+
+  abbrev pub HalveIs : Bool → ℕ → ℕ → ℕ → ℕ → ℕ → ℕ → ℕ → List Float → Type 0
+  HalveIs rising h l c n r g m p = (k : ℕ) (ev : Evaluations) → length ev ≡ n → Halved rising h l c k ev r g m p
+
   abbrev pub FindIs : Bool → ℕ → ℕ → SearchResult → Type 0
-  FindIs rising k = Is (find (trial (ruleOf how) (segmentOf b ks) y ε limit) y rising k)
+  FindIs rising k = Is (find trialBy y rising k)

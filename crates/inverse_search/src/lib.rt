@@ -5,10 +5,22 @@ ghost use lib.ListN.{length, drop};
 ghost use Rattle.basis.specs.Basis.{stepOf, matrixOf};
 ghost use Rattle.spline.specs.Segment.{rowSumsOf};
 ghost use Rattle.inverse_search.specs.Bound.{bitsOf, boundOf};
-ghost use Rattle.inverse_search.specs.Contract.{countIn, TriesIs, LastIs, HalveIs, SoughtIs, FindIs};
+ghost use Rattle.inverse_search.specs.Contract.{
+  countIn,
+  numberOf,
+  groundOf,
+  doublesOf,
+  TrialIs,
+  TriesIs,
+  LastIs,
+  HalveIs,
+  FindIs,
+};
 use basis::Basis;
 use inverse_methods::Method;
+use inverse_segment::Ground;
 use inverse_segment::Stop;
+use inverse_segment::Trial;
 use spline::RowSums;
 
 // What a search comes to: none of the segments after so many evaluations, or the segment that was entered and where it stopped there.
@@ -59,37 +71,56 @@ pub fn row_sums_at(b: Basis, knots: &[f64], s: usize) -> RowSums
     spline::segment::row_sums(b, &knots[start..])
 }
 
-// The segments from `first` up to below `end`, in order: the first whose ends enclose the target; k, where none has such ends.
+// Segment s is tried, after n evaluations: the part of the knots that starts at its place is lent, and nothing copied.
+fn try_at(
+    how: Method,
+    b: Basis,
+    knots: &[f64],
+    s: usize,
+    y: f64,
+    precision: f64,
+    limit: u16,
+    n: u32,
+) -> Trial
+    requires inside { ⌜ s * stepOf b + 4 ≤ length (now knots) ⌝ }
+    requires most { ⌜ length (now knots) ≤ 4096 ⌝ }
+    requires count { ⌜ n ≤ 900000 ⌝ }
+    ensures { λ r. ⌜ TrialIs how b (now (knots .entry)) y precision limit s n r ⌝ }
+{
+    let start = s * basis::step(b);
+    inverse_methods::enter(how, b, &knots[start..], y, precision, limit, n)
+}
+
+// The segments from `first` up to below `end`, in order: the first whose ends enclose the target is entered.
 pub fn tries(
+    how: Method,
     b: Basis,
     knots: &[f64],
     y: f64,
-    k: usize,
+    precision: f64,
+    limit: u16,
     first: usize,
     end: usize,
-    made: &mut u32,
-    ends: &mut [f64; 6],
-) -> usize
+    count: u32,
+) -> SearchResult
     requires inside { ⌜ end * stepOf b + 4 ≤ length (now knots) + stepOf b ⌝ }
     requires most { ⌜ length (now knots) ≤ 4096 ⌝ }
-    requires last { ⌜ end ≤ k ⌝ }
-    requires segments { ⌜ k ≤ 4096 ⌝ }
+    requires last { ⌜ end ≤ 4096 ⌝ }
     requires first { ⌜ first ≤ end ⌝ }
-    requires count { ⌜ now made ≤ 100000 ⌝ }
-    ensures answer { λ r. ⌜ TriesIs b (now (knots .entry)) y (end - first) first k (now (made .entry)) r (now (made .exit))
-        (now (ends .exit)) ⌝ }
-    ensures count_after { λ _. ⌜ now (made .exit) ≤ now (made .entry) + 2 * (end - first) ⌝ }
+    requires count { ⌜ count ≤ 100000 ⌝ }
+    ensures { λ r. ⌜ TriesIs how b (now (knots .entry)) y precision limit (end - first) first count r ⌝ }
 {
+    let mut made = count;
     let mut s = first;
     while s < end {
-        let holds = inverse_segment::probe(b, knots, s, y, &mut *ends);
-        *made = *made + 2;
-        if holds {
-            return s;
+        let t = try_at(how, b, knots, s, y, precision, limit, made);
+        if let Trial::Inside(e) = t {
+            return SearchResult::Entered(s, e);
         }
+        made += 2;
         s += 1;
     }
-    k
+    SearchResult::OffCurve(made)
 }
 
 fn one_less(n: usize) -> usize
@@ -100,95 +131,150 @@ fn one_less(n: usize) -> usize
 
 // The halving ended at `left` of k segments without one that encloses the target: those beside it are tried once more.
 pub fn last_tries(
+    how: Method,
     b: Basis,
     knots: &[f64],
     y: f64,
+    precision: f64,
+    limit: u16,
     k: usize,
     left: usize,
-    made: &mut u32,
-    ends: &mut [f64; 6],
-) -> usize
+    count: u32,
+) -> SearchResult
     requires inside { ⌜ k * stepOf b + 4 ≤ length (now knots) + stepOf b ⌝ }
     requires most { ⌜ length (now knots) ≤ 4096 ⌝ }
     requires some { ⌜ 0 < k ⌝ }
     requires segments { ⌜ k ≤ 4096 ⌝ }
     requires left { ⌜ left ≤ k ⌝ }
-    requires count { ⌜ now made ≤ 90000 ⌝ }
-    ensures answer { λ r. ⌜ LastIs b (now (knots .entry)) y k left (now (made .entry)) r (now (made .exit)) (now (ends .exit)) ⌝ }
-    ensures count_after { λ _. ⌜ now (made .exit) ≤ now (made .entry) + 4 ⌝ }
+    requires count { ⌜ count ≤ 90000 ⌝ }
+    ensures { λ r. ⌜ LastIs how b (now (knots .entry)) y precision limit k left count r ⌝ }
 {
     let first = one_less(left);
     let end = doubles::whole::lesser(first + 2, k);
-    tries(b, knots, y, k, first, end, made, ends)
+    tries(how, b, knots, y, precision, limit, first, end, count)
 }
 
-// The `wide` segments from `left` on are open: the middle one is tested, then the part before it or the part after it is searched.
-// The knots stand behind a second reference and the answer is a number, so that each call hands on machine words alone and the compiler
-// makes a loop of the recursion.
+// A ground by a number above 0, and back.
+fn number_of(g: Ground) -> u32
+    ensures { λ r. ⌜ r ≡ numberOf g ⌝ }
+{
+    match g {
+        Ground::End => 1,
+        Ground::Edge => 2,
+        Ground::Value => 3,
+        Ground::Width => 4,
+        Ground::Spent => 5,
+    }
+}
+
+fn ground_of(n: u32) -> Ground
+    ensures { λ r. ⌜ r ≡ groundOf n ⌝ }
+{
+    match n {
+        1 => Ground::End,
+        2 => Ground::Edge,
+        3 => Ground::Value,
+        4 => Ground::Width,
+        _ => Ground::Spent,
+    }
+}
+
+// The stop is told in what is lent for it, double by double.
+fn tell(e: Stop, ground: &mut u32, made: &mut u32, place: &mut [f64; 3])
+    ensures ground { λ _. ⌜ now (ground .exit) ≡ numberOf (e .ground) ⌝ }
+    ensures made { λ _. ⌜ now (made .exit) ≡ e .count ⌝ }
+    ensures place { λ _. ⌜ now (place .exit) ≡ doublesOf e ⌝ }
+{
+    let g = e.ground;
+    *ground = number_of(g);
+    *made = e.count;
+    *place = [e.local, e.lower, e.upper];
+}
+
+// The `wide` segments from `left` on are open: the middle one is tried, then the part before it or the part after it is searched.
+// The answer is the segment that was entered, and its stop is told; or, where the ground's number is still 0, where the last open one was.
+// As many halvings as the count has bits are enough. All that is handed on is a machine word, the knots behind a second reference and the
+// stop in what is lent: so the compiler makes a loop of the recursion.
 pub fn halve(
+    how: Method,
     b: Basis,
     knots: &&[f64],
     y: f64,
+    precision: f64,
+    limit: u16,
     rising: bool,
-    k: usize,
     left: usize,
     wide: usize,
+    halvings: u32,
+    ground: &mut u32,
     made: &mut u32,
-    ends: &mut [f64; 6],
+    place: &mut [f64; 3],
 ) -> usize
-    requires inside { ⌜ k * stepOf b + 4 ≤ length (now (now knots)) + stepOf b ⌝ }
+    requires inside { ⌜ (left + wide) * stepOf b + 4 ≤ length (now (now knots)) + stepOf b ⌝ }
     requires most { ⌜ length (now (now knots)) ≤ 4096 ⌝ }
-    requires some { ⌜ 0 < k ⌝ }
-    requires segments { ⌜ k ≤ 4096 ⌝ }
-    requires open { ⌜ left + wide ≤ k ⌝ }
-    requires count { ⌜ now made + 2 * wide ≤ 90000 ⌝ }
-    ensures answer { λ r. ⌜ HalveIs b (now (now (knots .entry))) y rising k left wide (now (made .entry)) r (now (made .exit))
-        (now (ends .exit)) ⌝ }
-    ensures count_after { λ _. ⌜ now (made .exit) ≤ now (made .entry) + 2 * wide + 4 ⌝ }
+    requires segments { ⌜ left + wide ≤ 4096 ⌝ }
+    requires none { ⌜ now ground ≡ 0 ⌝ }
+    requires count { ⌜ now made + 2 * halvings ≤ 90000 ⌝ }
+    ensures answer { λ r. ⌜ HalveIs how b (now (now (knots .entry))) y precision limit rising halvings left wide (now (made .entry)) r
+        (now (ground .exit)) (now (made .exit)) (now (place .exit)) ⌝ }
+    ensures left { λ r. ⌜ r ≤ left + wide ⌝ }
+    ensures count_after { λ _. ⌜ (now (ground .exit) ≡ 0 → now (made .exit) ≤ now (made .entry) + 2 * halvings) ⌝ }
 {
     if wide == 0 {
-        return last_tries(b, *knots, y, k, left, made, ends);
+        return left;
+    }
+    if halvings == 0 {
+        return left;
     }
     let half = (wide - 1) / 2;
     let mid = left + half;
-    let holds = inverse_segment::probe(b, *knots, mid, y, &mut *ends);
-    *made = *made + 2;
-    if holds {
-        return mid;
+    let t = try_at(how, b, *knots, mid, y, precision, limit, *made);
+    match t {
+        Trial::Inside(e) => {
+            tell(e, ground, made, place);
+            mid
+        }
+        Trial::Outside(v) => {
+            *made = *made + 2;
+            if inverse_order::lies_before(rising, y, v) {
+                halve(
+                    how,
+                    b,
+                    knots,
+                    y,
+                    precision,
+                    limit,
+                    rising,
+                    left,
+                    half,
+                    halvings - 1,
+                    ground,
+                    made,
+                    place,
+                )
+            } else {
+                halve(
+                    how,
+                    b,
+                    knots,
+                    y,
+                    precision,
+                    limit,
+                    rising,
+                    mid + 1,
+                    wide - 1 - half,
+                    halvings - 1,
+                    ground,
+                    made,
+                    place,
+                )
+            }
+        }
     }
-    if inverse_order::lies_before(rising, y, ends[4]) {
-        halve(b, knots, y, rising, k, left, half, made, ends)
-    } else {
-        halve(b, knots, y, rising, k, mid + 1, wide - 1 - half, made, ends)
-    }
-}
-
-// The segment to enter, or k: up to 12 segments in order, above by halving.
-fn sought(
-    b: Basis,
-    knots: &[f64],
-    y: f64,
-    rising: bool,
-    k: usize,
-    made: &mut u32,
-    ends: &mut [f64; 6],
-) -> usize
-    requires inside { ⌜ k * stepOf b + 4 ≤ length (now knots) + stepOf b ⌝ }
-    requires most { ⌜ length (now knots) ≤ 4096 ⌝ }
-    requires some { ⌜ 0 < k ⌝ }
-    requires segments { ⌜ k ≤ 4096 ⌝ }
-    requires count { ⌜ now made ≤ 1000 ⌝ }
-    ensures answer { λ r. ⌜ SoughtIs b (now (knots .entry)) y rising k (now (made .entry)) r (now (made .exit)) (now (ends .exit)) ⌝ }
-    ensures count_after { λ _. ⌜ now (made .exit) ≤ 10000 ⌝ }
-{
-    if k <= IN_ORDER {
-        return tries(b, knots, y, k, 0, k, made, ends);
-    }
-    let lent = knots;
-    halve(b, &lent, y, rising, k, 0, k, made, ends)
 }
 
 // The search, and where the inversion stopped in the segment that it came to; `count` evaluations have been made before.
+// Up to 12 segments are tried in order; above, by halving, and then those beside where it ended.
 pub fn find(
     how: Method,
     b: Basis,
@@ -207,13 +293,39 @@ pub fn find(
     requires count { ⌜ count ≤ 1000 ⌝ }
     ensures { λ r. ⌜ FindIs how b (now (knots .entry)) y precision limit rising k count r ⌝ }
 {
-    let mut made = count;
-    let mut ends = [0.0, 0.0, 0.0, 0.0, 0.0, 0.0];
-    let s = sought(b, knots, y, rising, k, &mut made, &mut ends);
-    if s < k {
-        let w = inverse_segment::kept_sums(&ends);
-        let e = inverse_methods::entered_by(how, w, y, precision, limit, ends[4], ends[5], made);
-        return SearchResult::Entered(s, e);
+    if k <= IN_ORDER {
+        return tries(how, b, knots, y, precision, limit, 0, k, count);
     }
-    SearchResult::OffCurve(made)
+    let mut ground = 0;
+    let mut made = count;
+    let mut place = [0.0, 0.0, 0.0];
+    let lent = knots;
+    let s = halve(
+        how,
+        b,
+        &lent,
+        y,
+        precision,
+        limit,
+        rising,
+        0,
+        k,
+        bits(k),
+        &mut ground,
+        &mut made,
+        &mut place,
+    );
+    if ground == 0 {
+        return last_tries(how, b, knots, y, precision, limit, k, s, made);
+    }
+    SearchResult::Entered(
+        s,
+        Stop {
+            ground: ground_of(ground),
+            local: place[0],
+            lower: place[1],
+            upper: place[2],
+            count: made,
+        },
+    )
 }

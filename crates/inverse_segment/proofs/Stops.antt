@@ -1,21 +1,20 @@
 -- An inversion stops in the segment that it entered: so a stop, with that segment's number and a parameter, is the definition's place. Assumes nothing.
-use mathlib.Core.Path.{_≡_, refl, ap, _∙_}
-use mathlib.Core.List.{List}
+use mathlib.Core.Path.{_≡_, refl}
 use mathlib.Core.Bool.{Bool, true, false, cond}
-use Prim.Native.Nat.{ℕ, zero, suc}
-use lib.ListN.{getD}
-use lib.Ieee.{Float, nan, lt}
+use Prim.Native.Nat.{ℕ, zero, suc, _+_}
+use native.Mathlib.Omega.{arith}
+use lib.ListN.{length}
+use lib.Ieee.{Float, lt}
 use Rattle.doubles.specs.Numbers.{nought, one}
-use Rattle.spline.specs.declared.RowSums.{RowSums}
-use Rattle.spline.specs.Segment.{hornerOf}
 use Rattle.inverse_segment.specs.declared.Ground.the-variants.{Edge}
 use Rattle.inverse_segment.specs.declared.Stop.{Stop}
 use Rattle.inverse_segment.specs.Evaluations.{Evaluations}
 use Rattle.inverse_segment.specs.Round.{Rule, Round, found, on, roundOf}
 use Rattle.inverse_segment.specs.Rounds.{Arrival, stopped, rounds}
-use Rattle.inverse_segment.specs.Segment.{near, opening, start, entered}
+use Rattle.inverse_segment.specs.Segment.{encloses, near, opening, start, entered, Entry, outside, inside, enter}
 use Rattle.inverse_segment.specs.Answer.{placeOf}
-use Rattle.inverse_segment.specs.Contract.{stopOf, placeAt, keptOf, sumsOf}
+use Rattle.inverse_segment.specs.Contract.{stopOf, placeAt}
+use Rattle.inverse_segment.proofs.Ends.{both}
 
 module _ (R : Rule) (f : Float → Float) (s : ℕ) (y ε : Float) where
   pub rounds-segment : (rising : Bool) (limit n i : ℕ) (t : Round) → rounds R f s y ε rising limit n i t .segment ≡ s
@@ -42,10 +41,18 @@ pub place-at : (P : ℕ → Float → Float) (p : Arrival) {s : ℕ} {x : Float}
     → placeAt x s e ≡ placeOf P p
 place-at P p {s} {x} {e} q d h = rw (h, d, ← q)
 
--- what was kept of the segment with the row sums v serves as the segment does
-pub stop-kept : (R : Rule) (s : ℕ) (y ε : Float) (limit : ℕ) (ev : Evaluations) (w v : RowSums) (e : List Float) → w ≡ sumsOf e → e ≡ keptOf v
-    → stopOf (entered R (hornerOf w) s y ε limit (getD e 4 nan) (getD e 5 nan) ev)
-    ≡ stopOf (entered R (hornerOf v) s y ε limit (hornerOf v nought) (hornerOf v one) ev)
-stop-kept R s y ε limit ev w v e q k =
-    ap (λ (w : RowSums). stopOf (entered R (hornerOf w) s y ε limit (getD e 4 nan) (getD e 5 nan) ev)) q
-    ∙ ap (λ (e : List Float). stopOf (entered R (hornerOf (sumsOf e)) s y ε limit (getD e 4 nan) (getD e 5 nan) ev)) k
+-- what the trial of segment s leaves, n evaluations having been made before it: two more, or an arrival in that segment
+abbrev pub Leaves : ℕ → ℕ → Entry → Type 0
+Leaves s n (outside v ev) = length ev ≡ n + 2
+Leaves s n (inside p) = p .segment ≡ s
+
+pub enter-leaves : (R : Rule) (f : Float → Float) (s : ℕ) (y ε : Float) (limit : ℕ) (ev : Evaluations) → Leaves s (length ev) (enter R f s y ε limit ev)
+unfolding enter
+enter-leaves R f s y ε limit ev = go (encloses (f nought) (f one) y)
+  where
+    p : Arrival
+    p = entered R f s y ε limit (f nought) (f one) (both s ev)
+
+    go : (t : Bool) → Leaves s (length ev) (cond t (inside p) (outside (f nought) (both s ev)))
+    go true = entered-segment R f s y ε limit (f nought) (f one) (both s ev)
+    go false = omega arith

@@ -1,22 +1,19 @@
 -- The rows of the refusal table that the inversion of a segment uses, by the order of the code's tests. Assumes nothing.
 use mathlib.Core.Path.{_≡_, refl, sym, ap, _∙_, subst}
-use mathlib.Core.Bool.{Bool, true, false}
+use mathlib.Core.Bool.{true, false}
 use mathlib.Core.List.{List, [], _∷_}
-use Prim.Native.Nat.{ℕ, _+_, _*_, _≤_}
+use Prim.Native.Nat.{ℕ, _≤_}
 use native.Mathlib.Omega.{arith}
 use borrow.Author.Tests.{ltb-false, eqb-false, not-false}
-use lib.ListN.{length, getD}
-use lib.Ieee.{Float, nan, isNan}
+use lib.ListN.{length}
+use lib.Ieee.{Float, isNan}
 use Rattle.error.specs.declared.Refusal.{Refusal}
 use Rattle.error.specs.declared.Verdict.{Verdict}
 use Rattle.error.specs.declared.Verdict.the-variants.{Passed, Failed}
 use Rattle.error.specs.Refusals.{Uses, first}
-use Rattle.error.proofs.First.{stops-in, goes-past, stops, goes-on, clear}
+use Rattle.error.proofs.First.{stops-in, goes-past, stops, goes-on, clear, never}
 use Rattle.basis.specs.declared.Basis.{Basis}
-use Rattle.basis.specs.Basis.{stepOf}
-use Rattle.doubles.specs.Numbers.{nought, one}
-use Rattle.spline.specs.declared.RowSums.{RowSums}
-use Rattle.spline.specs.Segment.{hornerOf, segmentOf}
+use Rattle.spline.specs.Segment.{segmentOf}
 use Rattle.checks.specs.Checks.{segmentLength, allInRange, badKnot, precise, asked}
 use Rattle.checks.proofs.Verdicts.{askedRows, lastRows}
 use Rattle.inverse_segment.specs.declared.Inversion.{Inversion}
@@ -24,11 +21,12 @@ use Rattle.inverse_segment.specs.declared.Inversion.the-variants.{Refuse
 use Rattle.inverse_segment.specs.Evaluations.{Evaluations}
 use Rattle.inverse_segment.specs.declared.Place.{Place}
 use Rattle.inverse_segment.specs.declared.Stop.{Stop}
+use Rattle.inverse_segment.specs.declared.Trial.{Trial}
+use Rattle.inverse_segment.specs.declared.Trial.the-variants.{Outside, Inside}
 use Rattle.inverse_segment.specs.Round.{Rule}
-use Rattle.inverse_segment.specs.Segment.{Outcome, off, placed, encloses, entered, enter, outcomeOf}
-use Rattle.inverse_segment.specs.Contract.{stopOf, placeAt, sumsOf, rowSumsAt, TestedIs}
-use Rattle.inverse_segment.proofs.Ends.{both}
-use Rattle.inverse_segment.proofs.Stops.{entered-segment, place-at, stop-kept}
+use Rattle.inverse_segment.specs.Segment.{Outcome, off, placed, Entry, outside, inside, enter, outcomeOf}
+use Rattle.inverse_segment.specs.Contract.{stopOf, placeAt, trialOf}
+use Rattle.inverse_segment.proofs.Stops.{place-at, Leaves, enter-leaves}
 use Rattle.inverse_segment.specs.Answer.{placeOf, answered, alone, inverted, inverseSegmentUses, inverseSegmentBy}
 
 -- ---- the call's rows, in the order of its tests
@@ -85,8 +83,8 @@ refused-by (Failed q) a r p e = let s : q ≡ r = cc in ap Failed s
 
 -- ---- what the call answers, by the rule R
 module _ (R : Rule) (b : Basis) (y : Float) (cv : List Float) (limit : ℕ) (ε : Float) {v : Verdict} (e : v ≡ first (inverseSegmentUses y cv limit ε)) where
-  pub fits-for : v ≡ Passed → (0 * stepOf b + 4 ≤ length cv) × (length cv ≤ 4096)
-  fits-for p = let q = passes y cv limit ε (sym e ∙ p) .four in (omega (arith, q), omega (arith, q))
+  pub fits-for : v ≡ Passed → 4 ≤ length cv
+  fits-for p = let q = passes y cv limit ε (sym e ∙ p) .four in omega (arith, q)
 
   pub refused-is : {r : Refusal} → v ≡ Failed r → Refused r ≡ inverseSegmentBy R b y cv limit ε
   unfolding inverseSegmentBy
@@ -97,25 +95,22 @@ module _ (R : Rule) (b : Basis) (y : Float) (cv : List Float) (limit : ℕ) (ε 
   unfolding inverseSegmentBy
   told d = rw (← e, d)
 
-  -- by whether its two ends, which are kept, enclose the target
-  module _ (d : v ≡ Passed) {k : List Float} {h : Bool} (t : TestedIs b cv 0 y k h) where
-    abbrev f : Float → Float
-    f = segmentOf b cv 0
+  -- by what its trial came to
+  module _ (d : v ≡ Passed) {t : Trial}
+      (i : (s : ℕ) (ev : Evaluations) → length ev ≡ 0 → t ≡ trialOf (enter R (segmentOf b cv 0) s y ε limit ev)) where
+    abbrev entry : Entry
+    entry = enter R (segmentOf b cv 0) 0 y ε limit []
 
-    pub place-is : {w : RowSums} {a : Stop} {p : Place} → h ≡ true → w ≡ sumsOf k
-        → ((s : ℕ) (ev : Evaluations) → length ev ≡ 2 → a ≡ stopOf (entered R (hornerOf w) s y ε limit (getD k 4 nan) (getD k 5 nan) ev))
-        → p ≡ placeAt (a .local) 0 a → At p ≡ inverseSegmentBy R b y cv limit ε
-    unfolding enter
-    place-is {w} {a} i q u z =
-        let held : encloses (f nought) (f one) y ≡ true = sym (t .holds-is) ∙ i in
-        let o = entered R f 0 y ε limit (f nought) (f one) (both 0 []) in
-        let stop : a ≡ stopOf o = u 0 (both 0 []) refl ∙ stop-kept R 0 y ε limit (both 0 []) w (rowSumsAt b cv 0) k q (t .kept-is) in
-        let tried : At (placeOf alone o) ≡ answered alone (outcomeOf (enter R f 0 y ε limit [])) = simp held in
-        ap At (z ∙ place-at alone o (entered-segment R f 0 y ε limit (f nought) (f one) (both 0 [])) stop refl) ∙ tried ∙ told d
+    pub place-is : {a : Stop} {p : Place} → t ≡ Inside a → p ≡ placeAt (a .local) 0 a → At p ≡ inverseSegmentBy R b y cv limit ε
+    place-is {a} {p} k z = go entry (sym k ∙ i 0 [] refl) (enter-leaves R (segmentOf b cv 0) 0 y ε limit []) ∙ told d
+      where
+        go : (e : Entry) → Inside a ≡ trialOf e → Leaves 0 0 e → At p ≡ answered alone (outcomeOf e)
+        go (outside v ev) q l = never (cc)
+        go (inside o) q l = let stop : a ≡ stopOf o = cc in ap At (z ∙ place-at alone o l stop refl)
 
-    pub off-is : h ≡ false → OffSegment 2 ≡ inverseSegmentBy R b y cv limit ε
-    unfolding enter
-    off-is i =
-        let held : encloses (f nought) (f one) y ≡ false = sym (t .holds-is) ∙ i in
-        let tried : OffSegment 2 ≡ answered alone (outcomeOf (enter R f 0 y ε limit [])) = simp held in
-        tried ∙ told d
+    pub off-is : {x : Float} → t ≡ Outside x → OffSegment 2 ≡ inverseSegmentBy R b y cv limit ε
+    off-is {x} k = go entry (sym k ∙ i 0 [] refl) (enter-leaves R (segmentOf b cv 0) 0 y ε limit []) ∙ told d
+      where
+        go : (e : Entry) → Outside x ≡ trialOf e → Leaves 0 0 e → OffSegment 2 ≡ answered alone (outcomeOf e)
+        go (outside v ev) q l = ap OffSegment (sym l)
+        go (inside o) q l = never (cc)

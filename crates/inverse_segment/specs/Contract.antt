@@ -1,15 +1,11 @@
 -- The definitions' results as the code has them: a count stands for each list of evaluations. Definitions only.
 use mathlib.Core.Path.{_≡_}
-use mathlib.Core.List.{List, [], _∷_}
 use mathlib.Core.Bool.{Bool}
-use Prim.Native.Nat.{ℕ, _*_}
-use lib.ListN.{length, drop, getD}
-use lib.Ieee.{Float, nan}
-use Rattle.basis.specs.declared.Basis.{Basis}
-use Rattle.basis.specs.Basis.{stepOf, matrixOf}
-use Rattle.doubles.specs.Numbers.{nought, one}
+use Prim.Native.Nat.{ℕ}
+use lib.ListN.{length}
+use lib.Ieee.{Float}
 use Rattle.spline.specs.declared.RowSums.{RowSums}
-use Rattle.spline.specs.Segment.{rowSumsOf, hornerOf}
+use Rattle.spline.specs.Segment.{hornerOf}
 use Rattle.inverse_segment.specs.declared.Ground.{Ground}
 use Rattle.inverse_segment.specs.declared.Bracket.{Bracket}
 use Rattle.inverse_segment.specs.declared.State.{State}
@@ -17,11 +13,13 @@ use Rattle.inverse_segment.specs.declared.Weighing.{Weighing}
 use Rattle.inverse_segment.specs.declared.RoundResult.{RoundResult}
 use Rattle.inverse_segment.specs.declared.RoundResult.the-variants.{Done, Next}
 use Rattle.inverse_segment.specs.declared.Stop.{Stop}
+use Rattle.inverse_segment.specs.declared.Trial.{Trial}
+use Rattle.inverse_segment.specs.declared.Trial.the-variants.{Outside, Inside}
 use Rattle.inverse_segment.specs.declared.Place.{Place}
 use Rattle.inverse_segment.specs.Evaluations.{Evaluations}
 use Rattle.inverse_segment.specs.Round.{usesRegulaFalsi, chordOf, Round, found, on, roundOf}
 use Rattle.inverse_segment.specs.Rounds.{Arrival, rounds}
-use Rattle.inverse_segment.specs.Segment.{encloses, start, entered}
+use Rattle.inverse_segment.specs.Segment.{start, entered, Entry, outside, inside}
 
 abbrev pub shown : Round → RoundResult
 shown (found g x b ev) = Done g x b (length ev)
@@ -56,25 +54,10 @@ placeAt x s e =
       count = e .count;
     }
 
--- what is kept of a segment: its row sums, and the values of both its ends
-abbrev pub keptOf : RowSums → List Float
-keptOf w = w .w0 ∷ w .w1 ∷ w .w2 ∷ w .w3 ∷ hornerOf w nought ∷ hornerOf w one ∷ []
-
--- the row sums, read back from it
-abbrev pub sumsOf : List Float → RowSums
-sumsOf e = record { w0 = getD e 0 nan; w1 = getD e 1 nan; w2 = getD e 2 nan; w3 = getD e 3 nan }
-
--- what is kept, and whether the ends enclose y
-pub record SettledIs (w : RowSums) (y : Float) (e : List Float) (r : Bool) : Type 0 where
-  pub kept-is : e ≡ keptOf w
-  pub holds-is : r ≡ encloses (hornerOf w nought) (hornerOf w one) y
-
--- the row sums of segment s of a curve, and what its trial gives
-abbrev pub rowSumsAt : Basis → List Float → ℕ → RowSums
-rowSumsAt b ks s = rowSumsOf (matrixOf b) (drop (s * stepOf b) ks)
-
-abbrev pub TestedIs : Basis → List Float → ℕ → Float → List Float → Bool → Type 0
-TestedIs b ks s = SettledIs (rowSumsAt b ks s)
+-- what trying a segment came to; how many evaluations were made until then is the caller's to know
+abbrev pub trialOf : Entry → Trial
+trialOf (outside v ev) = Outside v
+trialOf (inside p) = Inside (stopOf p)
 
 -- r is what the definition gives, whatever the segment's number and the n evaluations before it were
 abbrev pub RoundIs : Weighing → RowSums → Float → Float → Bool → Bool → State → ℕ → RoundResult → Type 0

@@ -1,12 +1,8 @@
 // What an inversion of one segment is made of: its two ends, and the rounds as the crate makes them. Rust: `invert` of src/lib.rs.
 ghost use mathlib.Core.Path.{_≡_};
-ghost use Prim.Native.Nat.{_≤_, _<_, _+_, _*_};
-ghost use lib.ListN.{length};
-ghost use Rattle.basis.specs.Basis.{stepOf, matrixOf};
-ghost use Rattle.spline.specs.Segment.{rowSumsOf};
+ghost use Prim.Native.Nat.{_≤_, _<_, _+_};
 ghost use Rattle.inverse_segment.specs.Segment.{encloses, near};
-ghost use Rattle.inverse_segment.specs.Contract.{stopAt, placeAt, sumsOf, SettledIs, TestedIs, RoundsIs, EnteredIs};
-use basis::Basis;
+ghost use Rattle.inverse_segment.specs.Contract.{stopAt, placeAt, RoundsIs, EnteredIs};
 use error::Refusal;
 use spline::RowSums;
 
@@ -63,6 +59,12 @@ pub struct Stop {
     pub lower: f64,
     pub upper: f64,
     pub count: u32,
+}
+
+// What trying a segment comes to: its ends do not enclose the target, and the value of its start; or where the inversion stopped in it.
+pub enum Trial {
+    Outside(f64),
+    Inside(Stop),
 }
 
 // Where the target was found: the stop, with the segment's number and the parameter.
@@ -164,77 +166,6 @@ pub fn encloses(v0: f64, v1: f64, y: f64) -> bool
         v0 <= y && y <= v1
     } else {
         v1 <= y && y <= v0
-    }
-}
-
-// Both ends of the segment with these row sums are evaluated, once, and kept behind them: do they enclose y?
-fn settle(w: RowSums, y: f64, ends: &mut [f64; 6]) -> bool
-    ensures { λ r. ⌜ SettledIs w y (now (ends .exit)) r ⌝ }
-{
-    let v0 = spline::segment::horner(w, 0.0);
-    let v1 = spline::segment::horner(w, 1.0);
-    *ends = [w.w0, w.w1, w.w2, w.w3, v0, v1];
-    encloses(v0, v1, y)
-}
-
-// A match on the basis, so that each matrix is known where it is used, and no row sum is computed through memory.
-fn settle_by(b: Basis, cv: &[f64], y: f64, ends: &mut [f64; 6]) -> bool
-    requires { ⌜ 4 ≤ length (now cv) ⌝ }
-    ensures { λ r. ⌜ SettledIs (rowSumsOf (matrixOf b) (now (cv .entry))) y (now (ends .exit)) r ⌝ }
-{
-    match b {
-        Basis::Bspline => settle(
-            spline::segment::sums(basis::basis_macros::bspline(), cv),
-            y,
-            ends,
-        ),
-        Basis::Bezier => settle(
-            spline::segment::sums(basis::basis_macros::bezier(), cv),
-            y,
-            ends,
-        ),
-        Basis::CatmullRom => settle(
-            spline::segment::sums(basis::basis_macros::catmull_rom(), cv),
-            y,
-            ends,
-        ),
-        Basis::Hermite => settle(
-            spline::segment::sums(basis::basis_macros::hermite(), cv),
-            y,
-            ends,
-        ),
-        Basis::Linear => settle(
-            spline::segment::sums(basis::basis_macros::linear(), cv),
-            y,
-            ends,
-        ),
-        Basis::Power => settle(
-            spline::segment::sums(basis::basis_macros::power(), cv),
-            y,
-            ends,
-        ),
-    }
-}
-
-// Segment s is tried: both its ends are evaluated, and kept behind its row sums.
-pub fn probe(b: Basis, knots: &[f64], s: usize, y: f64, ends: &mut [f64; 6]) -> bool
-    requires inside { ⌜ s * stepOf b + 4 ≤ length (now knots) ⌝ }
-    requires most { ⌜ length (now knots) ≤ 4096 ⌝ }
-    ensures { λ r. ⌜ TestedIs b (now (knots .entry)) s y (now (ends .exit)) r ⌝ }
-{
-    let start = s * basis::step(b);
-    settle_by(b, &knots[start..], y, ends)
-}
-
-// The row sums, read back from what is kept of a segment.
-pub fn kept_sums(ends: &[f64; 6]) -> RowSums
-    ensures { λ r. ⌜ r ≡ sumsOf (now (ends .entry)) ⌝ }
-{
-    RowSums {
-        w0: ends[0],
-        w1: ends[1],
-        w2: ends[2],
-        w3: ends[3],
     }
 }
 

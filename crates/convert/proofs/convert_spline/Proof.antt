@@ -28,11 +28,11 @@ step-requires-2 c κs = search needs
 
 put-windows-requires : tie.Need-put-windows-requires
 put-windows-requires c κs =
-    let a = c .before .before .before .before .before .before .before .before .before .before .args in
+    let a = c .before .before .before .before .before .before .before .before .before .args in
     let h =
     spline-passed (a .from) (a .to) (a .knots .now) (length (a .out .now))
-    (sym (c .before .before .before .before .before .before .before .spline-verdict .ensures)
-    ∙ c .before .before .before .before .before .enum-told .given .1) in (
+    (sym (c .before .before .before .before .before .before .spline-verdict .ensures)
+    ∙ c .before .before .before .before .enum-told .given .1) in (
       c .before .before .step .ensures .1 .0,
       (
         c .before .step2 .ensures .1 .0,
@@ -63,12 +63,12 @@ same-length c = search needs
 
 returns-2 : tie.Need-returns-2
 returns-2 c =
-    let a = c .before .before .before .before .before .before .before .before .before .before .before .before .before .args in
+    let a = c .before .before .before .before .before .before .before .before .before .before .before .before .args in
     let t =
     spline-written (a .from) (a .to) (a .knots .now) (a .out .now) _ _ _ _ _
-    (sym (c .before .before .before .before .before .before .before .before .before .before .spline-verdict .ensures)
-    ∙ c .before .before .before .before .before .before .before .before .enum-told .given .1)
-    (c .before .before .before .before .before .before .before .conversion-matrix .ensures)
+    (sym (c .before .before .before .before .before .before .before .before .before .spline-verdict .ensures)
+    ∙ c .before .before .before .before .before .before .before .enum-told .given .1)
+    (c .before .before .before .before .before .before .conversion-matrix .ensures)
     (c .before .before .before .before .before .step .ensures .0) (c .before .before .before .before .step2 .ensures .0)
     (c .before .before .before .before .step2 .ensures .1 .1) (c .before .before .put-windows .ensures .0)
     (c .before .before .put-windows .ensures .1) in

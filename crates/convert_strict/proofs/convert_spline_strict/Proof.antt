@@ -40,8 +40,8 @@ lost-seam-requires c κs =
     (plain-passes (a .from) (a .to) (a .knots .now) (a .allowance) (length (a .out .now)) p) in
     (c .before .step .ensures .1 .0, (c .step2 .ensures .1 .0, (c .step2 .ensures .1 .1, (h .0 .least, h .0 .most))))
 
-cast-t16 : tie.Need-cast-t16
-cast-t16 c = search needs
+cast-t15 : tie.Need-cast-t15
+cast-t15 c = search needs
 
 returns : tie.Need-returns
 returns c =
@@ -59,15 +59,15 @@ returns c =
 
 put-windows-requires : tie.Need-put-windows-requires
 put-windows-requires c κs =
-    let a = c .before .before .before .before .before .before .before .before .before .before .before .before .args in
+    let a = c .before .before .before .before .before .before .before .before .before .before .before .args in
     let p =
-    sym (c .before .before .before .before .before .before .before .before .before .allowed-verdict .ensures)
-    ∙ c .before .before .before .before .before .before .before .enum-told .given .1 in
+    sym (c .before .before .before .before .before .before .before .before .allowed-verdict .ensures)
+    ∙ c .before .before .before .before .before .before .enum-told .given .1 in
     let h =
     spline-passed (a .from) (a .to) (a .knots .now) (length (a .out .now))
     (plain-passes (a .from) (a .to) (a .knots .now) (a .allowance) (length (a .out .now)) p) in
-    let step = c .before .before .before .before .before .step .ensures in
-    let stride = c .before .before .before .before .step2 .ensures in (
+    let step = c .before .before .before .before .step .ensures in
+    let stride = c .before .before .before .step2 .ensures in (
       step .1 .0,
       (
         stride .1 .0,
@@ -92,21 +92,21 @@ same-length c = search needs
 
 returns-3 : tie.Need-returns-3
 returns-3 c =
-    let a = c .before .before .before .before .before .before .before .before .before .before .before .before .before .before .before .args in
+    let a = c .before .before .before .before .before .before .before .before .before .before .before .before .before .before .args in
     let p =
-    sym (c .before .before .before .before .before .before .before .before .before .before .before .before .allowed-verdict .ensures)
-    ∙ c .before .before .before .before .before .before .before .before .before .before .enum-told .given .1 in
-    let m = c .before .before .before .before .before .before .before .before .before .conversion-matrix .ensures in
-    let step = c .before .before .before .before .before .before .before .before .step .ensures in
-    let stride = c .before .before .before .before .before .before .before .step2 .ensures in
+    sym (c .before .before .before .before .before .before .before .before .before .before .before .allowed-verdict .ensures)
+    ∙ c .before .before .before .before .before .before .before .before .before .enum-told .given .1 in
+    let m = c .before .before .before .before .before .before .before .before .conversion-matrix .ensures in
+    let step = c .before .before .before .before .before .before .before .step .ensures in
+    let stride = c .before .before .before .before .before .before .step2 .ensures in
     let wrote = c .before .before .put-windows .ensures in
     let s =
     found (a .from) (a .to) (a .knots .now) (a .allowance) m (step .0) (stride .0)
-    (c .before .before .before .before .before .before .lost-seam .ensures .0) in
+    (c .before .before .before .before .before .lost-seam .ensures .0) in
     let e =
     strict-passes (a .from) (a .to) (a .knots .now) (a .allowance) (length (a .out .now))
     (seam-kept (a .from) (a .to) (a .knots .now) (a .allowance) (length (a .out .now)) p _ s
-    (omega (arith, c .before .before .before .before .before .if1 .left))) in
+    (omega (arith, c .before .before .before .before .if1 .left))) in
     let t =
     spline-written (a .from) (a .to) (a .knots .now) (a .out .now) _ _ _ _ _
     (plain-passes (a .from) (a .to) (a .knots .now) (a .allowance) (length (a .out .now)) p) m (step .0) (stride .0) (stride .1 .1) (wrote .0) (wrote .1) in
@@ -123,7 +123,7 @@ convert-spline-strict-spec =
     step-requires
     step-requires-2
     lost-seam-requires
-    cast-t16
+    cast-t15
     returns
     put-windows-requires
     returns-2

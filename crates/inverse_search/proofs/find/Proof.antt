@@ -1,43 +1,66 @@
--- The search comes to a segment below k, which is entered with the six doubles kept of it (`found-in`), or to none (`found-none`).
-use Rattle.inverse_search.proofs.Glue.{found-in, found-none}
+-- Up to 12 segments the tries are the definition's. Above, it halves as often as k has bits: the stop that was told is that of the segment
+-- that was entered, or else the last tries are where the halving ended.
+use native.Mathlib.Omega.{arith}
+use Rattle.inverse_search.proofs.Glue.{found-few, found-last, found-in}
 use borrow.Author.Needs.{needs}
 use Rattle.inverse_search.proofs.find.Statement.{statement}
 use Rattle.inverse_search.proofs.find.Tie as tie
 
-sought-requires : tie.Need-sought-requires
-sought-requires c κs = search needs
-
-kept-sums-requires : tie.Need-kept-sums-requires
-kept-sums-requires c κs = search needs
-
-array-read-entered-by : tie.Need-array-read-entered-by
-array-read-entered-by c = search needs
-
-array-read-entered-by-2 : tie.Need-array-read-entered-by-2
-array-read-entered-by-2 c = search needs
-
-entered-by-requires : tie.Need-entered-by-requires
-entered-by-requires c κs = search needs
+tries-requires : tie.Need-tries-requires
+tries-requires c κs = search needs
 
 returns : tie.Need-returns
 returns c =
-    let a = c .before .before .before .before .before .before .before .before .args in
-    found-in (a .b) (a .knots .now) (a .y) (a .how) (a .precision) (a .limit) (a .rising) (a .k) (c .before .before .before .before .sought .ensures .0)
-    (c .before .before .before .if1 .taken) (c .before .kept-sums .ensures) (c .entered-by .ensures)
+    let a = c .before .before .before .args in
+    found-few (a .how) (a .b) (a .knots .now) (a .y) (a .precision) (a .limit) (a .rising) (a .k) (c .before .if1 .taken) (c .tries .ensures)
+
+bits-requires : tie.Need-bits-requires
+bits-requires c κs = search needs
+
+halve-requires : tie.Need-halve-requires
+halve-requires c κs = search needs
+
+last-tries-requires : tie.Need-last-tries-requires
+last-tries-requires c κs =
+    let p = c .before .before .before .before .before .before .before .before .before .pre in
+    let few = c .before .halve .ensures .1 .1 (c .if2 .taken) in
+    (p .0, (p .1 .0, (p .1 .1 .0, (p .1 .1 .1 .0, (omega (arith, c .before .halve .ensures .1 .0), omega (arith, few, c .before .before .before .before .before .bits .ensures .1))))))
 
 returns-2 : tie.Need-returns-2
 returns-2 c =
-    let a = c .before .before .before .before .before .args in
-    found-none (a .b) (a .knots .now) (a .y) (a .how) (a .precision) (a .limit) (a .rising) (a .k) (c .before .sought .ensures .0) (c .if1 .left)
+    let a = c .before .before .before .before .before .before .before .before .before .before .args in
+    found-last (a .how) (a .b) (a .knots .now) (a .y) (a .precision) (a .limit) (a .rising) (a .k) (c .before .before .before .before .before .before .before .before .if1 .left) (c .before .before .before .before .before .before .bits .ensures .0) (c .before .before .halve .ensures .0) (c .before .if2 .taken) (c .last-tries .ensures)
+
+ground-of-requires : tie.Need-ground-of-requires
+ground-of-requires c κs = search needs
+
+array-read-t25 : tie.Need-array-read-t25
+array-read-t25 c = search needs
+
+array-read-t28 : tie.Need-array-read-t28
+array-read-t28 c = search needs
+
+array-read-t31 : tie.Need-array-read-t31
+array-read-t31 c = search needs
+
+returns-3 : tie.Need-returns-3
+returns-3 c =
+    let a = c .before .before .before .before .before .before .before .before .before .before .args in
+    let g = c .before .if2 .left in
+    found-in (a .how) (a .b) (a .knots .now) (a .y) (a .precision) (a .limit) (a .rising) (a .k) (c .before .before .before .before .before .before .before .before .if1 .left) (c .before .before .before .before .before .before .bits .ensures .0) (c .before .before .halve .ensures .0) (omega (arith, g)) (c .ground-of .ensures)
 
 pub find-spec : {M : Type 1} → statement M
 find-spec =
     tie.close
     (tie.spec
-    sought-requires
-    kept-sums-requires
-    array-read-entered-by
-    array-read-entered-by-2
-    entered-by-requires
+    tries-requires
     returns
-    returns-2)
+    bits-requires
+    halve-requires
+    last-tries-requires
+    returns-2
+    ground-of-requires
+    array-read-t25
+    array-read-t28
+    array-read-t31
+    returns-3)

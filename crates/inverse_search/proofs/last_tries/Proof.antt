@@ -16,21 +16,16 @@ lesser-requires c κs = search needs
 
 tries-requires : tie.Need-tries-requires
 tries-requires c κs =
-    let p = c .before .before .before .before .before .pre in (
-      fits-le (c .before .before .lesser .result) (c .before .before .before .before .before .args
-          .k) _ _ (omega arith) (p .0),
-      (p .1 .0, (omega arith, (omega arith, (omega arith, omega arith)))),
-    )
+    let p = c .before .before .before .pre in
+    (fits-le (c .lesser .result) (c .before .before .before .args .k) _ _ (omega arith) (p .0), (p .1 .0, (omega arith, (omega arith, omega arith))))
 
 returns : tie.Need-returns
 returns c =
-    let a = c .before .before .before .before .before .before .args in
-    let first = c .before .before .before .before .one-less in
-    let end = c .before .before .before .lesser in (
-      last-tried (a .b) (a .knots .now) (a .y) (a .k) (a .left) (first .result) (end .result) (first .ensures) (end .ensures) (c .tries .ensures .0),
-      omega arith,
-    )
+    let a = c .before .before .before .before .args in
+    let first = c .before .before .one-less in
+    let end = c .before .lesser in
+    last-tried (a .how) (a .b) (a .knots .now) (a .y) (a .precision) (a .limit) (a .k) (a .left) (first .result) (end .result) (first .ensures) (end .ensures)
+    (c .tries .ensures)
 
 pub last-tries-spec : {M : Type 1} → statement M
-last-tries-spec =
-    tie.close (tie.spec one-less-requires add-lesser lesser-requires tries-requires returns)
+last-tries-spec = tie.close (tie.spec one-less-requires add-lesser lesser-requires tries-requires returns)

@@ -2,35 +2,43 @@
 -- on.
 use Prim.Native.Nat.{_+_, _-_, _*_, _≤_}
 use native.Mathlib.Omega.{arith}
+use borrow.Author.Needs.{needs}
 use Rattle.inverse_search.proofs.Glue.{fits-at, Carried, tries-start, tries-hit, tries-miss, tries-end}
 use Rattle.inverse_search.proofs.tries.Statement.{statement}
 use Rattle.inverse_search.proofs.tries.Tie as tie
 
 abbrev Inv-loop : tie.InvT-loop
-Inv-loop b knots y k first end made₀ ends₀ s₀ made ends s =
-    (first ≤ s) × (s ≤ end) × (made ≤ made₀ + 2 * (s - first)) × Carried b knots y first end made₀ s made
+Inv-loop how b knots y precision limit first end count made₀ s₀ made s =
+    (first ≤ s) × (s ≤ end) × (made ≤ count + 2 * (s - first)) × Carried how b knots y precision limit first end count s made
 
 abbrev μ-loop : tie.MeasureT-loop
-μ-loop b knots y k first end made₀ ends₀ s₀ made ends s = end - s
+μ-loop how b knots y precision limit first end count made₀ s₀ made s = end - s
 
 loop-holds : tie.Need-loop-holds Inv-loop μ-loop
 loop-holds c =
     let a = c .before .args in
-    (omega arith, omega arith, omega arith, tries-start (a .b) (a .knots .now) (a .y) _ _ _)
+    (omega arith, omega arith, omega arith, tries-start (a .how) (a .b) (a .knots .now) (a .y) (a .precision) (a .limit) _ _ _)
 
-probe-requires : tie.Need-probe-requires Inv-loop μ-loop
-probe-requires c κs =
-    let p = c .before .before .before .before .pre in
-    (fits-at (c .before .before .loop .s) (c .before .before .before .before .args .end) _ _ (omega arith) (p .0), p .1 .0)
+try-at-requires : tie.Need-try-at-requires Inv-loop μ-loop
+try-at-requires c κs =
+    let p = c .before .before .before .pre in
+    (fits-at (c .before .loop .s) (c .before .before .before .args .end) _ _ (omega arith) (p .0), (p .1 .0, omega arith))
 
-add-made : tie.Need-add-made Inv-loop μ-loop
-add-made c = omega arith
+enum-known-t : tie.Need-enum-known-t Inv-loop μ-loop
+enum-known-t c = search needs
 
 returns : tie.Need-returns Inv-loop μ-loop
 returns c =
     let a = c .before .before .before .before .before .before .before .args in
     let l = c .before .before .before .before .before .loop in
-    (tries-hit (a .b) (a .knots .now) (a .y) (l .s) (c .before .before .probe .ensures) (omega arith) (l .inv .3) (omega arith) (c .if1 .taken), omega arith)
+    tries-hit (a .how) (a .b) (a .knots .now) (a .y) (a .precision) (a .limit) (l .s) (c .before .before .before .try-at .ensures) (omega arith) (l .inv .3)
+    (c .before .t .given .1)
+
+enum-told : tie.Need-enum-told Inv-loop μ-loop
+enum-told c = search needs
+
+add-made : tie.Need-add-made Inv-loop μ-loop
+add-made c = omega arith
 
 add-s : tie.Need-add-s Inv-loop μ-loop
 add-s c = omega arith
@@ -40,18 +48,19 @@ loop-less c = omega arith
 
 loop-again : tie.Need-loop-again Inv-loop μ-loop
 loop-again c =
-    let a = c .before .before .before .before .before .before .before .args in
-    let l = c .before .before .before .before .before .loop in (
+    let a = c .before .before .before .before .before .before .args in
+    let l = c .before .before .before .before .loop in (
       omega arith,
       omega arith,
       omega arith,
-      tries-miss (a .b) (a .knots .now) (a .y) (l .s) (c .before .before .probe .ensures) (omega arith) (l .inv .3) (c .if1 .left),
+      tries-miss (a .how) (a .b) (a .knots .now) (a .y) (a .precision) (a .limit) (l .s) (c .before .before .try-at .ensures) (omega arith) (l .inv .3)
+          (c .enum-told .given .1),
     )
 
 returns-2 : tie.Need-returns-2 Inv-loop μ-loop
 returns-2 c =
     let a = c .before .before .before .args in
-    (tries-end (a .b) (a .knots .now) (a .y) (a .k) (omega arith) (c .before .loop .inv .3), omega arith)
+    tries-end (a .how) (a .b) (a .knots .now) (a .y) (a .precision) (a .limit) (omega arith) (c .before .loop .inv .3)
 
 pub tries-spec : {M : Type 1} → statement M
 tries-spec =
@@ -60,9 +69,11 @@ tries-spec =
     Inv-loop
     μ-loop
     loop-holds
-    probe-requires
-    add-made
+    try-at-requires
+    enum-known-t
     returns
+    enum-told
+    add-made
     add-s
     loop-less
     loop-again

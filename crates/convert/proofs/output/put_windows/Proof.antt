@@ -32,20 +32,20 @@ put-last-requires c κs = (lit< tt, (lit≤ tt, omega arith))
 
 loop-holds : tie.Need-loop-holds Inv-loop μ-loop
 loop-holds c =
-    let a = c .before .before .before .before .before .before .before .before .args in (
+    let a = c .before .before .before .before .before .before .before .args in (
       omega arith,
       refl,
-      begun (a .m .now) (a .step) (a .stride) (a .knots .now) (a .out .now) _
-          (first-window (a .m .now) (a .step) (a .stride) (a .knots .now) _ (a .out .now) _ (c .before .before .before .sums .ensures)
+      begun (a .m) (a .step) (a .stride) (a .knots .now) (a .out .now) _
+          (first-window (a .m) (a .step) (a .stride) (a .knots .now) _ (a .out .now) _ (c .before .before .before .sums .ensures)
           (c .before .before .put-last .ensures)),
     )
 
 places-at : (c : tie.In-loop Inv-loop μ-loop)
-    → WindowPlaces (length (c .before .before .before .before .before .before .before .before .before .before .args .knots .now))
-    (c .before .before .before .before .before .before .before .before .before .before .args .step)
-    (c .before .before .before .before .before .before .before .before .before .before .args .stride)
-    (length (c .before .before .before .before .before .before .before .before .before .before .args .out .now)) (c .before .loop .s)
-places-at c = let p = c .before .before .before .before .before .before .before .before .before .before .pre
+    → WindowPlaces (length (c .before .before .before .before .before .before .before .before .before .args .knots .now))
+    (c .before .before .before .before .before .before .before .before .before .args .step)
+    (c .before .before .before .before .before .before .before .before .before .args .stride)
+    (length (c .before .before .before .before .before .before .before .before .before .args .out .now)) (c .before .loop .s)
+places-at c = let p = c .before .before .before .before .before .before .before .before .before .pre
     in window-places _ _ _ _ _ (p .1 .1 .1 .0) (p .1 .1 .1 .1 .0) (p .1 .1 .0) (p .1 .1 .1 .1 .1) (c .loop-test .taken)
 
 mul-at : tie.Need-mul-at Inv-loop μ-loop
@@ -75,7 +75,7 @@ part-put-window-end c = let t = places-at (c .before) in omega arith
 put-window-requires : tie.Need-put-window-requires Inv-loop μ-loop
 put-window-requires c κs =
     let t = places-at (c .before .before) in
-    let p = c .before .before .before .before .before .before .before .before .before .before .before .before .pre in
+    let p = c .before .before .before .before .before .before .before .before .before .before .before .pre in
     (p .1 .0, (p .1 .1 .0, (simp (length-take, length-drop) (omega arith), omega arith)))
 
 loop-less : tie.Need-loop-less Inv-loop μ-loop
@@ -83,21 +83,19 @@ loop-less c = omega arith
 
 loop-again : tie.Need-loop-again Inv-loop μ-loop
 loop-again c =
-    let o = c .before .before .before .before .before .before .before .before .before .before .before .before .before .before .before in
+    let o = c .before .before .before .before .before .before .before .before .before .before .before .before .before .before in
     let l = c .before .before .before .before .before .before .loop in (
       omega arith,
       c .before .before .put-window .kept .0 ∙ l .inv .1,
-      next-window (o .args .m .now) (o .args .step) (o .args .stride) (o .args .knots .now) (l .s) _ _ _ (o .pre .1 .1 .0) (l .inv .2)
+      next-window (o .args .m) (o .args .step) (o .args .stride) (o .args .knots .now) (l .s) _ _ _ (o .pre .1 .1 .0) (l .inv .2)
           (c .before .before .put-window .ensures),
     )
 
 few-windows : (c : tie.After-loop Inv-loop μ-loop)
-    → (length (c .before .before .before .before .before .before .before .before .before .before .args .knots .now) - 4) / c .before .before .before .before
-    .before .before .before .before .before .before .args .step * c .before .before .before .before .before .before .before .before .before .before
-    .args .stride ≤ 16384
+    → (length (c .before .before .before .before .before .before .before .before .before .args .knots .now) - 4) / c .before .before .before .before .before .before .before .before .before .args .step * c .before .before .before .before .before .before .before .before .before .args .stride ≤ 16384
 few-windows c =
-    few-steps _ _ _ (c .before .before .before .before .before .before .before .before .before .before .pre .1 .1 .1 .1 .0)
-    (c .before .before .before .before .before .before .before .before .before .before .pre .1 .1 .0)
+    few-steps _ _ _ (c .before .before .before .before .before .before .before .before .before .pre .1 .1 .1 .1 .0)
+    (c .before .before .before .before .before .before .before .before .before .pre .1 .1 .0)
 
 mul-result : tie.Need-mul-result Inv-loop μ-loop
 mul-result c = let h = few-windows c in omega arith
@@ -110,12 +108,12 @@ same-length c = c .before .loop .inv .1 ∙ c .before .before .before .before .p
 
 returns : tie.Need-returns Inv-loop μ-loop
 returns c =
-    let a = c .before .before .before .before .before .before .before .before .before .before .args in
+    let a = c .before .before .before .before .before .before .before .before .before .args in
     let l = c .before .loop in (
       refl,
-      all-windows (a .m .now) (a .step) (a .stride) (a .knots .now) (l .s) _ _ _ _
-          (c .before .before .before .before .before .before .before .before .before .before .pre .1 .1 .0) (omega arith)
-          (first-window (a .m .now) (a .step) (a .stride) (a .knots .now) _ (a .out .now) _ (c .before .before .before .before .before .sums .ensures)
+      all-windows (a .m) (a .step) (a .stride) (a .knots .now) (l .s) _ _ _ _
+          (c .before .before .before .before .before .before .before .before .before .pre .1 .1 .0) (omega arith)
+          (first-window (a .m) (a .step) (a .stride) (a .knots .now) _ (a .out .now) _ (c .before .before .before .before .before .sums .ensures)
           (c .before .before .before .before .put-last .ensures)) (l .inv .2),
     )
 
