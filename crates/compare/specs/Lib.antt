@@ -1,3 +1,4 @@
 pub mod Differences
 pub mod Comparison
+pub mod Printed
 pub mod Contract

@@ -1,2 +1,4 @@
 pub mod Fields
 pub mod Entering
+pub mod Inputs
+pub mod Refusals

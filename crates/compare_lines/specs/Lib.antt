@@ -1,3 +1,4 @@
 pub mod CompareRecord
 pub mod Listings
+pub mod Inputs
 pub mod Contract

@@ -2,10 +2,10 @@
 use mathlib.Core.Path.{_≡_, refl, sym, ap, _∙_}
 use mathlib.Core.Bool.{Bool, true, false, cond}
 use mathlib.Core.List.{List, [], _∷_, _++_, append-assoc, append-nil}
-use Prim.Native.Nat.{ℕ, zero, suc, _+_, _/_, _%_, _≤_, _<_, _^_}
+use Prim.Native.Nat.{ℕ, _+_, _≤_, _<_, _^_}
 use native.Mathlib.Omega.{arith}
-use borrow.Author.Tests.{le-leb, leb-false, ne-eqb}
-use lib.Dec.{T, leb, ltb}
+use borrow.Author.Tests.{le-leb, leb-false}
+use lib.Dec.{T, leb}
 use lib.ListN.{length, length-append}
 use lib.Ieee.{Float, fits, toBits, binary64}
 use Rattle.lines_answer.specs.Answer.{places, Curve, on, bare, afterOf}
@@ -21,44 +21,12 @@ use Rattle.lines_record.specs.Record.{nameOf, wordOf, namedOf, meaningOf, ofFie
 use Rattle.lines_reply.specs.Reply.{spansText, knotsText, curve, textOf}
 use Rattle.table_span.specs.declared.Table.{Table}
 use Rattle.table_span.specs.Second.{day, goodSpan, spansOf}
-use Rattle.text.specs.Text.{bytes, same, LF, TAB, onto, fieldsOf, tabOf, glyphOf, hexText, decText, doubleText}
-use Rattle.text.proofs.Fields.{fields-one}
+use Rattle.text.specs.Text.{bytes, same, LF, TAB, onto, fieldsOf, decText, doubleText}
 use Rattle.text.proofs.ReadBack.{length-hex, hex-out-in}
 use Rattle.lines_machine.specs.Program.{linesOf, widest}
-use Rattle.lines_machine.proofs.Breaking.{Free, free-append, freeb, free-of, broken}
+use Rattle.lines_machine.proofs.Breaking.{Free, free-append, freeb, free-of, free-hex, free-dec, field-last, broken}
 use Rattle.lines.specs.Lines.{says}
 use Rattle.lines.proofs.Replies.{saysOf, curveAfter}
-
--- ---- texts without a byte
-glyph-high : (d : ℕ) → 48 ≤ glyphOf d
-glyph-high d = go (ltb d 10) refl
-  where
-    go : (t : Bool) → ltb d 10 ≡ t → 48 ≤ glyphOf d
-    go true e = rw e (omega arith)
-    go false e = rw e (omega arith)
-
--- a digit is neither tab nor LF
-free-hex : (b k n : ℕ) → b < 48 → Free b (hexText k n)
-unfolding hexText
-free-hex b zero n h = tt
-free-hex b (suc k) n h =
-    free-append b (hexText k (n / 16)) (glyphOf (n % 16) ∷ []) (free-hex b k (n / 16) h)
-    ((λ e. let z : 48 ≤ glyphOf (n % 16) = glyph-high (n % 16) in omega arith), tt)
-
-free-tab : (s : List ℕ) → Free TAB s → length s ≤ tabOf s
-unfolding tabOf
-free-tab [] p = omega arith
-free-tab (a ∷ s) p = let z : length s ≤ tabOf s = free-tab s (p .1) in rw (ne-eqb a TAB (p .0)) (omega arith)
-
--- nor is a decimal
-free-dec : (b k n : ℕ) → b < 48 → Free b (decText k n)
-unfolding decText
-free-dec b zero n h = ((λ e. omega arith), tt)
-free-dec b (suc k) n h = go (ltb n 10) (free-dec b k (n / 10) h)
-  where
-    go : (t : Bool) → Free b (decText k (n / 10)) → Free b (cond t ((48 + n) ∷ []) (decText k (n / 10) ++ ((48 + n % 10) ∷ [])))
-    go true ih = ((λ e. omega arith), tt)
-    go false ih = free-append b (decText k (n / 10)) ((48 + n % 10) ∷ []) ih ((λ e. omega arith), tt)
 
 -- ---- a line of each kind
 abbrev knotLine : Float → List ℕ
@@ -70,7 +38,7 @@ says-knot x h =
     let n : length (doubleText x) ≡ 16 = length-hex 16 (toBits binary64 x) in
     let short : length (bytes "knot\t" ++ doubleText x) ≤ widest = omega arith in
     let one : fieldsOf (doubleText x) ≡ doubleText x ∷ [] =
-    fields-one (doubleText x) (free-tab (doubleText x) (free-hex TAB 16 (toBits binary64 x) (omega arith))) in
+    field-last (doubleText x) (free-hex TAB 16 (toBits binary64 x) (omega arith)) in
     let back = hex-out-in x h in
     rw (le-leb (length (bytes "knot\t" ++ doubleText x)) widest short, one, back .0, back .1) refl
 
@@ -83,7 +51,7 @@ says-span s h =
     let small : s < 10 ^ 5 = omega arith in
     let few : length (decText 9 s) ≤ 5 = dec-length 9 4 s small in
     let short : length (bytes "span\t" ++ decText 9 s) ≤ widest = omega arith in
-    let one : fieldsOf (decText 9 s) ≡ decText 9 s ∷ [] = fields-one (decText 9 s) (free-tab (decText 9 s) (free-dec TAB 9 s (omega arith))) in
+    let one : fieldsOf (decText 9 s) ≡ decText 9 s ∷ [] = field-last (decText 9 s) (free-dec TAB 9 s (omega arith)) in
     rw (le-leb (length (bytes "span\t" ++ decText 9 s)) widest short, one, number-back 9 4 s (omega arith) small) refl
 
 says-curve : (b : Basis) → saysOf (bytes "curve\t" ++ nameOf b) ≡ CurveOf b

@@ -124,7 +124,7 @@ print-parse s n h = go (eqb (length s) 16) refl
         let w : Nothing ≡ Is n = rw e at h in unread w
 
 -- 16 digits say a number below 2^64
-read-small : (s : List ℕ) (n : ℕ) → hexOf s ≡ Is n → n < 2 ^ 64
+pub read-small : (s : List ℕ) (n : ℕ) → hexOf s ≡ Is n → n < 2 ^ 64
 unfolding hexOf
 read-small s n h = go (eqb (length s) 16) refl
   where
