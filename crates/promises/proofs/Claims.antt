@@ -105,14 +105,14 @@ Accepts b y s x ε ks =
     Keeps check_claim.Learnt
     (λ κs a z e. a .0 ≡ b → a .1 .0 ≡ y → a .1 .1 .0 ≡ s → a .1 .1 .1 .0 ≡ x → a .1 .1 .1 .1 .0 ≡ ε → now (a .1 .1 .1 .1 .1 .0) ≡ ks → z ≡ Holds)
 
-accepting : (b : Basis) (y : Float) (s : ℕ) (x ε : Float) (ks : List Float) → claimOf b y s x ε ks ≡ Holds → Accepts b y s x ε ks
+pub accepting : (b : Basis) (y : Float) (s : ℕ) (x ε : Float) (ks : List Float) → claimOf b y s x ε ks ≡ Holds → Accepts b y s x ε ks
 accepting b y s x ε ks h κs a z e p q0 q1 q2 q3 q4 q5 = p ∙ rw (q0, q1, q2, q3, q4, q5) h
 
 -- a place by `value` or `edge`, claimed with its own segment, local place and precision
 abbrev pub OwnHolds : Basis → Float → Float → List Float → Inversion → Type 0
 OwnHolds b y ε ks r = AtPlace (λ (p : Place). Settled (p .ground) → Accepts b y (p .segment) (p .local) ε ks) r
 
-own-holds : (b : Basis) (y ε : Float) (ks : List Float) (r : Inversion)
+pub own-holds : (b : Basis) (y ε : Float) (ks : List Float) (r : Inversion)
     → ((p : Place) → r ≡ I.At p → Settled (p .ground) → claimOf b y (p .segment) (p .local) ε ks ≡ Holds)
     → OwnHolds b y ε ks r
 own-holds b y ε ks (I.At p) h = λ t. accepting b y (p .segment) (p .local) ε ks (h p refl t)
@@ -120,7 +120,7 @@ own-holds b y ε ks (I.OffCurve n) h = tt
 own-holds b y ε ks (I.Refused r) h = tt
 
 -- the precision is a double, as every caller's is
-curve-own : (m : EndsBy) (how : Method) (b : Basis) (y : Float) (ks : List Float) (check : Bool) (limit : ℕ) (ε : Float) (r : Inversion)
+pub curve-own : (m : EndsBy) (how : Method) (b : Basis) (y : Float) (ks : List Float) (check : Bool) (limit : ℕ) (ε : Float) (r : Inversion)
     → r ≡ inverseBy m how b y ks check limit ε
     → T (fits binary64 ε) → OwnHolds b y ε ks r
 curve-own m how b y ks check limit ε r e f = own-holds b y ε ks r (λ p h t. own-accepted m how b y ks check limit ε f p (sym e ∙ h) t)
@@ -130,7 +130,7 @@ segment-own : (how : Method) (b : Basis) (y : Float) (cv : List Float) (limit : 
     → T (fits binary64 ε) → OwnHolds b y ε cv r
 segment-own how b y cv limit ε r e f = own-holds b y ε cv r (λ p h t. own-segment-accepted how b y cv limit ε f p (sym e ∙ h) t)
 
-default-fits : T (fits binary64 defaultPrecision)
+pub default-fits : T (fits binary64 defaultPrecision)
 unfolding fits ofBits
 default-fits = tt
 

@@ -27,3 +27,9 @@ pub mod Steady
 pub mod StrictTables
 pub mod Programs
 pub mod Sheets
+pub mod Comparing
+pub mod KnotsBeyond
+pub mod OneCount
+pub mod ClaimsBeyond
+pub mod Printing
+pub mod Listings

@@ -12,6 +12,9 @@ use Rattle.spline.specs.Evaluation.{splineUses, splineSegmentUses}
 use Rattle.inverse_segment.specs.Answer.{inverseSegmentUses}
 use Rattle.inverse.specs.Inverse.{inverseUses}
 use Rattle.convert.specs.Conversion.{convertSegmentUses, convertUses}
+use Rattle.table_span.specs.declared.Table.{Table}
+use Rattle.table_span.specs.Second.{badSpan}
+use Rattle.table.proofs.Spans.{spline-order, inverse-order, convert-order}
 
 -- these rows, in this order, and each named once
 abbrev pub Ordered : Uses → List ℕ → Type 0
@@ -36,3 +39,16 @@ convert-segment-ordered to cv room = (refl, refl)
 
 pub convert-ordered : (from to : Basis) (ks : List Float) (room : ℕ) → Ordered (convertUses from to ks room) (1 ∷ 2 ∷ 3 ∷ 8 ∷ 9 ∷ 4 ∷ [])
 convert-ordered from to ks room = (refl, refl)
+
+-- on a table with a span: 14 after the lengths
+pub table-spline-ordered : (t : Table) (x : Float) (ks : List Float)
+    → Ordered (badSpan (t .span) ∷ splineUses (t .basis) x ks) (1 ∷ 2 ∷ 3 ∷ 14 ∷ 5 ∷ 4 ∷ [])
+table-spline-ordered t x ks = (spline-order t x ks, refl)
+
+pub table-inverse-ordered : (t : Table) (y : Float) (ks : List Float) (check : Bool) (limit : ℕ) (ε : Float)
+    → Ordered (badSpan (t .span) ∷ inverseUses (t .basis) y ks check limit ε) (1 ∷ 2 ∷ 3 ∷ 14 ∷ 5 ∷ 6 ∷ 7 ∷ 4 ∷ 10 ∷ [])
+table-inverse-ordered t y ks check limit ε = (inverse-order t y ks check limit ε, refl)
+
+pub table-convert-ordered : (t : Table) (to : Basis) (ks : List Float) (room : ℕ)
+    → Ordered (badSpan (t .span) ∷ convertUses (t .basis) to ks room) (1 ∷ 2 ∷ 3 ∷ 14 ∷ 8 ∷ 9 ∷ 4 ∷ [])
+table-convert-ordered t to ks room = (convert-order t to ks room, refl)

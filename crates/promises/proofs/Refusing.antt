@@ -73,6 +73,9 @@ spline-inverse-segment-with-asks-nothing κs a = tt
 pub spline-inverse-segment-asks-nothing : AsksNothing spline_inverse_segment.Asked
 spline-inverse-segment-asks-nothing κs a = tt
 
+pub spline-inverse-segment-by-asks-nothing : AsksNothing spline_inverse_segment_by.Asked
+spline-inverse-segment-by-asks-nothing κs a = tt
+
 pub spline-inverse-by-asks-nothing : AsksNothing spline_inverse_by.Asked
 spline-inverse-by-asks-nothing κs a = tt
 

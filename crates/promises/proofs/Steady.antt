@@ -13,6 +13,8 @@ use lib.ListN.{length}
 use lib.Ieee.{Float}
 use Rattle.error.specs.declared.Refusal.{Refusal}
 use Rattle.error.specs.declared.Refusal.the-variants.{BadKnot, TurnsBack}
+use Rattle.error.specs.declared.Verdict.{Verdict}
+use Rattle.error.specs.declared.Verdict.the-variants.{Passed, Failed}
 use Rattle.error.specs.Refusals.{rows}
 use Rattle.error.proofs.First.{First}
 use Rattle.basis.specs.declared.Basis.{Basis}
@@ -43,7 +45,7 @@ use Rattle.table_span.specs.declared.Table.{Table}
 use Rattle.table.specs.declared.TableInversion.{TableInversion}
 use Rattle.table.specs.declared.TableInversion.the-variants as T
 use Rattle.table_span.specs.Second.{goodSpan, badSpan, elapsed}
-use Rattle.table.specs.Calls.{verdictOf, timedOf, tableInverseBy, tableSteadyOf}
+use Rattle.table.specs.Calls.{verdictOf, timedOf, timedUnless, tableInverseBy, tableSteadyOf}
 use Rattle.table.proofs.Spans.{inverse-base}
 use Rattle.table_span.proofs.Largest.{Largest}
 use Rattle.table.proofs.table_spline_inverse_steady.Reads as table_spline_inverse_steady
@@ -63,7 +65,7 @@ use Rattle.promises.proofs.Knots.{FirstBad, knot-first}
 use Rattle.promises.proofs.Numbers.{InverseNumber, inverts, by-places}
 use Rattle.promises.proofs.NumbersBeyond.{TableInversionNumber, timed-owed}
 use Rattle.promises.proofs.Refusing.{carried, segment-place-refused}
-use Rattle.promises.proofs.Seconds.{table-place-refused, past, at-second, second-is-largest}
+use Rattle.promises.proofs.Seconds.{table-place-refused, second-is-largest}
 use Rattle.promises.proofs.Spans as timed
 
 one : {A : Type 0} {d x x′ : A} → x ≡ d → x′ ≡ d → x ≡ x′
@@ -154,18 +156,27 @@ pub spline-inverse-steady-first-turn : Keeps spline_inverse_steady.Learnt
 spline-inverse-steady-first-turn κs a z e p i h =
     inverse-turns-back Knots Steady (a .0) (a .1 .0) (now (a .1 .1 .0)) (a .1 .1 .1 .0) steadyLimit defaultPrecision i (sym p ∙ h)
 
--- ---- a table with a span
-table-timely : (t : Table) (y : Float) (ks : List Float) (check : Bool) (p : Place) (n : ℕ) → tableSteadyOf t y ks check ≡ T.At p n
-    → SteadyWithin (t .basis) ks (I.At p)
-unfolding tableInverseBy
-table-timely t y ks check p n h =
-    let w = past (verdictOf t (inverseUses (t .basis) y ks check steadyLimit defaultPrecision)) (timedOf (t .span) (steadyOf (t .basis) y ks check)) p n h in
-    subst (SteadyWithin (t .basis) ks) (at-second (t .span) (steadyOf (t .basis) y ks check) p n (w .1) .0) (steady-timely (t .basis) y ks check)
+-- ---- a table with a span: a place is never spent, and it and 11 tell at most as many evaluations
+abbrev pub TableSteadyWithin : Basis → List Float → TableInversion → Type 0
+TableSteadyWithin b ks (T.At p n) = T (not (isSpent (p .ground))) × (p .count ≤ boundOf (segmentsOf b (length ks)) 39)
+TableSteadyWithin b ks (T.OffCurve n) = n ≤ boundOf (segmentsOf b (length ks)) 39
+TableSteadyWithin b ks (T.Refused r) = Unit
 
-pub table-spline-inverse-steady-timely : Keeps table_spline_inverse_steady.Learnt
-    (λ κs a z e. (p : Place) (n : ℕ) → z ≡ T.At p n
-    → T (not (isSpent (p .ground))) × (p .count ≤ boundOf (segmentsOf (a .0 .basis) (length (now (a .1 .1 .0)))) 39))
-table-spline-inverse-steady-timely κs a z e q p n h = table-timely (a .0) (a .1 .0) (now (a .1 .1 .0)) (a .1 .1 .1 .0) p n (sym q ∙ h)
+timed-within : (b : Basis) (ks : List Float) (s : ℕ) (v : Verdict) (i : Inversion) → SteadyWithin b ks i → TableSteadyWithin b ks (timedUnless v (timedOf s i))
+timed-within b ks s Passed (I.At p) h = h
+timed-within b ks s Passed (I.OffCurve n) h = h .1
+timed-within b ks s Passed (I.Refused r) h = tt
+timed-within b ks s (Failed r) i h = tt
+
+table-timely : (t : Table) (y : Float) (ks : List Float) (check : Bool) → TableSteadyWithin (t .basis) ks (tableSteadyOf t y ks check)
+unfolding tableInverseBy
+table-timely t y ks check =
+    timed-within (t .basis) ks (t .span) (verdictOf t (inverseUses (t .basis) y ks check steadyLimit defaultPrecision)) (steadyOf (t .basis) y ks check)
+    (steady-timely (t .basis) y ks check)
+
+pub table-spline-inverse-steady-timely : Keeps table_spline_inverse_steady.Learnt (λ κs a z e. TableSteadyWithin (a .0 .basis) (now (a .1 .1 .0)) z)
+table-spline-inverse-steady-timely κs a z e q =
+    subst (TableSteadyWithin (a .0 .basis) (now (a .1 .1 .0))) (sym q) (table-timely (a .0) (a .1 .0) (now (a .1 .1 .0)) (a .1 .1 .1 .0))
 
 pub table-spline-inverse-steady-asks-nothing : AsksNothing table_spline_inverse_steady.Asked
 table-spline-inverse-steady-asks-nothing κs a = tt

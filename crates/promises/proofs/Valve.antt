@@ -26,10 +26,15 @@ use Rattle.valve.proofs.Between.{Between, mixed-between}
 use Rattle.valve.proofs.mix.Reads as mix
 use Rattle.valve.proofs.simmerstoat_valve.Reads as c_valve
 use Rattle.promises.specs.Calls.{AsksNothing, Keeps, OneReply, Exactly}
+use Rattle.promises.proofs.Orders.{Ordered}
 
 -- ---- the call
 pub mix-asks-nothing : AsksNothing mix.Asked
 mix-asks-nothing κs a = tt
+
+-- its rows in their order
+pub mix-ordered : (j : ℕ) (ks : List ℤ) → Ordered (mixUses j ks) (1 ∷ 2 ∷ 16 ∷ 4 ∷ [])
+mix-ordered j ks = (refl, refl)
 
 by-mixture : (v : Verdict) (z : ℤ) (r : Refusal) → Exactly (mixture v z ≡ Refused r) (v ≡ Failed r)
 by-mixture Passed z r = (λ p. never (cc), λ p. never (cc))
