@@ -1,0 +1,12 @@
+pub mod Negatives
+pub mod Limits
+pub mod Sizes
+pub mod Pairs
+pub mod Verdicts
+pub mod Through
+pub mod Mirror
+pub mod Climbing
+pub mod Kept
+pub mod Agrees
+pub mod Words
+pub mod Doubles

@@ -1,0 +1,18 @@
+-- Raised by the bound of a row, as the code reads it. Assumes nothing.
+use mathlib.Core.Path.{_∙_, sym, subst}
+use Prim.Native.Nat.{_≤_}
+use lib.IntN.{ℤ, natAbs}
+use lib.Dec.{lit≤}
+use mir.Facts.{toZ-ofZ}
+use Rattle.monotone.specs.Table.{most}
+use Rattle.monotone.proofs.raised.Statement.{statement}
+use Rattle.monotone.proofs.raised.Tie as tie
+
+raised-requires : tie.Need-raised-requires
+raised-requires c κs = (subst (λ (z : ℤ). natAbs z ≤ most) (sym (toZ-ofZ (c .fits .k))) (c .pre), lit≤ tt)
+
+returns : tie.Need-returns
+returns c = (c .raised .ensures .0 ∙ toZ-ofZ (c .before .fits .k), c .raised .ensures .1)
+
+pub raised-spec : {M : Type 1} → statement M
+raised-spec = tie.close (tie.spec raised-requires returns)

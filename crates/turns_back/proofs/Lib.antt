@@ -1,0 +1,11 @@
+pub mod Simpson
+pub mod Segment
+pub mod Everywhere
+pub mod Halves
+pub mod Slopes
+pub mod Seams
+pub mod Verdicts
+pub mod Ends
+pub mod Fall
+pub mod Answer
+pub mod Sorted

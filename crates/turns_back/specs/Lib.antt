@@ -1,0 +1,4 @@
+pub mod Curve
+pub mod Product
+pub mod Call
+pub mod Four
