@@ -1,0 +1,127 @@
+-- A depth that is at neither end and outside neither is one of which the end rule is silent: so what is said of it is what the search answers.
+-- Assumes nothing.
+use mathlib.Core.Path.{_≡_, refl, sym, ap, _∙_, subst}
+use mathlib.Core.Bool.{Bool, true, false, cond, _||_, _&&_, Bool·beq}
+use mathlib.Core.List.{List}
+use Prim.Native.Nat.{ℕ, _*_}
+use lib.Dec.{T, T-not, eqb, eqb→eq, not-T}
+use lib.ListN.{length}
+use lib.Ieee.{Float, nan, inf, fin, up, down, level, lt, le, eq}
+use lib.Ieee.Bits.{is-false}
+use lib.Ieee.Fits.{and-l, and-r, and-i, eq→eqb}
+use Rattle.basis.specs.declared.Basis.{Basis}
+use Rattle.basis.specs.Basis.{segmentsOf}
+use Rattle.doubles.proofs.Tests.{fails}
+use Rattle.inverse.specs.declared.Ends.{Ends}
+use Rattle.inverse.specs.Contract.{SearchedIs}
+use Rattle.inverse.specs.Curve.{located}
+use Rattle.inverse.specs.EndRule.{atLow, atHigh, curveRule}
+use Rattle.inverse.proofs.Glue.{located-searched}
+use Rattle.inverse_methods.specs.declared.Method.the-variants.{Steady}
+use Rattle.inverse_methods.specs.Method.{steadyLimit}
+use Rattle.inverse_methods.specs.Steady.{steady}
+use Rattle.inverse_segment.specs.declared.Inversion.{Inversion}
+use Rattle.inverse_segment.specs.Answer.{defaultPrecision}
+use Rattle.spline.specs.Segment.{segmentOf}
+use Rattle.stopped.specs.declared.Job.{Job}
+use Rattle.stopped.specs.declared.Job.the-variants.{Flat, Before, Start, End, Beyond}
+use Rattle.stopped.specs.Stopped.{endsOf, isBefore, isBeyond, between, saidOf}
+use Rattle.table.specs.Calls.{timedOf}
+use Rattle.table.specs.declared.TableInversion.{TableInversion}
+
+-- ---- equal doubles, either way round
+level-swapped : (s : Bool) (a : ℕ) (t : Bool) (b : ℕ) → T (level s a t b) → T (level t b s a)
+level-swapped s a t b h = go s t (and-r (eqb a b) (Bool·beq s t || eqb a 0) h)
+  where
+    same : a ≡ b
+    same = eqb→eq a b (and-l (eqb a b) (Bool·beq s t || eqb a 0) h)
+
+    turned : T (eqb b a)
+    turned = eq→eqb (sym same)
+
+    go : (s t : Bool) → T (Bool·beq s t || eqb a 0) → T (level t b s a)
+    go true true q = and-i (eqb b a) true turned tt
+    go false false q = and-i (eqb b a) true turned tt
+    go true false q = and-i (eqb b a) (eqb b 0) turned (eq→eqb (sym same ∙ eqb→eq a 0 q))
+    go false true q = and-i (eqb b a) (eqb b 0) turned (eq→eqb (sym same ∙ eqb→eq a 0 q))
+
+pub eq-swapped : (x y : Float) → T (eq x y) → T (eq y x)
+unfolding eq
+eq-swapped nan y h = absurd h
+eq-swapped (inf s) nan h = absurd h
+eq-swapped (inf true) (inf true) h = tt
+eq-swapped (inf true) (inf false) h = absurd h
+eq-swapped (inf false) (inf true) h = absurd h
+eq-swapped (inf false) (inf false) h = tt
+eq-swapped (inf s) (fin t n d) h = absurd h
+eq-swapped (fin s m e) nan h = absurd h
+eq-swapped (fin s m e) (inf t) h = absurd h
+eq-swapped (fin s m e) (fin t n d) h = level-swapped s (m * up e * down d) t (n * up d * down e) h
+
+pub unequal : (x y : Float) → eq x y ≡ false → eq y x ≡ false
+unequal x y h = is-false (eq y x) (not-T (eq y x) (λ q. T-not (eq x y) (fails h) (eq-swapped y x q)))
+
+-- ---- the end rule is silent
+not-at-most : (x y : Float) → eq x y ≡ false → lt x y ≡ false → le x y ≡ false
+unfolding le
+not-at-most x y a b = rw (b, a) refl
+
+pub not-low : (e : Ends) (y : Float) → eq y (e .low) ≡ false → isBefore e y ≡ false → atLow e y ≡ false
+not-low e y a b = go (e .rising) b
+  where
+    go : (r : Bool) → cond r (lt y (e .low)) (lt (e .low) y) ≡ false → cond r (le y (e .low)) (le (e .low) y) ≡ false
+    go true b = not-at-most y (e .low) a b
+    go false b = not-at-most (e .low) y (unequal y (e .low) a) b
+
+pub not-high : (e : Ends) (y : Float) → eq y (e .high) ≡ false → isBeyond e y ≡ false → atHigh e y ≡ false
+not-high e y a b = go (e .rising) b
+  where
+    go : (r : Bool) → cond r (lt (e .high) y) (lt y (e .high)) ≡ false → cond r (le (e .high) y) (le y (e .high)) ≡ false
+    go true b = not-at-most (e .high) y (unequal y (e .high) a) b
+    go false b = not-at-most y (e .high) a b
+
+-- ---- the code's tests are those of the definition; e is what `curve_ends` answers of the k segments
+module _ (b : Basis) (ks : List Float) (y : Float) (span : ℕ) {k : ℕ} (q : k ≡ segmentsOf b (length ks)) {e : Ends}
+    (h : e ≡ curveRule (segmentOf b ks) k .ends) where
+  abbrev found : TableInversion
+  found =
+      timedOf span
+      (located steady (endsOf b ks) (curveRule (segmentOf b ks) (segmentsOf b (length ks)) .made) (segmentOf b ks) (segmentsOf b (length ks)) y
+      defaultPrecision steadyLimit)
+
+  ends-are : e ≡ endsOf b ks
+  ends-are = h ∙ ap (λ (z : ℕ). curveRule (segmentOf b ks) z .ends) q
+
+  by-ends : {j : Job} → j ≡ saidOf e y found → j ≡ saidOf (endsOf b ks) y found
+  by-ends p = p ∙ ap (λ (z : Ends). saidOf z y found) ends-are
+
+  pub said-flat : eq (e .low) (e .high) ≡ true → Flat ≡ saidOf (endsOf b ks) y found
+  said-flat a = by-ends (simp a)
+
+  module _ (a : eq (e .low) (e .high) ≡ false) where
+    pub said-start : eq y (e .low) ≡ true → Start ≡ saidOf (endsOf b ks) y found
+    said-start c = by-ends (simp (a, c))
+
+    module _ (c : eq y (e .low) ≡ false) where
+      pub said-end : eq y (e .high) ≡ true → End ≡ saidOf (endsOf b ks) y found
+      said-end d = by-ends (simp (a, c, d))
+
+      module _ (d : eq y (e .high) ≡ false) where
+        pub said-before : isBefore e y ≡ true → Before ≡ saidOf (endsOf b ks) y found
+        said-before f = by-ends (simp (a, c, d, f))
+
+        module _ (f : isBefore e y ≡ false) where
+          pub said-beyond : isBeyond e y ≡ true → Beyond ≡ saidOf (endsOf b ks) y found
+          said-beyond g = by-ends (simp (a, c, d, f, g))
+
+          pub said-between : isBeyond e y ≡ false → {i : Inversion} {j : Job}
+              → SearchedIs Steady b y ks steadyLimit defaultPrecision (e .rising) k 2 i → j ≡ between (timedOf span i)
+              → j ≡ saidOf (endsOf b ks) y found
+          said-between g {i} {j} s r =
+              let G = segmentOf b ks in
+              let ev = curveRule G k .made in
+              let p : i ≡ located steady (endsOf b ks) (curveRule G (segmentsOf b (length ks)) .made) G (segmentsOf b (length ks)) y defaultPrecision steadyLimit =
+              located-searched steady e ev G k y defaultPrecision steadyLimit (not-low e y c f) (not-high e y d g) (s ev refl)
+              ∙ ap (λ (z : Ends). located steady z ev G k y defaultPrecision steadyLimit) ends-are
+              ∙ ap (λ (z : ℕ). located steady (endsOf b ks) (curveRule G z .made) G z y defaultPrecision steadyLimit) q in
+              by-ends (r ∙ ap (λ (z : Inversion). between (timedOf span z)) p ∙ simp (a, c, d, f, g))
