@@ -16,7 +16,7 @@ use Rattle.text_decimals.proofs.ReadBack.{number-back}
 use Rattle.text_rounded.specs.Rounded.{fixedText}
 
 -- ---- digits are no points
-abbrev Digits : List ℕ → Type 0
+abbrev pub Digits : List ℕ → Type 0
 Digits [] = Unit
 Digits (b ∷ s) = (48 ≤ b) × Digits s
 
@@ -24,7 +24,7 @@ digits-append : (s t : List ℕ) → Digits s → Digits t → Digits (s ++ t)
 digits-append [] t p q = q
 digits-append (b ∷ s) t p q = (p .0, digits-append s t (p .1) q)
 
-dec-digits : (k n : ℕ) → Digits (decText k n)
+pub dec-digits : (k n : ℕ) → Digits (decText k n)
 unfolding decText
 dec-digits zero n = (omega arith, tt)
 dec-digits (suc k) n = go (ltb n 10) (dec-digits k (n / 10))
@@ -34,16 +34,16 @@ dec-digits (suc k) n = go (ltb n 10) (dec-digits k (n / 10))
     go false p = digits-append (decText k (n / 10)) ((48 + n % 10) ∷ []) p (omega arith, tt)
 
 module _ (t : List ℕ) where
-  point-place : (s : List ℕ) → Digits s → placeOf POINT (s ++ (POINT ∷ t)) ≡ length s
+  pub point-place : (s : List ℕ) → Digits s → placeOf POINT (s ++ (POINT ∷ t)) ≡ length s
   unfolding placeOf
   point-place [] p = refl
   point-place (b ∷ s) p = rw (ne-eqb b POINT (λ (e : b ≡ POINT). let h : 48 ≤ b = p .0 in omega arith)) (ap suc (point-place s (p .1)))
 
-  before-point : (s : List ℕ) → take (length s) (s ++ (POINT ∷ t)) ≡ s
+  pub before-point : (s : List ℕ) → take (length s) (s ++ (POINT ∷ t)) ≡ s
   before-point [] = refl
   before-point (b ∷ s) = ap (λ (l : List ℕ). b ∷ l) (before-point s)
 
-  behind-point : (s : List ℕ) → drop (suc (length s)) (s ++ (POINT ∷ t)) ≡ t
+  pub behind-point : (s : List ℕ) → drop (suc (length s)) (s ++ (POINT ∷ t)) ≡ t
   behind-point [] = refl
   behind-point (b ∷ s) = behind-point s
 

@@ -1,3 +1,4 @@
 pub mod Whole
 pub mod Breaking
 pub mod Pushing
+pub mod Feeding

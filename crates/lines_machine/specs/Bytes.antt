@@ -1,4 +1,5 @@
 -- A program over lines, a byte at a time. Definitions only; proofs/Whole.antt shows that they print what Program says.
+use mathlib.Core.Path.{_≡_}
 use mathlib.Core.Bool.{cond}
 use mathlib.Core.List.{List, [], _∷_, _++_}
 use Prim.Native.Nat.{ℕ}
@@ -23,6 +24,11 @@ start s = stateAt (so []) s
 unfoldable pub push : Line → ℕ → Line
 push (so l) b = cond (ltb (length l) widest) (so (l ++ (b ∷ []))) over
 push over b = over
+
+-- o′ is the line o with the bytes x, none of which ends it
+abbrev pub Grown : Line → List ℕ → Line → Type 0
+Grown o [] o′ = o′ ≡ o
+Grown o (b ∷ x) o′ = (b ≡ LF → ⊥) × Grown (push o b) x o′
 
 -- ---- the end of a line, and a byte: what they print, and the state after them
 abbrev pub closeText : {S : Type 0} → Program S → State S → List ℕ

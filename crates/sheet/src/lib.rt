@@ -4,14 +4,15 @@ ghost use Prim.Native.Nat.{_+_, _≤_};
 ghost use lib.ListN.{length, take, getD};
 ghost use lib.Dec.{eqb};
 ghost use lib.Ieee.{Float};
-ghost use mathlib.Core.List.{List};
+ghost use mathlib.Core.List.{List, []};
 ghost use Rattle.text_decimals.specs.Decimals.{MINUS};
 ghost use Rattle.text.specs.Wrote.{Wrote};
 ghost use Rattle.lines_reply.specs.Contract.{longest};
 ghost use Rattle.lines_machine.specs.Program.{widest};
-ghost use Rattle.lines_machine.specs.Contract.{openOf};
-ghost use Rattle.sheet.specs.Sheet.{most, depthIn, depthLine, named, added, afterOf, endsOf};
-ghost use Rattle.sheet.specs.Contract.{sheetOf, countOf};
+ghost use Rattle.lines_machine.specs.Bytes.{endOf};
+ghost use Rattle.lines_machine.specs.Contract.{openOf, Fed};
+ghost use Rattle.sheet.specs.Sheet.{most, depthIn, depthLine, named, added, afterOf, endsOf, sheetProgram};
+ghost use Rattle.sheet.specs.Contract.{sheetOf, countOf, stateOf};
 ghost use Rattle.lines_record.specs.Record.{namedOf};
 use basis::Basis;
 use error::Refusal;
@@ -149,4 +150,56 @@ pub fn end(h: SheetState, table: &[f64], out: &mut [u8], at: usize) -> usize
         }
         SheetState::Faulty(r) => lines_reply::put_reply(LineReply::Refused(r), table, out, at),
     }
+}
+
+// `len`: bytes of the current line in the lent 64; 65 means that the line is too long.
+pub struct SheetReader {
+    pub len: usize,
+    pub held: SheetState,
+}
+
+// The bytes of a chunk, all of them. Nothing is printed before the end.
+pub fn feed(st: SheetReader, chunk: &[u8], begun: &mut [u8], table: &mut [f64]) -> SheetReader
+    requires begun { ⌜ length (now begun) ≡ widest ⌝ }
+    requires held { ⌜ countOf (st .held) ≤ most ⌝ }
+    requires table { ⌜ length (now table) ≡ most ⌝ }
+    ensures fed { λ r. ⌜ Fed sheetProgram (stateOf st (now (begun .entry)) (now (table .entry))) (now (chunk .entry))
+        (stateOf r (now (begun .exit)) (now (table .exit))) [] 0 [] 0 ⌝ }
+    ensures count_after { λ r. ⌜ countOf (r .held) ≤ most ⌝ }
+{
+    let mut len = st.len;
+    let mut held = st.held;
+    let mut i = 0;
+    while i < chunk.len() {
+        let c = lines_machine::cut(chunk, i, len, &mut *begun);
+        len = c.len;
+        i = c.stop;
+        if i < chunk.len() {
+            held = line(held, len, &begun[..], &mut *table);
+            len = 0;
+            i += 1;
+        }
+    }
+    SheetReader {
+        len: len,
+        held: held,
+    }
+}
+
+// The end of the input: a last line may lack its LF.
+pub fn finish(st: SheetReader, begun: &[u8], table: &mut [f64], out: &mut [u8]) -> usize
+    requires begun { ⌜ length (now begun) ≡ widest ⌝ }
+    requires held { ⌜ countOf (st .held) ≤ most ⌝ }
+    requires table { ⌜ length (now table) ≡ most ⌝ }
+    requires room { ⌜ longest ≤ length (now out) ⌝ }
+    ensures text { λ r. ⌜ Wrote (now (out .entry)) 0 (endOf sheetProgram (stateOf st (now (begun .entry)) (now (table .entry)))) (now (out .exit)) r ⌝ }
+    ensures short { λ r. ⌜ r ≤ longest ⌝ }
+{
+    let len = st.len;
+    let held = st.held;
+    if len == 0 {
+        return end(held, &table[..], out, 0);
+    }
+    let after = line(held, len, begun, &mut *table);
+    end(after, &table[..], out, 0)
 }

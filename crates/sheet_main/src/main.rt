@@ -1,4 +1,40 @@
-// bin/sheet, the reader of sheets.
+// bin/sheet, the reader of sheets: it reads, feeds and at the end writes, in fixed memory.
+ghost use mathlib.Core.Path.{_≡_};
+ghost use Prim.Native.Nat.{_≤_};
+ghost use lib.ListN.{length};
+ghost use Rattle.lines_machine.specs.Program.{widest};
+ghost use Rattle.lines_reply.specs.Contract.{longest};
+ghost use Rattle.sheet.specs.Sheet.{most};
+use sheet::SheetReader;
+use sheet::SheetState;
+
+// The whole input; its end is written where nothing failed.
+fn whole(chunk: &mut [u8], begun: &mut [u8], table: &mut [f64], out: &mut [u8])
+    requires begun { ⌜ length (now begun) ≡ widest ⌝ }
+    requires table { ⌜ length (now table) ≡ most ⌝ }
+    requires room { ⌜ longest ≤ length (now out) ⌝ }
+{
+    let mut st = SheetReader {
+        len: 0,
+        held: SheetState::Unbegun,
+    };
+    let mut fine = true;
+    let mut left = u64::MAX;
+    while left > 0 {
+        let got = stream::read(&mut *chunk);
+        let n = got.n;
+        st = sheet::feed(st, &chunk[0..n], &mut *begun, &mut *table);
+        fine = got.fine;
+        left = stream::left(left, got.more);
+    }
+    let at = sheet::finish(st, &begun[..], table, &mut *out);
+    stream::written(fine, &out[0..at]);
+}
+
 fn main() {
-    lines_io::run(lines_programs::sheet_program());
+    let mut table = [0.0; 4096];
+    let mut begun = [0u8; 64];
+    let mut chunk = [0u8; 65536];
+    let mut out = [0u8; 90145];
+    whole(&mut chunk, &mut begun, &mut table, &mut out);
 }

@@ -1,0 +1,1 @@
+// What the programs over lines print, of the contracts of their calls as callers get them: proofs/.
