@@ -51,7 +51,7 @@ use Rattle.exports_reply.specs.declared.BasisChoice.the-variants.{Known, Unknow
 use Rattle.exports_reply.specs.Replies.{chosenOf, noBasis, chosen}
 use Rattle.exports_value.specs.Claims.{claimedReply, holdsLeft}
 use Rattle.simmerstoat.proofs.claims.simmerstoat_check_claim.Reads as c_check_claim
-use Rattle.promises.specs.Calls.{AsksNothing, Keeps, OneReply, Exactly}
+use Rattle.calls.specs.Calls.{AsksNothing, Keeps, OneReply, Exactly}
 use Rattle.promises.proofs.Orders.{Ordered}
 use Rattle.promises.proofs.Exports.{NotZero}
 

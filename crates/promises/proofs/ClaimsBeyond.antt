@@ -56,7 +56,7 @@ use Rattle.uneven.specs.declared.DepthAnswer.{DepthAnswer}
 use Rattle.uneven.specs.declared.DepthAnswer.the-variants as S
 use Rattle.uneven.specs.Uneven.{depthAt, sounded, depthUses, depthOf}
 use Rattle.uneven.proofs.depth_at.Reads as depth_at
-use Rattle.promises.specs.Calls.{Keeps}
+use Rattle.calls.specs.Calls.{Keeps}
 use Rattle.promises.proofs.Claims.{Accepts, accepting, default-fits}
 use Rattle.promises.proofs.Seconds.{past, at-second}
 

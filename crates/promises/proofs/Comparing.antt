@@ -17,7 +17,7 @@ use Rattle.compare_lines.proofs.Refusals.{any-rebuilds}
 use Rattle.lines_programs.specs.Programs.{comparing}
 use Rattle.lines_programs.proofs.Within.{compare-within}
 use Rattle.lines_finish.proofs.finish.Reads as finish
-use Rattle.promises.specs.Calls.{Keeps}
+use Rattle.calls.specs.Calls.{Keeps}
 use Rattle.promises.proofs.Programs.{So, finish-ends, alone}
 
 module _ (x : List ℕ) (xs ys : List (List ℕ)) (t : Table) (ks : List ℕ) (u : Table) (ls : List ℕ)

@@ -20,7 +20,7 @@ use Rattle.inverse.proofs.Promises.{Promised, Pass, Quiet, Premise, Nowhere}
 use Rattle.inverse.proofs.spline_inverse_by.Reads as spline_inverse_by
 use Rattle.inverse.proofs.spline_inverse_with.Reads as spline_inverse_with
 use Rattle.inverse.proofs.spline_inverse.Reads as spline_inverse
-use Rattle.promises.specs.Calls.{Keeps}
+use Rattle.calls.specs.Calls.{Keeps}
 use Rattle.promises.proofs.Inverting.{spline-inverse-by-promised, spline-inverse-with-promised, spline-inverse-promised}
 use Rattle.promises.proofs.Numbers.{InverseNumber, spline-inverse-by-number, spline-inverse-with-number, spline-inverse-number}
 

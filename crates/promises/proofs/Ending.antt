@@ -22,7 +22,7 @@ use Rattle.inverse_order.specs.declared.EndsBy.{EndsBy}
 use Rattle.inverse.specs.Inverse.{inverseBy}
 use Rattle.inverse.proofs.Timely.{Within, timely}
 use Rattle.inverse.proofs.spline_inverse_by.Reads as spline_inverse_by
-use Rattle.promises.specs.Calls.{Keeps}
+use Rattle.calls.specs.Calls.{Keeps}
 
 -- ---- a curve
 in-time : (m : EndsBy) (how : Method) (b : Basis) (y : Float) (ks : List Float) (check : Bool) (limit : ℕ) (ε : Float) (N : ℕ) (r : Inversion)

@@ -24,7 +24,7 @@ use Rattle.spline.proofs.spline_segment.Reads as spline_segment
 use Rattle.spline_exact.specs.Exact.{isExact, exactOf, WholeKnots, Answers}
 use Rattle.spline_exact.proofs.Call.{segment-answers, curve-answers}
 use Rattle.spline_exact.proofs.Bspline.{ones, belowOne, bspline-answers}
-use Rattle.promises.specs.Calls.{Keeps}
+use Rattle.calls.specs.Calls.{Keeps}
 
 -- four whole knots at j/256: the call answers a value, and 2^25 times it is the cubic's whole number
 pub spline-segment-exact : Keeps spline_segment.Learnt

@@ -27,7 +27,7 @@ use Rattle.simmerstoat.proofs.simmerstoat_spline_inverse_segment.Reads as splin
 use Rattle.simmerstoat.proofs.simmerstoat_spline_inverse_segment_with.Reads as spline_inverse_segment_with
 use Rattle.simmerstoat.proofs.simmerstoat_convert_segment.Reads as convert_segment
 use Rattle.simmerstoat.proofs.simmerstoat_convert_spline.Reads as convert_spline
-use Rattle.promises.specs.Calls.{AsksNothing, Keeps}
+use Rattle.calls.specs.Calls.{AsksNothing, Keeps}
 
 -- ---- no export asks anything of its caller
 pub is-len-ok-asks-nothing : AsksNothing is_len_ok.Asked

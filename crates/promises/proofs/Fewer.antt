@@ -18,7 +18,7 @@ use Rattle.inverse.proofs.Fewer.{Fewer, twice, inverse-fewer}
 use Rattle.inverse.proofs.spline_inverse_by.Reads as spline_inverse_by
 use Rattle.inverse.proofs.spline_inverse_with.Reads as spline_inverse_with
 use Rattle.inverse.proofs.spline_inverse.Reads as spline_inverse
-use Rattle.promises.specs.Calls.{Keeps}
+use Rattle.calls.specs.Calls.{Keeps}
 
 pub reply-fewer : (m : EndsBy) (how : Method) (b : Basis) (y : Float) (ks : List Float) (check : Bool) (limit : ℕ) (ε : Float) (r : Inversion)
     → r ≡ inverseBy m how b y ks check limit ε → Fewer 2 r (twice m how b y ks check limit ε)

@@ -37,7 +37,7 @@ use Rattle.inverse.proofs.Promises.{Promised, reply-promised}
 use Rattle.inverse.proofs.spline_inverse_by.Reads as spline_inverse_by
 use Rattle.inverse.proofs.spline_inverse_with.Reads as spline_inverse_with
 use Rattle.inverse.proofs.spline_inverse.Reads as spline_inverse
-use Rattle.promises.specs.Calls.{Keeps}
+use Rattle.calls.specs.Calls.{Keeps}
 
 -- ---- a curve
 -- by either rule of the ends and any method

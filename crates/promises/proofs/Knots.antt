@@ -46,7 +46,7 @@ use Rattle.promises.proofs.Refusing.{
   convert-segment-refuses,
   convert-spline-refuses,
 }
-use Rattle.promises.specs.Calls.{Keeps}
+use Rattle.calls.specs.Calls.{Keeps}
 
 -- ---- 4
 -- knot i is out of range, and none before it

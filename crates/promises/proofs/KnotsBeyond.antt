@@ -46,7 +46,7 @@ use Rattle.uneven.proofs.depth_at.Reads as depth_at
 use Rattle.valve.specs.declared.Mixture.the-variants as M
 use Rattle.valve.specs.Mix.{knotOf, small, firstLarge, mixUses}
 use Rattle.valve.proofs.mix.Reads as mix
-use Rattle.promises.specs.Calls.{Keeps}
+use Rattle.calls.specs.Calls.{Keeps}
 use Rattle.promises.proofs.Knots.{FirstBad, knot-first}
 use Rattle.promises.proofs.Claims.{check-claim-checked}
 use Rattle.promises.proofs.Seconds.{table-spline-refuses, table-spline-inverse-by-refuses, table-spline-inverse-refuses, table-convert-spline-refuses}

@@ -35,7 +35,7 @@ use Rattle.convert.specs.Conversion.{convertSegmentUses, convertUses}
 use Rattle.convert.specs.Buffer.{convertedNumber}
 use Rattle.convert.proofs.convert_segment.Reads as convert_segment
 use Rattle.convert.proofs.convert_spline.Reads as convert_spline
-use Rattle.promises.specs.Calls.{Keeps, Exactly}
+use Rattle.calls.specs.Calls.{Keeps, Exactly}
 use Rattle.promises.specs.Numbers.{numberIn, numberBy, Counts}
 use Rattle.promises.proofs.Refusing.{
   spline-refuses,

@@ -43,7 +43,7 @@ use Rattle.valve.specs.declared.Mixture.{Mixture}
 use Rattle.valve.specs.declared.Mixture.the-variants as M
 use Rattle.valve.specs.Mix.{mixUses}
 use Rattle.valve.proofs.mix.Reads as mix
-use Rattle.promises.specs.Calls.{Keeps}
+use Rattle.calls.specs.Calls.{Keeps}
 use Rattle.promises.specs.Numbers.{
   numberIn,
   numberBy,

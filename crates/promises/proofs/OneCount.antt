@@ -52,7 +52,7 @@ use Rattle.simmerstoat.proofs.steady.simmerstoat_table_spline_inverse_steady.Re
 use Rattle.simmerstoat.proofs.spans.simmerstoat_table_spline_inverse.Reads as table_spline_inverse
 use Rattle.simmerstoat.proofs.spans.simmerstoat_table_spline_inverse_by.Reads as table_spline_inverse_by
 use Rattle.simmerstoat.proofs.hours.simmerstoat_depth_at.Reads as depth_at
-use Rattle.promises.specs.Calls.{Keeps}
+use Rattle.calls.specs.Calls.{Keeps}
 use Rattle.promises.proofs.Refusing.{segment-place-refused}
 use Rattle.promises.proofs.Seconds.{table-place-refused}
 

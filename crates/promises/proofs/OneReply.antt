@@ -25,7 +25,7 @@ use Rattle.simmerstoat.proofs.simmerstoat_spline_inverse_segment.Reads as c_spl
 use Rattle.simmerstoat.proofs.simmerstoat_spline_inverse_segment_with.Reads as c_spline_inverse_segment_with
 use Rattle.simmerstoat.proofs.simmerstoat_convert_segment.Reads as c_convert_segment
 use Rattle.simmerstoat.proofs.simmerstoat_convert_spline.Reads as c_convert_spline
-use Rattle.promises.specs.Calls.{OneReply}
+use Rattle.calls.specs.Calls.{OneReply}
 
 one : {A : Type 0} {d x x′ : A} → x ≡ d → x′ ≡ d → x ≡ x′
 one p q = p ∙ sym q

@@ -21,7 +21,7 @@ use Rattle.exports_reply.specs.Replies.{chosenOf, noBasis, chosen, invertedRepl
 use Rattle.exports_reply.specs.Options.{wayOf, way}
 use Rattle.simmerstoat.proofs.options.simmerstoat_spline_inverse_by.Reads as spline_inverse_by
 use Rattle.simmerstoat.proofs.options.simmerstoat_spline_inverse_segment_by.Reads as spline_inverse_segment_by
-use Rattle.promises.specs.Calls.{AsksNothing, Keeps, OneReply}
+use Rattle.calls.specs.Calls.{AsksNothing, Keeps, OneReply}
 use Rattle.promises.proofs.Exports.{NotZero}
 
 -- ---- neither asks anything of its caller

@@ -51,7 +51,7 @@ use Rattle.lines.specs.Lines.{says, lineProgram}
 use Rattle.lines.proofs.Replies.{saysOf, repliesOf, textsOf, curveAfter, in-order, output-replies}
 use Rattle.claims.specs.declared.ClaimRecord.the-variants.{Claim}
 use Rattle.claims.specs.Claims.{says as saysClaim, claimText, checkText, tellsOf, claimsProgram}
-use Rattle.promises.specs.Calls.{Keeps}
+use Rattle.calls.specs.Calls.{Keeps}
 use Rattle.promises.proofs.Knots.{FirstBad, knot-first}
 use Rattle.promises.proofs.KnotsBeyond.{FirstTurn, turn-first, check-claim-first-bad}
 use Rattle.promises.proofs.Refusing.{value-refused, conversion-refused}

@@ -26,7 +26,7 @@ use Rattle.lines_programs.proofs.picture_program.Reads as picture_program
 use Rattle.lines_feed.proofs.step.Reads as step
 use Rattle.lines_finish.proofs.finish.Reads as finish
 use Rattle.lines_feed.proofs.feed.Reads as feed
-use Rattle.promises.specs.Calls.{Keeps, OneReply}
+use Rattle.calls.specs.Calls.{Keeps, OneReply}
 
 one : {A : Type 0} {d x x′ : A} → x ≡ d → x′ ≡ d → x ≡ x′
 one p q = p ∙ sym q

@@ -46,7 +46,7 @@ use Rattle.convert.specs.Conversion.{Conversion, gives, refuses, unless, conver
 use Rattle.convert.specs.Buffer.{answerOf, bufferOf}
 use Rattle.convert.proofs.convert_segment.Reads as convert_segment
 use Rattle.convert.proofs.convert_spline.Reads as convert_spline
-use Rattle.promises.specs.Calls.{AsksNothing, Keeps, Exactly}
+use Rattle.calls.specs.Calls.{AsksNothing, Keeps, Exactly}
 
 -- ---- no call asks anything of its caller
 pub number-asks-nothing : AsksNothing number.Asked

@@ -59,7 +59,7 @@ use Rattle.table.proofs.table_spline.Reads as table_spline
 use Rattle.table.proofs.table_spline_inverse_by.Reads as table_spline_inverse_by
 use Rattle.table.proofs.table_spline_inverse.Reads as table_spline_inverse
 use Rattle.table.proofs.table_convert_spline.Reads as table_convert_spline
-use Rattle.promises.specs.Calls.{AsksNothing, Keeps, OneReply, Exactly}
+use Rattle.calls.specs.Calls.{AsksNothing, Keeps, OneReply, Exactly}
 use Rattle.promises.proofs.Refusing.{value-refused}
 
 -- ---- no call asks anything of its caller

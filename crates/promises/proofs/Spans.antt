@@ -33,7 +33,7 @@ use Rattle.simmerstoat.proofs.spans.simmerstoat_table_spline_inverse.Reads as t
 use Rattle.simmerstoat.proofs.spans.simmerstoat_table_spline_inverse_by.Reads as table_spline_inverse_by
 use Rattle.simmerstoat.proofs.spans.simmerstoat_table_convert_spline.Reads as table_convert_spline
 use Rattle.simmerstoat.proofs.spans.simmerstoat_table_convert_spline_strict.Reads as table_convert_spline_strict
-use Rattle.promises.specs.Calls.{AsksNothing, Keeps, OneReply}
+use Rattle.calls.specs.Calls.{AsksNothing, Keeps, OneReply}
 use Rattle.promises.proofs.Exports.{NotZero}
 
 -- ---- none asks anything of its caller

@@ -72,7 +72,7 @@ use Rattle.inverse_methods.proofs.spline_inverse_segment_by.Reads as spline_inv
 use Rattle.inverse.proofs.spline_inverse_by.Reads as spline_inverse_by
 use Rattle.inverse.proofs.spline_inverse_with.Reads as spline_inverse_with
 use Rattle.inverse.proofs.spline_inverse.Reads as spline_inverse
-use Rattle.promises.specs.Calls.{Keeps}
+use Rattle.calls.specs.Calls.{Keeps}
 
 abbrev pub IsSpent : Ground → Type 0
 IsSpent End = ⊥

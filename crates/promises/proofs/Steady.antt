@@ -55,7 +55,7 @@ use Rattle.exports_table.specs.Tables.{tableOf}
 use Rattle.simmerstoat.proofs.steady.simmerstoat_spline_inverse_steady.Reads as c_spline_inverse_steady
 use Rattle.simmerstoat.proofs.steady.simmerstoat_spline_inverse_segment_steady.Reads as c_spline_inverse_segment_steady
 use Rattle.simmerstoat.proofs.steady.simmerstoat_table_spline_inverse_steady.Reads as c_table_spline_inverse_steady
-use Rattle.promises.specs.Calls.{AsksNothing, Keeps, OneReply, Exactly}
+use Rattle.calls.specs.Calls.{AsksNothing, Keeps, OneReply, Exactly}
 use Rattle.promises.specs.Numbers.{timedNumber}
 use Rattle.promises.proofs.Eleven.{Eleven, by-eleven}
 use Rattle.promises.proofs.Exports.{NotZero, place-kept, whole-kept}

@@ -28,7 +28,7 @@ use Rattle.exports_reply.specs.Replies.{chosenOf}
 use Rattle.simmerstoat.proofs.seams.simmerstoat_convert_spline_strict.Reads as c_convert_spline_strict
 use Rattle.promises.proofs.Orders.{Ordered}
 use Rattle.promises.proofs.Exports.{NotZero, out-kept, length-kept}
-use Rattle.promises.specs.Calls.{AsksNothing, Keeps, OneReply, Exactly}
+use Rattle.calls.specs.Calls.{AsksNothing, Keeps, OneReply, Exactly}
 
 -- ---- demand 1
 pub strict-asks-nothing : AsksNothing convert_spline_strict.Asked

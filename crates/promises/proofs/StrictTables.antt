@@ -27,7 +27,7 @@ use Rattle.table_span.specs.Second.{goodSpan, badSpan}
 use Rattle.table.specs.Calls.{tableConvertedOf, tableStrictOf, handedOf}
 use Rattle.table.proofs.Spans.{converted-base, converted-spanless, strict-base, strict-spanless}
 use Rattle.table.proofs.table_convert_spline_strict.Reads as table_convert_spline_strict
-use Rattle.promises.specs.Calls.{AsksNothing, Keeps, OneReply, Exactly}
+use Rattle.calls.specs.Calls.{AsksNothing, Keeps, OneReply, Exactly}
 use Rattle.promises.proofs.Orders.{Ordered}
 use Rattle.promises.proofs.Seconds.{table-strict-refused, carried, kept}
 

@@ -45,7 +45,7 @@ use Rattle.exports_reply.specs.declared.BasisChoice.the-variants.{Known, Unknow
 use Rattle.exports_reply.specs.Replies.{chosenOf, noBasis, chosen}
 use Rattle.exports_value.specs.Uneven.{soundedReply, depthLeft, depthPlaceLeft, depthWholeLeft}
 use Rattle.simmerstoat.proofs.hours.simmerstoat_depth_at.Reads as c_depth_at
-use Rattle.promises.specs.Calls.{AsksNothing, Keeps, OneReply, Exactly}
+use Rattle.calls.specs.Calls.{AsksNothing, Keeps, OneReply, Exactly}
 use Rattle.promises.proofs.Orders.{Ordered}
 use Rattle.promises.proofs.Exports.{NotZero}
 

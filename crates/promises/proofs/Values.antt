@@ -37,7 +37,7 @@ use Rattle.convert.proofs.Kept.{spline-length, segment-length, beyond-stays}
 use Rattle.convert.proofs.Verdicts.{segment-passed, spline-passed}
 use Rattle.convert.proofs.convert_segment.Reads as convert_segment
 use Rattle.convert.proofs.convert_spline.Reads as convert_spline
-use Rattle.promises.specs.Calls.{Keeps}
+use Rattle.calls.specs.Calls.{Keeps}
 use Rattle.promises.specs.Windows.{appliedSteps, windowSteps}
 
 -- ---- evaluation

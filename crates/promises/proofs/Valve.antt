@@ -25,7 +25,7 @@ use Rattle.valve.specs.Mix.{weightOf, mixOf, mixUses, mixture, mixtureOf, mixtu
 use Rattle.valve.proofs.Between.{Between, mixed-between}
 use Rattle.valve.proofs.mix.Reads as mix
 use Rattle.valve.proofs.simmerstoat_valve.Reads as c_valve
-use Rattle.promises.specs.Calls.{AsksNothing, Keeps, OneReply, Exactly}
+use Rattle.calls.specs.Calls.{AsksNothing, Keeps, OneReply, Exactly}
 use Rattle.promises.proofs.Orders.{Ordered}
 
 -- ---- the call

@@ -12,7 +12,7 @@ use Rattle.decimals.specs.Decimals.{decimalsProgram}
 use Rattle.decimals.specs.Contract.{stateOf}
 use Rattle.decimals.proofs.feed.Reads as feed
 use Rattle.decimals.proofs.finish.Reads as finish
-use Rattle.promises_programs.specs.Calls.{Keeps}
+use Rattle.calls.specs.Calls.{Keeps}
 
 -- before the first byte
 pub decimals-begins : (begun : List ℕ) → So decimalsProgram tt (stateOf 0 begun) [] []

@@ -15,7 +15,7 @@ use Rattle.lines.specs.Lines.{lineProgram}
 use Rattle.lines.specs.Contract.{stateOf}
 use Rattle.lines.proofs.feed.Reads as feed
 use Rattle.lines.proofs.finish.Reads as finish
-use Rattle.promises_programs.specs.Calls.{Keeps}
+use Rattle.calls.specs.Calls.{Keeps}
 
 -- before the first byte
 pub lines-begins : (begun : List ℕ) (table : List Float) → So lineProgram none (stateOf (record { len = 0; held = Nothing }) begun table) [] []

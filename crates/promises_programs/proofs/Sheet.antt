@@ -13,7 +13,7 @@ use Rattle.sheet.specs.Sheet.{unbegun, sheetProgram}
 use Rattle.sheet.specs.Contract.{stateOf}
 use Rattle.sheet.proofs.feed.Reads as feed
 use Rattle.sheet.proofs.finish.Reads as finish
-use Rattle.promises_programs.specs.Calls.{Keeps}
+use Rattle.calls.specs.Calls.{Keeps}
 
 -- before the first byte
 pub sheet-begins : (begun : List ℕ) (table : List Float) → So sheetProgram unbegun (stateOf (record { len = 0; held = Unbegun }) begun table) [] []
