@@ -9,13 +9,13 @@ static int missed;
 static void expect(const char *what, uint32_t reply, uint32_t wanted) {
     if (reply != wanted) {
         missed++;
-        printf("%s: %u, not %u\n", what, reply, wanted);
+        printf("%s: %u, not %u\n", what, (unsigned)reply, (unsigned)wanted);
     }
 }
 
 /* the claim that holds, or differs; on a refusal nothing is written */
-static void claim(const char *what, uint8_t basis, double y, size_t segment, double local, double precision,
-                  const double *knots, size_t n, uint32_t reply, bool holds) {
+static void claim(const char *what, uint8_t basis, double y, uint64_t segment, double local, double precision,
+                  const double *knots, uint64_t n, uint32_t reply, bool holds) {
     for (int old = 0; old < 2; old++) {
         bool told = old;
         expect(what, simmerstoat_check_claim(basis, y, segment, local, precision, knots, n, &told), reply);
@@ -24,11 +24,11 @@ static void claim(const char *what, uint8_t basis, double y, size_t segment, dou
 }
 
 /* an answer by value or edge holds as a claim; how many did, of how many */
-static size_t own(uint8_t basis, const double *knots, size_t n, uint8_t ends, uint8_t method, size_t *made) {
-    size_t held = 0;
+static uint64_t own(uint8_t basis, const double *knots, uint64_t n, uint8_t ends, uint8_t method, uint64_t *made) {
+    uint64_t held = 0;
     for (int i = 0; i <= 200; i++) {
         double y = knots[0] + (knots[n - 1] - knots[0]) * i / 200.0, place[4];
-        size_t whole[3];
+        uint64_t whole[3];
         if (simmerstoat_spline_inverse_by(basis, y, knots, n, false, 32, 1e-10, ends, method, place, whole)) continue;
         if (whole[SIMMERSTOAT_GROUND] != SIMMERSTOAT_VALUE && whole[SIMMERSTOAT_GROUND] != SIMMERSTOAT_EDGE) continue;
         bool told = false;
@@ -65,16 +65,16 @@ int main(void) {
     claim("no precision", SIMMERSTOAT_LINEAR, 0, 9, 0, 0, bad, 5, SIMMERSTOAT_BAD_PRECISION, false);
     claim("infinite precision", SIMMERSTOAT_LINEAR, 0, 9, 0, INFINITY, bad, 5, SIMMERSTOAT_BAD_PRECISION, false);
     claim("no segment", SIMMERSTOAT_LINEAR, 0, 2, 0, 1, bad, 5, SIMMERSTOAT_NO_SEGMENT, false);
-    claim("no segment at all", SIMMERSTOAT_LINEAR, 0, SIZE_MAX, 0, 1, bad, 5, SIMMERSTOAT_NO_SEGMENT, false);
+    claim("no segment at all", SIMMERSTOAT_LINEAR, 0, UINT64_MAX, 0, 1, bad, 5, SIMMERSTOAT_NO_SEGMENT, false);
     claim("a bad knot", SIMMERSTOAT_LINEAR, 0, 1, 0, 1, bad, 5, SIMMERSTOAT_BAD_KNOT + 256 * 2, false);
     claim("a bad knot beyond the segment", SIMMERSTOAT_LINEAR, 0, 0, 0, 1, bad, 5, SIMMERSTOAT_BAD_KNOT + 256 * 2, false);
 
     for (uint8_t ends = 0; ends < 2; ends++)
         for (uint8_t method = 0; method < 3; method++) {
-            size_t made = 0;
+            uint64_t made = 0;
             for (uint8_t basis = 0; basis < 6; basis++) {
-                size_t n = 10 - (basis == SIMMERSTOAT_POWER ? 2 : 0);
-                size_t before = made, held = own(basis, night, n, ends, method, &made);
+                uint64_t n = 10 - (basis == SIMMERSTOAT_POWER ? 2 : 0);
+                uint64_t before = made, held = own(basis, night, n, ends, method, &made);
                 expect("own answers that hold", (uint32_t)held, (uint32_t)(made - before));
             }
             if (made < 100) expect("own answers", (uint32_t)made, 100);

@@ -7,10 +7,10 @@
 #include <string.h>
 
 static const double KEPT = -77.25;
-static const size_t KEPT_WHOLE = 987654321;
+static const uint64_t KEPT_WHOLE = 987654321;
 
 static double value, place[4], out[64];
-static size_t whole[3], written;
+static uint64_t whole[3], written;
 static int checked;
 
 static void reset(void) {
@@ -33,41 +33,41 @@ static void expect(const char *what, uint32_t wanted, uint32_t reply) {
     checked++;
     int wrote = wanted != SIMMERSTOAT_DONE && !untouched(wanted == SIMMERSTOAT_OFF_CURVE);
     if (reply != wanted || wrote) {
-        printf("%s: reply %u at %u, expected %u at %u%s\n", what, SIMMERSTOAT_NUMBER(reply), SIMMERSTOAT_PLACE(reply),
-               SIMMERSTOAT_NUMBER(wanted), SIMMERSTOAT_PLACE(wanted), wrote ? ", and something was written" : "");
+        printf("%s: reply %u at %u, expected %u at %u%s\n", what, (unsigned)SIMMERSTOAT_NUMBER(reply), (unsigned)SIMMERSTOAT_PLACE(reply),
+               (unsigned)SIMMERSTOAT_NUMBER(wanted), (unsigned)SIMMERSTOAT_PLACE(wanted), wrote ? ", and something was written" : "");
         exit(1);
     }
     reset();
 }
 
 /* A refusal's number with the place that it tells. */
-static uint32_t told(uint32_t number, size_t place_told) { return number + 256 * (uint32_t)place_told; }
+static uint32_t told(uint32_t number, uint64_t place_told) { return number + 256 * (uint32_t)place_told; }
 
 /* The calls, short: everything that they write is global. */
-static uint32_t at(int b, double x, const double *k, size_t n) { return simmerstoat_spline(b, x, k, n, &value); }
-static uint32_t at_one(int b, double x, const double *k, size_t n) { return simmerstoat_spline_segment(b, x, k, n, &value); }
-static uint32_t find(int b, double y, const double *k, size_t n, bool check, uint16_t limit, double precision) {
+static uint32_t at(int b, double x, const double *k, uint64_t n) { return simmerstoat_spline(b, x, k, n, &value); }
+static uint32_t at_one(int b, double x, const double *k, uint64_t n) { return simmerstoat_spline_segment(b, x, k, n, &value); }
+static uint32_t find(int b, double y, const double *k, uint64_t n, bool check, uint16_t limit, double precision) {
     return simmerstoat_spline_inverse_with(b, y, k, n, check, limit, precision, place, whole);
 }
-static uint32_t find_one(int b, double y, const double *k, size_t n, uint16_t limit, double precision) {
+static uint32_t find_one(int b, double y, const double *k, uint64_t n, uint16_t limit, double precision) {
     return simmerstoat_spline_inverse_segment_with(b, y, k, n, limit, precision, place, whole);
 }
-static uint32_t find_default(int b, double y, const double *k, size_t n) {
+static uint32_t find_default(int b, double y, const double *k, uint64_t n) {
     return simmerstoat_spline_inverse(b, y, k, n, true, place, whole);
 }
-static uint32_t find_one_default(int b, double y, const double *k, size_t n) {
+static uint32_t find_one_default(int b, double y, const double *k, uint64_t n) {
     return simmerstoat_spline_inverse_segment(b, y, k, n, place, whole);
 }
-static uint32_t find_by(int b, double y, const double *k, size_t n, bool check, int ends, int method) {
+static uint32_t find_by(int b, double y, const double *k, uint64_t n, bool check, int ends, int method) {
     return simmerstoat_spline_inverse_by(b, y, k, n, check, 32, 1e-10, ends, method, place, whole);
 }
-static uint32_t find_one_by(int b, double y, const double *k, size_t n, int method) {
+static uint32_t find_one_by(int b, double y, const double *k, uint64_t n, int method) {
     return simmerstoat_spline_inverse_segment_by(b, y, k, n, 32, 1e-10, method, place, whole);
 }
-static uint32_t turn(int from, int to, const double *k, size_t n, size_t room) {
+static uint32_t turn(int from, int to, const double *k, uint64_t n, uint64_t room) {
     return simmerstoat_convert_spline(from, to, k, n, room ? out : NULL, room, &written);
 }
-static uint32_t turn_one(int from, int to, const double *k, size_t n, size_t room) {
+static uint32_t turn_one(int from, int to, const double *k, uint64_t n, uint64_t room) {
     return simmerstoat_convert_segment(from, to, k, n, room ? out : NULL, room);
 }
 
@@ -86,7 +86,7 @@ static void lengths(void) {
     expect("null, turn", 1, turn(LINEAR, BEZIER, NULL, 0, 0));
     expect("null, turn_one", 1, turn_one(LINEAR, BEZIER, NULL, 0, 0));
     expect("null, no basis", 255, at(6, 0.5, NULL, 0));
-    for (size_t n = 0; n < 4; n++) {
+    for (uint64_t n = 0; n < 4; n++) {
         expect("few, at", 1, at(BEZIER, 0.5, zeros, n));
         expect("few, turn", 1, turn(BEZIER, BEZIER, zeros, n, 64));
     }
@@ -161,10 +161,10 @@ static void knots(void) {
 
 /* The longest table, with a fault at its first knot, its second, in the middle, at its last; with two; and with one of each kind. */
 static double many[4096];
-static const size_t LAST = 4095;
+static const uint64_t LAST = 4095;
 
 static void rising(void) {
-    for (size_t i = 0; i <= LAST; i++) many[i] = (double)i;
+    for (uint64_t i = 0; i <= LAST; i++) many[i] = (double)i;
 }
 
 static void every(const char *what, uint32_t wanted, uint32_t unchecked) {
@@ -177,7 +177,7 @@ static void every(const char *what, uint32_t wanted, uint32_t unchecked) {
 }
 
 static void places(void) {
-    const size_t faults[] = {0, 1, 2048, LAST - 1, LAST};
+    const uint64_t faults[] = {0, 1, 2048, LAST - 1, LAST};
     for (int i = 0; i < 5; i++) {
         rising();
         many[faults[i]] = NAN;
@@ -199,7 +199,7 @@ static void places(void) {
     rising();
     many[2] = 0.5;
     every("the first step", told(10, 1), 0);
-    for (size_t i = 0; i <= LAST; i++) many[i] = -(double)i;
+    for (uint64_t i = 0; i <= LAST; i++) many[i] = -(double)i;
     many[17] = 3.0;
     every("falling, one turn", told(10, 16), 0);
     /* a bad knot after a turning back, and before it: 4 comes first */
@@ -252,6 +252,7 @@ static void counts(void) {
 int main(void) {
     const double k[] = {0.0, 0.0, 1.0, 1.0};
     reset();
+    expect("the version", SIMMERSTOAT_VERSION, simmerstoat_version());
     lengths();
     arguments(k);
     knots();

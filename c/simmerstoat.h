@@ -5,6 +5,7 @@
  * What a caller owes
  *   - A pointer with a length is good for that many doubles; it may be null where the length is 0. Each other pointer
  *     is good for what it points to. The knots may be anything, NaN too.
+ *   - Every length, whole number and count is 64 bits wide on every processor, where a size_t is 32 bits too.
  *   - What is written overlaps nothing else that the call is lent: not the knots, and no other output. Two pointers
  *     that are only read may be the same.
  *   - The caller's floating-point state: round to nearest, no flush to zero, no denormals taken as zero. It is a premise
@@ -28,18 +29,26 @@
 #ifndef SIMMERSTOAT_H
 #define SIMMERSTOAT_H
 
+#include <float.h>
 #include <stdbool.h>
-#include <stddef.h>
 #include <stdint.h>
 
 #ifdef __cplusplus
 extern "C" {
 #endif
 
-/* 0.2: replies are 32 bits wide and tell a place; 0.1 had 8. */
+#ifdef __cplusplus
+static_assert(sizeof(double) == 8 && DBL_MANT_DIG == 53, "a double has to be an IEEE 754 double");
+#else
+_Static_assert(sizeof(double) == 8 && DBL_MANT_DIG == 53, "a double has to be an IEEE 754 double");
+#endif
+
+/* One version for this header, the archive and the Rust package. 0.4: lengths, whole numbers and counts are 64 bits wide on
+ * every processor; 0.3: the Rust package's alone; 0.2: replies are 32 bits wide and tell a place; 0.1 had 8. */
 #define SIMMERSTOAT_VERSION_MAJOR 0
-#define SIMMERSTOAT_VERSION_MINOR 2
+#define SIMMERSTOAT_VERSION_MINOR 4
 #define SIMMERSTOAT_VERSION_PATCH 0
+#define SIMMERSTOAT_VERSION ((uint32_t)(SIMMERSTOAT_VERSION_MAJOR * 65536 + SIMMERSTOAT_VERSION_MINOR * 256 + SIMMERSTOAT_VERSION_PATCH))
 
 /* The knots of a curve at most. */
 #define SIMMERSTOAT_MOST_KNOTS 4096
@@ -123,65 +132,68 @@ enum {
     SIMMERSTOAT_STEADY = 2    /* kept to a pace by which the bracket narrows */
 };
 
+/* The archive's version: SIMMERSTOAT_VERSION, where this header belongs to it. */
+uint32_t simmerstoat_version(void);
+
 /* ATTENTION: 1 if n knots suit the basis, 0 if not, and 255, WHICH IS TRUE IN AN `if`, if there is no such basis. Write
  * simmerstoat_suits(basis, n) instead. It knows no upper bound: above 4,096 knots the calls refuse. */
-uint8_t simmerstoat_is_len_ok(uint8_t basis, size_t n);
+uint8_t simmerstoat_is_len_ok(uint8_t basis, uint64_t n);
 
 /* The value of the curve at x, which is clamped to 0 to 1. Refusals: 255, 1, 2, 3, 5, 4. */
-uint32_t simmerstoat_spline(uint8_t basis, double x, const double *knots, size_t n, double *value);
+uint32_t simmerstoat_spline(uint8_t basis, double x, const double *knots, uint64_t n, double *value);
 
 /* The value of one segment of four knots at x, from 0 to 1. Refusals: 255, 1, 2, 5, 4. */
-uint32_t simmerstoat_spline_segment(uint8_t basis, double x, const double *cv, size_t n, double *value);
+uint32_t simmerstoat_spline_segment(uint8_t basis, double x, const double *cv, uint64_t n, double *value);
 
 /* Where the curve is at y: limit 32, precision 1e-10. With check, knots that turn back are refused.
  * Refusals: 255, 1, 2, 3, 5, 4, 10, 11. */
-uint32_t simmerstoat_spline_inverse(uint8_t basis, double y, const double *knots, size_t n, bool check, double place[4],
-                                    size_t whole[3]);
+uint32_t simmerstoat_spline_inverse(uint8_t basis, double y, const double *knots, uint64_t n, bool check, double place[4],
+                                    uint64_t whole[3]);
 
 /* The same, with at most limit rounds, to the given precision. Refusals: 255, 1, 2, 3, 5, 6, 7, 4, 10, 11. */
-uint32_t simmerstoat_spline_inverse_with(uint8_t basis, double y, const double *knots, size_t n, bool check,
-                                         uint16_t limit, double precision, double place[4], size_t whole[3]);
+uint32_t simmerstoat_spline_inverse_with(uint8_t basis, double y, const double *knots, uint64_t n, bool check,
+                                         uint16_t limit, double precision, double place[4], uint64_t whole[3]);
 
 /* The same, with a rule of the ends and a method. Refusals: 255, 1, 2, 3, 5, 6, 7, 4, 10, 11. */
-uint32_t simmerstoat_spline_inverse_by(uint8_t basis, double y, const double *knots, size_t n, bool check, uint16_t limit,
-                                       double precision, uint8_t ends, uint8_t method, double place[4], size_t whole[3]);
+uint32_t simmerstoat_spline_inverse_by(uint8_t basis, double y, const double *knots, uint64_t n, bool check, uint16_t limit,
+                                       double precision, uint8_t ends, uint8_t method, double place[4], uint64_t whole[3]);
 
 /* By the steady method: limit 64, precision 1e-10, the ends by the knots. It never gives SIMMERSTOAT_SPENT, and makes at most
  * 63 evaluations on up to 12 segments and 43 + 2 b above, whatever the curve. Refusals: 255, 1, 2, 3, 5, 4, 10, 11. */
-uint32_t simmerstoat_spline_inverse_steady(uint8_t basis, double y, const double *knots, size_t n, bool check,
-                                           double place[4], size_t whole[3]);
+uint32_t simmerstoat_spline_inverse_steady(uint8_t basis, double y, const double *knots, uint64_t n, bool check,
+                                           double place[4], uint64_t whole[3]);
 
 /* Where one segment of four knots is at y: limit 32, precision 1e-10. Refusals: 255, 1, 2, 5, 4, 11. */
-uint32_t simmerstoat_spline_inverse_segment(uint8_t basis, double y, const double *cv, size_t n, double place[4],
-                                            size_t whole[3]);
+uint32_t simmerstoat_spline_inverse_segment(uint8_t basis, double y, const double *cv, uint64_t n, double place[4],
+                                            uint64_t whole[3]);
 
 /* The same, with at most limit rounds, to the given precision. Refusals: 255, 1, 2, 5, 6, 7, 4, 11. */
-uint32_t simmerstoat_spline_inverse_segment_with(uint8_t basis, double y, const double *cv, size_t n, uint16_t limit,
-                                                 double precision, double place[4], size_t whole[3]);
+uint32_t simmerstoat_spline_inverse_segment_with(uint8_t basis, double y, const double *cv, uint64_t n, uint16_t limit,
+                                                 double precision, double place[4], uint64_t whole[3]);
 
 /* The same, with a method. Refusals: 255, 1, 2, 5, 6, 7, 4, 11. */
-uint32_t simmerstoat_spline_inverse_segment_by(uint8_t basis, double y, const double *cv, size_t n, uint16_t limit,
-                                               double precision, uint8_t method, double place[4], size_t whole[3]);
+uint32_t simmerstoat_spline_inverse_segment_by(uint8_t basis, double y, const double *cv, uint64_t n, uint16_t limit,
+                                               double precision, uint8_t method, double place[4], uint64_t whole[3]);
 
 /* By the steady method: limit 64, precision 1e-10. It never gives SIMMERSTOAT_SPENT, and makes at most 41 evaluations.
  * Refusals: 255, 1, 2, 5, 4, 11. */
-uint32_t simmerstoat_spline_inverse_segment_steady(uint8_t basis, double y, const double *cv, size_t n, double place[4],
-                                                   size_t whole[3]);
+uint32_t simmerstoat_spline_inverse_segment_steady(uint8_t basis, double y, const double *cv, uint64_t n, double place[4],
+                                                   uint64_t whole[3]);
 
 /* The four knots of one segment in another basis, to the first four places of out, of which there are room; further
  * places keep what they hold. Refusals: 255, 1, 2, 8, 9, 4. */
-uint32_t simmerstoat_convert_segment(uint8_t from, uint8_t to, const double *cv, size_t n, double *out, size_t room);
+uint32_t simmerstoat_convert_segment(uint8_t from, uint8_t to, const double *cv, uint64_t n, double *out, uint64_t room);
 
 /* The knots of a curve in another basis: simmerstoat_room(from, to, n) places of out, and their number to written; further
  * places keep what they hold. Refusals: 255, 1, 2, 3, 8, 9, 4. */
-uint32_t simmerstoat_convert_spline(uint8_t from, uint8_t to, const double *knots, size_t n, double *out, size_t room,
-                                    size_t *written);
+uint32_t simmerstoat_convert_spline(uint8_t from, uint8_t to, const double *knots, uint64_t n, double *out, uint64_t room,
+                                    uint64_t *written);
 
 /* The same, refused where a seam would be lost: where a later segment would drop a converted knot that differs by more
  * than the allowance from the one that stands at its place of the output. The reply's place is the lowest such segment.
  * Where it does not refuse it is simmerstoat_convert_spline. Refusals: 255, 1, 2, 3, 8, 17, 9, 4, 15. */
-uint32_t simmerstoat_convert_spline_strict(uint8_t from, uint8_t to, const double *knots, size_t n, double allowance,
-                                           double *out, size_t room, size_t *written);
+uint32_t simmerstoat_convert_spline_strict(uint8_t from, uint8_t to, const double *knots, uint64_t n, double allowance,
+                                           double *out, uint64_t room, uint64_t *written);
 
 /* Set in a reply of simmerstoat_depth_at where the table of depths is meant. Mask it before taking the reply apart. */
 #define SIMMERSTOAT_OF_DEPTHS 0x80000000u
@@ -193,16 +205,16 @@ enum { SIMMERSTOAT_BOTH = 3 };
  * Writes the depth, the place in the times as an inversion does, and the count of both tables. Refusals, of the times:
  * 255, 1, 2, 3, 5, 6, 7, 4, 10; then of the depths: 1, 2, 3, 4, 18 (the tables have different counts of segments); then
  * 11, of the times, which writes the inversion's count. */
-uint32_t simmerstoat_depth_at(uint8_t times_basis, const double *times, size_t n, uint8_t depths_basis,
-                              const double *depths, size_t m, double y, uint16_t limit, double precision, double *depth,
-                              double place[4], size_t whole[4]);
+uint32_t simmerstoat_depth_at(uint8_t times_basis, const double *times, uint64_t n, uint8_t depths_basis,
+                              const double *depths, uint64_t m, double y, uint16_t limit, double precision, double *depth,
+                              double place[4], uint64_t whole[4]);
 
 /* Whether a claim holds, to holds: that the segment, from 0, at the local place x is within twice the precision of y, in
  * doubles. A place outside 0 to 1 makes it false, and so does an infinite one. What an inversion answers by
  * SIMMERSTOAT_VALUE or SIMMERSTOAT_EDGE holds for its own segment, local place and precision; by another ground it may
  * not. Refusals: 255, 1, 2, 3, 5 (y or x is NaN), 6, 19, 4. */
-uint32_t simmerstoat_check_claim(uint8_t basis, double y, size_t segment, double x, double precision,
-                                 const double *knots, size_t n, bool *holds);
+uint32_t simmerstoat_check_claim(uint8_t basis, double y, uint64_t segment, double x, double precision,
+                                 const double *knots, uint64_t n, bool *holds);
 
 /* ---- tables with a span: whole seconds from dusk, 1 to 86,400, and 0 for none. Each call refuses a missing or bad span
  * with SIMMERSTOAT_BAD_SPAN, after 3 and before all else; with a good one it is the call without a span. */
@@ -211,39 +223,39 @@ uint32_t simmerstoat_check_claim(uint8_t basis, double y, size_t segment, double
 enum { SIMMERSTOAT_SECOND = 3 }; /* the largest whole second not above parameter * span, from 0 to the span */
 
 /* The value of the curve at x. Refusals: 255, 1, 2, 3, 14, 5, 4. */
-uint32_t simmerstoat_table_spline(uint8_t basis, uint32_t span, double x, const double *knots, size_t n, double *value);
+uint32_t simmerstoat_table_spline(uint8_t basis, uint32_t span, double x, const double *knots, uint64_t n, double *value);
 
 /* Where the curve is at y: limit 32, precision 1e-10. Refusals: 255, 1, 2, 3, 14, 5, 4, 10, 11. */
-uint32_t simmerstoat_table_spline_inverse(uint8_t basis, uint32_t span, double y, const double *knots, size_t n,
-                                          bool check, double place[4], size_t whole[4]);
+uint32_t simmerstoat_table_spline_inverse(uint8_t basis, uint32_t span, double y, const double *knots, uint64_t n,
+                                          bool check, double place[4], uint64_t whole[4]);
 
 /* The same with every option. Refusals: 255, 1, 2, 3, 14, 5, 6, 7, 4, 10, 11. */
-uint32_t simmerstoat_table_spline_inverse_by(uint8_t basis, uint32_t span, double y, const double *knots, size_t n,
+uint32_t simmerstoat_table_spline_inverse_by(uint8_t basis, uint32_t span, double y, const double *knots, uint64_t n,
                                              bool check, uint16_t limit, double precision, uint8_t ends, uint8_t method,
-                                             double place[4], size_t whole[4]);
+                                             double place[4], uint64_t whole[4]);
 
 /* As simmerstoat_spline_inverse_steady. Refusals: 255, 1, 2, 3, 14, 5, 4, 10, 11. */
-uint32_t simmerstoat_table_spline_inverse_steady(uint8_t basis, uint32_t span, double y, const double *knots, size_t n,
-                                                 bool check, double place[4], size_t whole[4]);
+uint32_t simmerstoat_table_spline_inverse_steady(uint8_t basis, uint32_t span, double y, const double *knots, uint64_t n,
+                                                 bool check, double place[4], uint64_t whole[4]);
 
 /* The knots in another basis, as simmerstoat_convert_spline. The new table has the same span, which is written to handed.
  * Refusals: 255, 1, 2, 3, 14, 8, 9, 4. */
-uint32_t simmerstoat_table_convert_spline(uint8_t from, uint32_t span, uint8_t to, const double *knots, size_t n,
-                                          double *out, size_t room, uint32_t *handed, size_t *written);
+uint32_t simmerstoat_table_convert_spline(uint8_t from, uint32_t span, uint8_t to, const double *knots, uint64_t n,
+                                          double *out, uint64_t room, uint32_t *handed, uint64_t *written);
 
 /* The same, refused where a seam would be lost, as simmerstoat_convert_spline_strict.
  * Refusals: 255, 1, 2, 3, 14, 8, 17, 9, 4, 15. */
-uint32_t simmerstoat_table_convert_spline_strict(uint8_t from, uint32_t span, uint8_t to, const double *knots, size_t n,
-                                                 double allowance, double *out, size_t room, uint32_t *handed,
-                                                 size_t *written);
+uint32_t simmerstoat_table_convert_spline_strict(uint8_t from, uint32_t span, uint8_t to, const double *knots, uint64_t n,
+                                                 double allowance, double *out, uint64_t room, uint32_t *handed,
+                                                 uint64_t *written);
 
 /* ---- what follows is written in C over the calls above, and proved of nothing */
 
 /* Whether n knots suit the basis; no number that is no basis suits any. */
-static inline bool simmerstoat_suits(uint8_t basis, size_t n) { return simmerstoat_is_len_ok(basis, n) == 1; }
+static inline bool simmerstoat_suits(uint8_t basis, uint64_t n) { return simmerstoat_is_len_ok(basis, n) == 1; }
 
 /* The places that a conversion of n knots fills, 16,372 at most; 0 where no curve has n knots, or a number is no basis. */
-static inline size_t simmerstoat_room(uint8_t from, uint8_t to, size_t n) {
+static inline uint64_t simmerstoat_room(uint8_t from, uint8_t to, uint64_t n) {
     static const uint8_t step[] = {1, 3, 1, 2, 1, 4};
     if (from > 5 || to > 5 || n > SIMMERSTOAT_MOST_KNOTS || !simmerstoat_suits(from, n)) return 0;
     return 4 + (n - 4) / step[from] * step[to];
@@ -281,7 +293,7 @@ static inline const char *simmerstoat_text(uint32_t reply) {
 /* What an inversion tells. On a refusal only count is written, with SIMMERSTOAT_OFF_CURVE. */
 struct simmerstoat_place {
     double parameter, local, lower, upper;
-    size_t ground, segment, count;
+    uint64_t ground, segment, count;
 };
 
 /* What it may be told. */
@@ -298,7 +310,7 @@ static inline struct simmerstoat_options simmerstoat_defaults(void) {
     return o;
 }
 
-static inline uint32_t simmerstoat_placed(uint32_t reply, const double place[4], const size_t whole[3],
+static inline uint32_t simmerstoat_placed(uint32_t reply, const double place[4], const uint64_t whole[3],
                                           struct simmerstoat_place *p) {
     if (reply == SIMMERSTOAT_DONE) {
         p->parameter = place[SIMMERSTOAT_PARAMETER];
@@ -313,19 +325,19 @@ static inline uint32_t simmerstoat_placed(uint32_t reply, const double place[4],
 }
 
 /* simmerstoat_spline_inverse_by and simmerstoat_spline_inverse_segment_by over the two structs. */
-static inline uint32_t simmerstoat_find(uint8_t basis, double y, const double *knots, size_t n,
+static inline uint32_t simmerstoat_find(uint8_t basis, double y, const double *knots, uint64_t n,
                                         struct simmerstoat_options o, struct simmerstoat_place *p) {
     double place[4];
-    size_t whole[3];
+    uint64_t whole[3];
     uint32_t reply = simmerstoat_spline_inverse_by(basis, y, knots, n, o.check, o.limit, o.precision, o.ends, o.method,
                                                    place, whole);
     return simmerstoat_placed(reply, place, whole, p);
 }
 
-static inline uint32_t simmerstoat_find_in_segment(uint8_t basis, double y, const double *cv, size_t n,
+static inline uint32_t simmerstoat_find_in_segment(uint8_t basis, double y, const double *cv, uint64_t n,
                                                    struct simmerstoat_options o, struct simmerstoat_place *p) {
     double place[4];
-    size_t whole[3];
+    uint64_t whole[3];
     uint32_t reply = simmerstoat_spline_inverse_segment_by(basis, y, cv, n, o.limit, o.precision, o.method, place, whole);
     return simmerstoat_placed(reply, place, whole, p);
 }

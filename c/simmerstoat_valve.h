@@ -13,7 +13,6 @@
 #ifndef SIMMERSTOAT_VALVE_H
 #define SIMMERSTOAT_VALVE_H
 
-#include <stddef.h>
 #include <stdint.h>
 
 #ifdef __cplusplus
@@ -24,7 +23,7 @@ extern "C" {
 #define SIMMERSTOAT_VALVE_WHOLE INT64_C(100663296)
 
 /* The weighted sum, undivided. `knots` must be good for n numbers (null is fine where n is 0), and `sum` for one. */
-uint32_t simmerstoat_valve(uint16_t step, const int64_t *knots, size_t n, int64_t *sum);
+uint32_t simmerstoat_valve(uint16_t step, const int64_t *knots, uint64_t n, int64_t *sum);
 
 #ifdef __cplusplus
 }

@@ -17,11 +17,11 @@ enum { EVALUATION = 96, INVERSION = 512, CONVERSION = 400, STRICT = 512, TABLE =
 static unsigned char *stack;
 static ucontext_t back, there;
 static double knots[KNOTS], out[4 * KNOTS], value, place[4];
-static size_t whole[4], written;
+static uint64_t whole[4], written;
 static uint32_t handed;
 static bool holds;
 static int basis, other;
-static size_t length;
+static uint64_t length;
 static double at;
 static volatile int reply;
 
@@ -127,7 +127,7 @@ int main(void) {
                  {"table_convert_spline_strict", table_convert_spline_strict, STRICT},
                  {"check_claim", check_claim, EVALUATION},
                  {"depth_at", depth_at, DEPTH}};
-    static const size_t lengths[] = {4, 16, 28, 100, 1024, 4096};
+    static const uint64_t lengths[] = {4, 16, 28, 100, 1024, 4096};
     stack = malloc(SIZE);
     for (int i = 0; i < KNOTS; i++) knots[i] = 0.01 * i;
     size_t empty = depth(nothing);
@@ -145,7 +145,7 @@ int main(void) {
                         if (d > deepest) deepest = d;
                     }
         /* the caller's own return address is the call's, so nothing is taken off for it */
-        printf("| simmerstoat_%s | %zu | %zu |\n", calls[c].name, deepest - empty, calls[c].most);
+        printf("| simmerstoat_%s | %u | %u |\n", calls[c].name, (unsigned)(deepest - empty), (unsigned)calls[c].most);
         if (deepest - empty > calls[c].most) deep++;
     }
     if (deep) printf("%d calls go deeper than they may\n", deep);

@@ -10,12 +10,12 @@
 enum { MOST = 200 };
 
 static const double KEPT = -77.25;
-static const size_t KEPT_WHOLE = 987654321;
+static const uint64_t KEPT_WHOLE = 987654321;
 
 struct record {
     uint32_t reply;
     double place[4];
-    size_t whole[4];
+    uint64_t whole[4];
 };
 
 static int checked, spent;
@@ -35,14 +35,14 @@ static void expect(const char *what, int good) {
     }
 }
 
-static int same(const struct record *a, const struct record *b, size_t whole) {
+static int same(const struct record *a, const struct record *b, uint64_t whole) {
     return a->reply == b->reply && memcmp(a->place, b->place, sizeof a->place) == 0 &&
            memcmp(a->whole, b->whole, whole * sizeof *a->whole) == 0;
 }
 
-static size_t most_evaluations(size_t segments) {
-    size_t bits = 0;
-    for (size_t k = segments; k > 0; k /= 2) bits++;
+static uint64_t most_evaluations(uint64_t segments) {
+    uint64_t bits = 0;
+    for (uint64_t k = segments; k > 0; k /= 2) bits++;
     return segments <= 12 ? 63 : 43 + 2 * bits;
 }
 
@@ -58,7 +58,7 @@ static void segment(int b, double y, const double *cv) {
     spent += crate.reply == SIMMERSTOAT_DONE && crate.whole[SIMMERSTOAT_GROUND] == SIMMERSTOAT_SPENT;
 }
 
-static void curve(int b, double y, const double *knots, size_t n, size_t segments, bool check) {
+static void curve(int b, double y, const double *knots, uint64_t n, uint64_t segments, bool check) {
     struct record r = fresh(), by = fresh(), timed = fresh();
     r.reply = simmerstoat_spline_inverse_steady(b, y, knots, n, check, r.place, r.whole);
     by.reply = simmerstoat_spline_inverse_by(b, y, knots, n, check, 64, 1e-10, SIMMERSTOAT_ENDS_KNOTS, SIMMERSTOAT_STEADY, by.place, by.whole);
@@ -66,7 +66,7 @@ static void curve(int b, double y, const double *knots, size_t n, size_t segment
     timed.reply = simmerstoat_table_spline_inverse_steady(b, 86400, y, knots, n, check, timed.place, timed.whole);
     expect("a table: as without a span", same(&r, &timed, 3));
     if (r.reply != SIMMERSTOAT_DONE) return;
-    expect("a table: its second", timed.whole[SIMMERSTOAT_SECOND] == (size_t)floor(r.place[SIMMERSTOAT_PARAMETER] * 86400));
+    expect("a table: its second", timed.whole[SIMMERSTOAT_SECOND] == (uint64_t)floor(r.place[SIMMERSTOAT_PARAMETER] * 86400));
     expect("a curve: spent", r.whole[SIMMERSTOAT_GROUND] != SIMMERSTOAT_SPENT);
     expect("a curve: too many evaluations", r.whole[SIMMERSTOAT_COUNT] <= most_evaluations(segments));
 }
@@ -104,7 +104,7 @@ int main(void) {
             at += round % 3 == 0 ? step : round % 3 == 1 ? (step < 0.5 ? 0.0 : step) : pow(step, 12) * 1e6;
             knots[i] = at;
         }
-        size_t n = 4 + (size_t)round % MOST;
+        uint64_t n = 4 + (uint64_t)round % MOST;
         double y = knots[1] + (knots[n - 2] - knots[1]) * ((double)(seed >> 32 & 0xFFFF) / 65536);
         curve(SIMMERSTOAT_CATMULL_ROM, y, knots, n, n - 3, round % 2 == 0);
         for (int b = 0; b < 6; b++) segment(b, knots[1] + (knots[2] - knots[1]) * 0.37, knots);

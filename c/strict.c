@@ -9,13 +9,13 @@
 
 enum { ROOM = 64 };
 static const double KEPT = -77.25;
-static const size_t KEPT_WHOLE = 987654321;
+static const uint64_t KEPT_WHOLE = 987654321;
 
 static double out[ROOM], plain[ROOM];
-static size_t written;
+static uint64_t written;
 static int checked;
 
-static uint32_t strict(int from, int to, const double *knots, size_t n, double allowance, size_t room) {
+static uint32_t strict(int from, int to, const double *knots, uint64_t n, double allowance, uint64_t room) {
     for (int i = 0; i < ROOM; i++) out[i] = plain[i] = KEPT;
     written = KEPT_WHOLE;
     return simmerstoat_convert_spline_strict(from, to, knots, n, allowance, out, room, &written);
@@ -26,14 +26,14 @@ static void expect(const char *what, uint32_t wanted, uint32_t reply) {
     int touched = written != KEPT_WHOLE;
     for (int i = 0; i < ROOM; i++) touched = touched || out[i] != KEPT;
     if (reply != wanted || (reply != 0 && touched)) {
-        printf("%s: reply %u, expected %u%s\n", what, reply, wanted, touched ? ", and something was written" : "");
+        printf("%s: reply %u, expected %u%s\n", what, (unsigned)reply, (unsigned)wanted, touched ? ", and something was written" : "");
         exit(1);
     }
 }
 
 /* Bits of the whole buffer, and the length. */
-static void same_as_plain(const char *what, int from, int to, const double *knots, size_t n, size_t room) {
-    size_t length = KEPT_WHOLE;
+static void same_as_plain(const char *what, int from, int to, const double *knots, uint64_t n, uint64_t room) {
+    uint64_t length = KEPT_WHOLE;
     uint32_t reply = simmerstoat_convert_spline(from, to, knots, n, plain, room, &length);
     checked++;
     if (reply != 0 || length != written || memcmp(out, plain, sizeof out) != 0) {

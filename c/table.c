@@ -8,10 +8,10 @@
 #include <string.h>
 
 static const double KEPT = -77.25;
-static const size_t KEPT_WHOLE = 987654321;
+static const uint64_t KEPT_WHOLE = 987654321;
 
 static double value, place[4], out[8];
-static size_t whole[4], written;
+static uint64_t whole[4], written;
 static uint32_t handed;
 static int checked;
 
@@ -38,24 +38,24 @@ static void expect(const char *what, unsigned wanted, unsigned reply) {
     }
 }
 
-static unsigned at(int b, uint32_t span, double x, const double *k, size_t n) {
+static unsigned at(int b, uint32_t span, double x, const double *k, uint64_t n) {
     reset();
     return simmerstoat_table_spline(b, span, x, k, n, &value);
 }
-static unsigned find(int b, uint32_t span, double y, const double *k, size_t n) {
+static unsigned find(int b, uint32_t span, double y, const double *k, uint64_t n) {
     reset();
     return simmerstoat_table_spline_inverse(b, span, y, k, n, true, place, whole);
 }
-static unsigned find_by(int b, uint32_t span, double y, const double *k, size_t n, uint16_t limit, int ends, int method) {
+static unsigned find_by(int b, uint32_t span, double y, const double *k, uint64_t n, uint16_t limit, int ends, int method) {
     reset();
     return simmerstoat_table_spline_inverse_by(b, span, y, k, n, true, limit, 1e-10, ends, method, place, whole);
 }
-static unsigned turn(int from, uint32_t span, int to, const double *k, size_t n, size_t room) {
+static unsigned turn(int from, uint32_t span, int to, const double *k, uint64_t n, uint64_t room) {
     reset();
     return simmerstoat_table_convert_spline(from, span, to, k, n, out, room, &handed, &written);
 }
 
-static unsigned turn_strict(int from, uint32_t span, int to, const double *k, size_t n, double allowance, size_t room) {
+static unsigned turn_strict(int from, uint32_t span, int to, const double *k, uint64_t n, double allowance, uint64_t room) {
     reset();
     return simmerstoat_table_convert_spline_strict(from, span, to, k, n, allowance, out, room, &handed, &written);
 }
@@ -81,7 +81,7 @@ static void strict(void) {
     double kept[8];
     memcpy(kept, out, sizeof out);
     uint32_t span = handed;
-    size_t length = written;
+    uint64_t length = written;
     expect("its span and length", 0, span != 7200 || length != 6);
     expect("plain", 0, turn(BEZIER, 7200, HERMITE, bend, 7, 8));
     expect("the same", 0, span != handed || length != written || memcmp(kept, out, sizeof out) != 0);

@@ -7,14 +7,14 @@
 #include <stdlib.h>
 
 static const double KEPT = -77.25;
-static const size_t KEPT_WHOLE = 987654321;
+static const uint64_t KEPT_WHOLE = 987654321;
 static const uint32_t DEPTHS = SIMMERSTOAT_OF_DEPTHS;
 
 static double depth, place[4];
-static size_t whole[4];
+static uint64_t whole[4];
 static int checked;
 
-static uint32_t at(int tb, const double *times, size_t n, int db, const double *depths, size_t m, double y, int limit,
+static uint32_t at(int tb, const double *times, uint64_t n, int db, const double *depths, uint64_t m, double y, int limit,
                    double precision) {
     depth = KEPT;
     for (int i = 0; i < 4; i++) place[i] = KEPT, whole[i] = KEPT_WHOLE;
@@ -29,14 +29,14 @@ static void expect(const char *what, uint32_t wanted, uint32_t reply) {
         touched = touched || (whole[i] != KEPT_WHOLE && !(reply == SIMMERSTOAT_OFF_CURVE && i == SIMMERSTOAT_COUNT));
     }
     if (reply != wanted || (reply != 0 && touched)) {
-        printf("%s: reply %u, expected %u%s\n", what, reply, wanted, touched ? ", and something was written" : "");
+        printf("%s: reply %u, expected %u%s\n", what, (unsigned)reply, (unsigned)wanted, touched ? ", and something was written" : "");
         exit(1);
     }
 }
 
-static void in_turn(int tb, const double *times, size_t n, int db, const double *depths, size_t m, double y) {
+static void in_turn(int tb, const double *times, uint64_t n, int db, const double *depths, uint64_t m, double y) {
     double there[4], value = KEPT;
-    size_t record[3];
+    uint64_t record[3];
     expect("in turn", 0, at(tb, times, n, db, depths, m, y, 32, 1e-10));
     uint32_t found = simmerstoat_spline_inverse(tb, y, times, n, true, there, record);
     uint32_t told = simmerstoat_spline(db, there[SIMMERSTOAT_PARAMETER], depths, m, &value);
@@ -60,7 +60,8 @@ int main(void) {
         in_turn(C, times, 6, C, depths, 6, i / 20.0);
         in_turn(C, times, 6, B, bezier, 10, i / 20.0);
     }
-    printf("depth at 0.3: %.6f after %zu evaluations\n", (at(C, times, 6, C, depths, 6, 0.3, 32, 1e-10), depth), whole[3]);
+    expect("depth at 0.3", 0, at(C, times, 6, C, depths, 6, 0.3, 32, 1e-10));
+    printf("depth at 0.3: %.6f after %u evaluations\n", depth, (unsigned)whole[SIMMERSTOAT_BOTH]);
 
     /* the times: 255 1 2 3 5 6 7 4 10, whatever the depths are */
     expect("no basis", 255, at(6, NULL, 0, C, NULL, 0, NAN, 0, 0));
@@ -83,7 +84,7 @@ int main(void) {
     static const double start[] = {0, 0, 6, 12, 18, 24}, flat[] = {1, 1, 1, 1, 1, 1};
     expect("off", 11, at(SIMMERSTOAT_BSPLINE, start, 6, C, flat, 6, 0.5, 32, 1e-10));
     if (whole[SIMMERSTOAT_COUNT] != 6) {
-        printf("11 after %zu evaluations, expected 6\n", whole[SIMMERSTOAT_COUNT]);
+        printf("11 after %u evaluations, expected 6\n", (unsigned)whole[SIMMERSTOAT_COUNT]);
         return 1;
     }
     expect("off, and segments", DEPTHS + 18, at(SIMMERSTOAT_BSPLINE, start, 6, C, flat, 5, 0.5, 32, 1e-10));

@@ -7,12 +7,13 @@
 static const int64_t KEPT = -987654321;
 static long checked;
 
-static void expect(const char *what, uint32_t wanted, uint16_t step, const int64_t *knots, size_t n, int64_t sum) {
+static void expect(const char *what, uint32_t wanted, uint16_t step, const int64_t *knots, uint64_t n, int64_t sum) {
     int64_t told = KEPT;
     uint32_t reply = simmerstoat_valve(step, knots, n, &told);
     checked++;
     if (reply != wanted || told != (wanted == 0 ? sum : KEPT)) {
-        printf("%s: step %u: reply %u and %lld, expected %u and %lld\n", what, step, reply, (long long)told, wanted, (long long)sum);
+        printf("%s: step %u: reply %u, expected %u; the sum %s\n", what, (unsigned)step, (unsigned)reply, (unsigned)wanted,
+               told == (wanted == 0 ? sum : KEPT) ? "is right" : "is wrong");
         exit(1);
     }
 }
@@ -33,7 +34,7 @@ static int64_t mixed(int64_t j, const int64_t *z) {
 
 static void lengths(void) {
     int64_t many[9] = {INT64_MIN};
-    for (size_t n = 0; n <= 9; n++) {
+    for (uint64_t n = 0; n <= 9; n++) {
         if (n != 4) expect("length", n < 4 ? 1 : 2, 65535, n ? many : NULL, n, 0);
     }
 }

@@ -44,7 +44,8 @@ pub fn port(b: u8, c: &Claim, knots: &[f64], old: bool) -> (u32, bool) {
     let mut holds = old;
     // SAFETY: the pointer and length are a slice's, and `holds` is a local.
     let reply = unsafe {
-        raw::simmerstoat_check_claim(b, c.y, c.segment, c.local, c.precision, knots.as_ptr(), knots.len(), &mut holds)
+        let (segment, n) = (c.segment as u64, knots.len() as u64);
+        raw::simmerstoat_check_claim(b, c.y, segment, c.local, c.precision, knots.as_ptr(), n, &mut holds)
     };
     (reply, holds)
 }

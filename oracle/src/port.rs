@@ -36,25 +36,25 @@ pub struct ConversionReply {
 }
 
 pub fn is_len_ok(b: u8, n: usize) -> u8 {
-    unsafe { raw::simmerstoat_is_len_ok(b, n) }
+    unsafe { raw::simmerstoat_is_len_ok(b, n as u64) }
 }
 
 pub fn spline(b: u8, x: f64, knots: &[f64]) -> ValueReply {
     let mut value = untouched();
-    let reply = unsafe { raw::simmerstoat_spline(b, x, knots.as_ptr(), knots.len(), &mut value) };
+    let reply = unsafe { raw::simmerstoat_spline(b, x, knots.as_ptr(), knots.len() as u64, &mut value) };
     ValueReply { reply, value: value.to_bits() }
 }
 
 pub fn spline_segment(b: u8, x: f64, cv: &[f64]) -> ValueReply {
     let mut value = untouched();
-    let reply = unsafe { raw::simmerstoat_spline_segment(b, x, cv.as_ptr(), cv.len(), &mut value) };
+    let reply = unsafe { raw::simmerstoat_spline_segment(b, x, cv.as_ptr(), cv.len() as u64, &mut value) };
     ValueReply { reply, value: value.to_bits() }
 }
 
-fn inverted(call: impl FnOnce(&mut [f64; 4], &mut [usize; 3]) -> u32) -> InversionReply {
-    let (mut place, mut whole) = ([untouched(); 4], [UNTOUCHED_WHOLE; 3]);
+fn inverted(call: impl FnOnce(&mut [f64; 4], &mut [u64; 3]) -> u32) -> InversionReply {
+    let (mut place, mut whole) = ([untouched(); 4], [UNTOUCHED_WHOLE as u64; 3]);
     let reply = call(&mut place, &mut whole);
-    InversionReply { reply, place: place.map(f64::to_bits), whole }
+    InversionReply { reply, place: place.map(f64::to_bits), whole: whole.map(|n| n as usize) }
 }
 
 /// The rule of the ends and the method by their numbers.
@@ -70,7 +70,7 @@ pub fn spline_inverse_numbered(
     method: u8,
 ) -> InversionReply {
     inverted(|place, whole| unsafe {
-        let (at, n) = (knots.as_ptr(), knots.len());
+        let (at, n) = (knots.as_ptr(), knots.len() as u64);
         raw::simmerstoat_spline_inverse_by(b, y, at, n, check, limit, precision, ends, method, place, whole)
     })
 }
@@ -82,27 +82,27 @@ pub fn spline_inverse_by(b: u8, y: f64, knots: &[f64], o: &Options) -> Inversion
 /// By the crate's rule of the ends and its method.
 pub fn spline_inverse_with(b: u8, y: f64, knots: &[f64], o: &Options) -> InversionReply {
     inverted(|place, whole| unsafe {
-        let (at, n) = (knots.as_ptr(), knots.len());
+        let (at, n) = (knots.as_ptr(), knots.len() as u64);
         raw::simmerstoat_spline_inverse_with(b, y, at, n, o.check, o.limit, o.precision, place, whole)
     })
 }
 
 pub fn spline_inverse_default(b: u8, y: f64, knots: &[f64], check: bool) -> InversionReply {
     inverted(|place, whole| unsafe {
-        raw::simmerstoat_spline_inverse(b, y, knots.as_ptr(), knots.len(), check, place, whole)
+        raw::simmerstoat_spline_inverse(b, y, knots.as_ptr(), knots.len() as u64, check, place, whole)
     })
 }
 
 /// By the steady method with its defaults.
 pub fn spline_inverse_steady(b: u8, y: f64, knots: &[f64], check: bool) -> InversionReply {
     inverted(|place, whole| unsafe {
-        raw::simmerstoat_spline_inverse_steady(b, y, knots.as_ptr(), knots.len(), check, place, whole)
+        raw::simmerstoat_spline_inverse_steady(b, y, knots.as_ptr(), knots.len() as u64, check, place, whole)
     })
 }
 
 pub fn spline_inverse_segment_numbered(b: u8, y: f64, cv: &[f64], limit: u16, precision: f64, method: u8) -> InversionReply {
     inverted(|place, whole| unsafe {
-        let (at, n) = (cv.as_ptr(), cv.len());
+        let (at, n) = (cv.as_ptr(), cv.len() as u64);
         raw::simmerstoat_spline_inverse_segment_by(b, y, at, n, limit, precision, method, place, whole)
     })
 }
@@ -114,40 +114,40 @@ pub fn spline_inverse_segment_by(b: u8, y: f64, cv: &[f64], o: &Options) -> Inve
 /// By the crate's method.
 pub fn spline_inverse_segment_with(b: u8, y: f64, cv: &[f64], o: &Options) -> InversionReply {
     inverted(|place, whole| unsafe {
-        let (at, n) = (cv.as_ptr(), cv.len());
+        let (at, n) = (cv.as_ptr(), cv.len() as u64);
         raw::simmerstoat_spline_inverse_segment_with(b, y, at, n, o.limit, o.precision, place, whole)
     })
 }
 
 pub fn spline_inverse_segment_default(b: u8, y: f64, cv: &[f64]) -> InversionReply {
     inverted(|place, whole| unsafe {
-        raw::simmerstoat_spline_inverse_segment(b, y, cv.as_ptr(), cv.len(), place, whole)
+        raw::simmerstoat_spline_inverse_segment(b, y, cv.as_ptr(), cv.len() as u64, place, whole)
     })
 }
 
 /// By the steady method with its defaults.
 pub fn spline_inverse_segment_steady(b: u8, y: f64, cv: &[f64]) -> InversionReply {
     inverted(|place, whole| unsafe {
-        raw::simmerstoat_spline_inverse_segment_steady(b, y, cv.as_ptr(), cv.len(), place, whole)
+        raw::simmerstoat_spline_inverse_segment_steady(b, y, cv.as_ptr(), cv.len() as u64, place, whole)
     })
 }
 
 /// A buffer of `room` places, and further ones behind it that no call may touch.
-fn converted(room: usize, call: impl FnOnce(&mut [f64], &mut usize) -> u32) -> ConversionReply {
+fn converted(room: usize, call: impl FnOnce(&mut [f64], &mut u64) -> u32) -> ConversionReply {
     let mut buffer: Vec<f64> = (0..room as u64 + 4).map(|i| f64::from_bits(UNTOUCHED + i)).collect();
-    let mut written = UNTOUCHED_WHOLE;
+    let mut written = UNTOUCHED_WHOLE as u64;
     let reply = call(&mut buffer[..room], &mut written);
-    ConversionReply { reply, written, buffer: buffer.iter().map(|d| d.to_bits()).collect() }
+    ConversionReply { reply, written: written as usize, buffer: buffer.iter().map(|d| d.to_bits()).collect() }
 }
 
 pub fn convert_segment(from: u8, to: u8, cv: &[f64], room: usize) -> ConversionReply {
     converted(room, |out, _| unsafe {
-        raw::simmerstoat_convert_segment(from, to, cv.as_ptr(), cv.len(), out.as_mut_ptr(), out.len())
+        raw::simmerstoat_convert_segment(from, to, cv.as_ptr(), cv.len() as u64, out.as_mut_ptr(), out.len() as u64)
     })
 }
 
 pub fn convert_spline(from: u8, to: u8, knots: &[f64], room: usize) -> ConversionReply {
     converted(room, |out, written| unsafe {
-        raw::simmerstoat_convert_spline(from, to, knots.as_ptr(), knots.len(), out.as_mut_ptr(), out.len(), written)
+        raw::simmerstoat_convert_spline(from, to, knots.as_ptr(), knots.len() as u64, out.as_mut_ptr(), out.len() as u64, written)
     })
 }

@@ -38,21 +38,21 @@ pub fn model(from: usize, to: usize, knots: &[f64], allowance: f64, room: usize)
 /// A buffer of `room` places, and four behind it that no call may touch.
 fn port(from: u8, to: u8, knots: &[f64], allowance: f64, room: usize) -> ConversionReply {
     let mut buffer: Vec<f64> = (0..room as u64 + 4).map(|i| f64::from_bits(UNTOUCHED + i)).collect();
-    let mut written = UNTOUCHED_WHOLE;
+    let mut written = UNTOUCHED_WHOLE as u64;
     // SAFETY: the pointers and lengths are of slices, and `written` is a local.
     let reply = unsafe {
         raw::simmerstoat_convert_spline_strict(
             from,
             to,
             knots.as_ptr(),
-            knots.len(),
+            knots.len() as u64,
             allowance,
             buffer.as_mut_ptr(),
-            room,
+            room as u64,
             &mut written,
         )
     };
-    ConversionReply { reply, written, buffer: buffer.iter().map(|d| d.to_bits()).collect() }
+    ConversionReply { reply, written: written as usize, buffer: buffer.iter().map(|d| d.to_bits()).collect() }
 }
 
 fn compare(t: &mut Tally, from: usize, to: usize, knots: &[f64], allowance: f64, room: usize) -> ConversionReply {

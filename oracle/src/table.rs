@@ -72,31 +72,31 @@ struct TimedReply {
 
 fn spline(b: u8, span: u32, x: f64, knots: &[f64]) -> ValueReply {
     let mut value = f64::from_bits(UNTOUCHED);
-    let reply = unsafe { raw::simmerstoat_table_spline(b, span, x, knots.as_ptr(), knots.len(), &mut value) };
+    let reply = unsafe { raw::simmerstoat_table_spline(b, span, x, knots.as_ptr(), knots.len() as u64, &mut value) };
     ValueReply { reply, value: value.to_bits() }
 }
 
-fn timed(call: impl FnOnce(&mut [f64; 4], &mut [usize; 4]) -> u32) -> TimedReply {
-    let (mut place, mut whole) = ([f64::from_bits(UNTOUCHED); 4], [UNTOUCHED_WHOLE; 4]);
+fn timed(call: impl FnOnce(&mut [f64; 4], &mut [u64; 4]) -> u32) -> TimedReply {
+    let (mut place, mut whole) = ([f64::from_bits(UNTOUCHED); 4], [UNTOUCHED_WHOLE as u64; 4]);
     let reply = call(&mut place, &mut whole);
-    TimedReply { reply, place: place.map(f64::to_bits), whole }
+    TimedReply { reply, place: place.map(f64::to_bits), whole: whole.map(|n| n as usize) }
 }
 
 fn spline_inverse(b: u8, span: u32, y: f64, knots: &[f64], check: bool) -> TimedReply {
     timed(|place, whole| unsafe {
-        raw::simmerstoat_table_spline_inverse(b, span, y, knots.as_ptr(), knots.len(), check, place, whole)
+        raw::simmerstoat_table_spline_inverse(b, span, y, knots.as_ptr(), knots.len() as u64, check, place, whole)
     })
 }
 
 fn spline_inverse_steady(b: u8, span: u32, y: f64, knots: &[f64], check: bool) -> TimedReply {
     timed(|place, whole| unsafe {
-        raw::simmerstoat_table_spline_inverse_steady(b, span, y, knots.as_ptr(), knots.len(), check, place, whole)
+        raw::simmerstoat_table_spline_inverse_steady(b, span, y, knots.as_ptr(), knots.len() as u64, check, place, whole)
     })
 }
 
 fn spline_inverse_by(b: u8, span: u32, y: f64, knots: &[f64], o: &Options, ends: u8, method: u8) -> TimedReply {
     timed(|place, whole| unsafe {
-        let (at, n) = (knots.as_ptr(), knots.len());
+        let (at, n) = (knots.as_ptr(), knots.len() as u64);
         raw::simmerstoat_table_spline_inverse_by(
             b, span, y, at, n, o.check, o.limit, o.precision, ends, method, place, whole,
         )
@@ -105,24 +105,24 @@ fn spline_inverse_by(b: u8, span: u32, y: f64, knots: &[f64], o: &Options, ends:
 
 fn convert_spline(from: u8, span: u32, to: u8, knots: &[f64], room: usize) -> (ConversionReply, u32) {
     let mut buffer: Vec<f64> = (0..room as u64 + 4).map(|i| f64::from_bits(UNTOUCHED + i)).collect();
-    let (mut handed, mut written) = (77, UNTOUCHED_WHOLE);
+    let (mut handed, mut written) = (77, UNTOUCHED_WHOLE as u64);
     let reply = unsafe {
-        let (at, n, out) = (knots.as_ptr(), knots.len(), buffer.as_mut_ptr());
-        raw::simmerstoat_table_convert_spline(from, span, to, at, n, out, room, &mut handed, &mut written)
+        let (at, n, out) = (knots.as_ptr(), knots.len() as u64, buffer.as_mut_ptr());
+        raw::simmerstoat_table_convert_spline(from, span, to, at, n, out, room as u64, &mut handed, &mut written)
     };
-    (ConversionReply { reply, written, buffer: buffer.into_iter().map(f64::to_bits).collect() }, handed)
+    (ConversionReply { reply, written: written as usize, buffer: buffer.into_iter().map(f64::to_bits).collect() }, handed)
 }
 
 fn convert_spline_strict(from: u8, span: u32, to: u8, knots: &[f64], allowance: f64, room: usize) -> (ConversionReply, u32) {
     let mut buffer: Vec<f64> = (0..room as u64 + 4).map(|i| f64::from_bits(UNTOUCHED + i)).collect();
-    let (mut handed, mut written) = (77, UNTOUCHED_WHOLE);
+    let (mut handed, mut written) = (77, UNTOUCHED_WHOLE as u64);
     let reply = unsafe {
-        let (at, n, out) = (knots.as_ptr(), knots.len(), buffer.as_mut_ptr());
+        let (at, n, out) = (knots.as_ptr(), knots.len() as u64, buffer.as_mut_ptr());
         raw::simmerstoat_table_convert_spline_strict(
-            from, span, to, at, n, allowance, out, room, &mut handed, &mut written,
+            from, span, to, at, n, allowance, out, room as u64, &mut handed, &mut written,
         )
     };
-    (ConversionReply { reply, written, buffer: buffer.into_iter().map(f64::to_bits).collect() }, handed)
+    (ConversionReply { reply, written: written as usize, buffer: buffer.into_iter().map(f64::to_bits).collect() }, handed)
 }
 
 // ---- the comparison

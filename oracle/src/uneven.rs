@@ -64,16 +64,16 @@ pub fn model(times: Table, depths: Table, y: f64, o: &Options) -> (DepthReply, u
 
 fn port(times: (u8, &[f64]), depths: (u8, &[f64]), y: f64, o: &Options) -> DepthReply {
     let (mut depth, mut place, mut whole) =
-        (f64::from_bits(UNTOUCHED), [f64::from_bits(UNTOUCHED); 4], [UNTOUCHED_WHOLE; 4]);
+        (f64::from_bits(UNTOUCHED), [f64::from_bits(UNTOUCHED); 4], [UNTOUCHED_WHOLE as u64; 4]);
     // SAFETY: the pointers and lengths are of slices, and the rest are locals.
     let reply = unsafe {
         raw::simmerstoat_depth_at(
             times.0,
             times.1.as_ptr(),
-            times.1.len(),
+            times.1.len() as u64,
             depths.0,
             depths.1.as_ptr(),
-            depths.1.len(),
+            depths.1.len() as u64,
             y,
             o.limit,
             o.precision,
@@ -82,7 +82,7 @@ fn port(times: (u8, &[f64]), depths: (u8, &[f64]), y: f64, o: &Options) -> Depth
             &mut whole,
         )
     };
-    DepthReply { reply, depth: depth.to_bits(), place: place.map(f64::to_bits), whole }
+    DepthReply { reply, depth: depth.to_bits(), place: place.map(f64::to_bits), whole: whole.map(|n| n as usize) }
 }
 
 fn compare(t: &mut Tally, times: Table, depths: Table, y: f64, o: &Options) -> DepthReply {

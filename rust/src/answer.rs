@@ -79,7 +79,7 @@ impl Refusal {
     }
 
     /// The refusal of a reply that is not 0: its number in the lowest eight bits, its place above them.
-    pub(crate) fn of(reply: u32, count: usize) -> Refusal {
+    pub(crate) fn of(reply: u32, count: u64) -> Refusal {
         let place = (reply >> 8) as u16;
         match reply & 255 {
             1 => Refusal::TooFew,
@@ -169,7 +169,7 @@ pub struct Place {
 }
 
 impl Place {
-    pub(crate) fn of(place: [f64; 4], whole: [usize; 3]) -> Place {
+    pub(crate) fn of(place: [f64; 4], whole: [u64; 3]) -> Place {
         let ground = match whole[0] {
             0 => Ground::End,
             1 => Ground::Edge,
@@ -179,7 +179,7 @@ impl Place {
             n => unreachable!("there is no ground {n}"),
         };
         let [parameter, local, lower, upper] = place;
-        Place { parameter, ground, segment: whole[1], local, lower, upper, count: whole[2] as u32 }
+        Place { parameter, ground, segment: whole[1] as usize, local, lower, upper, count: whole[2] as u32 }
     }
 }
 
@@ -191,7 +191,7 @@ pub(crate) fn done<T>(reply: u32, answer: T) -> Result<T, Refusal> {
     }
 }
 
-pub(crate) fn found(reply: u32, place: [f64; 4], whole: [usize; 3]) -> Result<Place, Refusal> {
+pub(crate) fn found(reply: u32, place: [f64; 4], whole: [u64; 3]) -> Result<Place, Refusal> {
     if reply == 0 {
         Ok(Place::of(place, whole))
     } else {

@@ -21,7 +21,7 @@ pub trait Basis<T = f64>: sealed::Sealed {
     /// ```
     fn is_len_ok(len: usize) -> bool {
         // SAFETY: no pointer is passed.
-        unsafe { raw::simmerstoat_is_len_ok(Self::NUMBER, len) == 1 }
+        unsafe { raw::simmerstoat_is_len_ok(Self::NUMBER, len as u64) == 1 }
     }
 }
 

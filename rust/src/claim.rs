@@ -25,7 +25,7 @@ pub fn check_claim<B: Basis>(y: f64, segment: usize, x: f64, precision: f64, kno
     let mut holds = false;
     // SAFETY: the pointer and length are a slice's, and `holds` is a local.
     let reply = unsafe {
-        raw::simmerstoat_check_claim(B::NUMBER, y, segment, x, precision, knots.as_ptr(), knots.len(), &mut holds)
+        raw::simmerstoat_check_claim(B::NUMBER, y, segment as u64, x, precision, knots.as_ptr(), knots.len() as u64, &mut holds)
     };
     done(reply, holds)
 }

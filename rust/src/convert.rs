@@ -23,7 +23,7 @@ pub fn convert_segment<In: Basis, Out: Basis, T: Double>(cv: &[T; 4]) -> Result<
     let mut out = [0.0; 4];
     // SAFETY: both pointers are to four doubles.
     let reply = unsafe {
-        raw::simmerstoat_convert_segment(In::NUMBER, Out::NUMBER, cv.as_ptr(), 4, out.as_mut_ptr(), out.len())
+        raw::simmerstoat_convert_segment(In::NUMBER, Out::NUMBER, cv.as_ptr(), 4, out.as_mut_ptr(), out.len() as u64)
     };
     done(reply, out.map(T::of))
 }
@@ -69,13 +69,13 @@ pub fn convert_spline_into<In: Basis, Out: Basis, T: Double>(cv: &[T], out: &mut
             In::NUMBER,
             Out::NUMBER,
             cv.as_ptr(),
-            cv.len(),
+            cv.len() as u64,
             out.as_mut_ptr(),
-            out.len(),
+            out.len() as u64,
             &mut written,
         )
     };
-    done(reply, written)
+    done(reply, written as usize)
 }
 
 /// How many knots in `Out` a curve of `n` knots in `In` has, 16,372 at most; 0 where no curve has `n`.

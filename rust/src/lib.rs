@@ -39,9 +39,10 @@
 //!
 //! # What it needs
 //!
-//! x86-64 Linux, for which the archive is built, and no standard library. The feature `alloc`, on by default, adds
-//! [`convert::convert_spline`], which answers a `Vec`; [`convert::convert_spline_into`] needs none. The archive has no state and no heap,
-//! so every function may be called from any thread.
+//! The archive of its target: x86-64 Linux, or one of those that `bin/box` builds; and no standard library. The feature `alloc`, on by
+//! default, adds [`convert::convert_spline`], which answers a `Vec`; [`convert::convert_spline_into`] needs none. The feature `valve` adds
+//! the module of that name, and asks for `libvalve.a` besides. The archive has no state and no heap, so every function may be called from
+//! any thread.
 #![no_std]
 
 #[cfg(feature = "alloc")]
@@ -60,6 +61,7 @@ mod steady;
 pub mod uneven;
 pub mod strict;
 pub mod table;
+#[cfg(feature = "valve")]
 pub mod valve;
 
 pub use answer::{Ground, Place, Refusal};
@@ -83,6 +85,13 @@ pub mod moving {}
 /// The knots of a curve at most.
 pub const MOST_KNOTS: usize = 4096;
 
+/// The version of the archive that is linked, which is this package's: major, minor, patch.
+pub fn version() -> [u8; 3] {
+    // SAFETY: no pointer is passed.
+    let [_, major, minor, patch] = unsafe { raw::simmerstoat_version() }.to_be_bytes();
+    [major, minor, patch]
+}
+
 /// The value of the curve at `x`, which is clamped to 0 to 1.
 ///
 /// Refusals: `TooFew`, `BadPattern`, `TooMany`, `NotANumber`, `BadKnot`.
@@ -98,7 +107,7 @@ pub fn spline<B: Basis, T: Double, U: Double>(x: T, knots: &[U]) -> Result<U, Re
     let knots = U::doubles(knots);
     let mut value = 0.0;
     // SAFETY: the pointer and length are a slice's, and `value` is a local.
-    let reply = unsafe { raw::simmerstoat_spline(B::NUMBER, x.double(), knots.as_ptr(), knots.len(), &mut value) };
+    let reply = unsafe { raw::simmerstoat_spline(B::NUMBER, x.double(), knots.as_ptr(), knots.len() as u64, &mut value) };
     done(reply, U::of(value))
 }
 
@@ -116,7 +125,7 @@ pub fn spline_segment<B: Basis, T: Double, U: Double>(x: T, cv: &[U]) -> Result<
     let cv = U::doubles(cv);
     let mut value = 0.0;
     // SAFETY: as in `spline`.
-    let reply = unsafe { raw::simmerstoat_spline_segment(B::NUMBER, x.double(), cv.as_ptr(), cv.len(), &mut value) };
+    let reply = unsafe { raw::simmerstoat_spline_segment(B::NUMBER, x.double(), cv.as_ptr(), cv.len() as u64, &mut value) };
     done(reply, U::of(value))
 }
 
@@ -139,7 +148,7 @@ pub fn spline_inverse<B: Basis, T: Double>(y: T, knots: &[T]) -> Result<Place, R
     let (mut place, mut whole) = ([0.0; 4], [0; 3]);
     // SAFETY: the pointer and length are a slice's, and both records are locals.
     let reply = unsafe {
-        raw::simmerstoat_spline_inverse(B::NUMBER, y.double(), knots.as_ptr(), knots.len(), true, &mut place, &mut whole)
+        raw::simmerstoat_spline_inverse(B::NUMBER, y.double(), knots.as_ptr(), knots.len() as u64, true, &mut place, &mut whole)
     };
     found(reply, place, whole)
 }
@@ -176,7 +185,7 @@ pub fn spline_inverse_with<B: Basis, T: Double>(
             B::NUMBER,
             y.double(),
             knots.as_ptr(),
-            knots.len(),
+            knots.len() as u64,
             options.order_check,
             options.limit(),
             options.precision(),
@@ -206,7 +215,7 @@ pub fn spline_inverse_segment<B: Basis, T: Double>(y: T, cv: &[T]) -> Result<Pla
     let (mut place, mut whole) = ([0.0; 4], [0; 3]);
     // SAFETY: as in `spline_inverse`.
     let reply = unsafe {
-        raw::simmerstoat_spline_inverse_segment(B::NUMBER, y.double(), cv.as_ptr(), cv.len(), &mut place, &mut whole)
+        raw::simmerstoat_spline_inverse_segment(B::NUMBER, y.double(), cv.as_ptr(), cv.len() as u64, &mut place, &mut whole)
     };
     found(reply, place, whole)
 }
@@ -235,7 +244,7 @@ pub fn spline_inverse_segment_with<B: Basis, T: Double>(
             B::NUMBER,
             y.double(),
             cv.as_ptr(),
-            cv.len(),
+            cv.len() as u64,
             options.limit(),
             options.precision(),
             options.method.number(),

@@ -21,7 +21,7 @@ pub fn spline_inverse_steady<B: Basis, T: Double>(y: T, knots: &[T]) -> Result<P
     let (mut place, mut whole) = ([0.0; 4], [0; 3]);
     // SAFETY: the pointer and length are a slice's, and both records are locals.
     let reply = unsafe {
-        raw::simmerstoat_spline_inverse_steady(B::NUMBER, y.double(), knots.as_ptr(), knots.len(), true, &mut place, &mut whole)
+        raw::simmerstoat_spline_inverse_steady(B::NUMBER, y.double(), knots.as_ptr(), knots.len() as u64, true, &mut place, &mut whole)
     };
     found(reply, place, whole)
 }
@@ -42,7 +42,7 @@ pub fn spline_inverse_segment_steady<B: Basis, T: Double>(y: T, cv: &[T]) -> Res
     let (mut place, mut whole) = ([0.0; 4], [0; 3]);
     // SAFETY: as in `spline_inverse_steady`.
     let reply = unsafe {
-        raw::simmerstoat_spline_inverse_segment_steady(B::NUMBER, y.double(), cv.as_ptr(), cv.len(), &mut place, &mut whole)
+        raw::simmerstoat_spline_inverse_segment_steady(B::NUMBER, y.double(), cv.as_ptr(), cv.len() as u64, &mut place, &mut whole)
     };
     found(reply, place, whole)
 }

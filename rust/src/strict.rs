@@ -32,12 +32,12 @@ pub fn convert_spline_strict_into<In: Basis, Out: Basis>(
             In::NUMBER,
             Out::NUMBER,
             cv.as_ptr(),
-            cv.len(),
+            cv.len() as u64,
             allowance,
             out.as_mut_ptr(),
-            out.len(),
+            out.len() as u64,
             &mut written,
         )
     };
-    done(reply, written)
+    done(reply, written as usize)
 }

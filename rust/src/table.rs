@@ -40,7 +40,7 @@ impl<B: Basis> Table<B> {
         let mut value = 0.0;
         // SAFETY: the pointer and length are a slice's, and `value` is a local.
         let reply = unsafe {
-            raw::simmerstoat_table_spline(B::NUMBER, self.span, x, knots.as_ptr(), knots.len(), &mut value)
+            raw::simmerstoat_table_spline(B::NUMBER, self.span, x, knots.as_ptr(), knots.len() as u64, &mut value)
         };
         done(reply, value)
     }
@@ -66,7 +66,7 @@ impl<B: Basis> Table<B> {
                 self.span,
                 y,
                 knots.as_ptr(),
-                knots.len(),
+                knots.len() as u64,
                 true,
                 &mut place,
                 &mut whole,
@@ -92,7 +92,7 @@ impl<B: Basis> Table<B> {
                 self.span,
                 y,
                 knots.as_ptr(),
-                knots.len(),
+                knots.len() as u64,
                 options.order_check,
                 options.limit(),
                 options.precision(),
@@ -117,7 +117,7 @@ impl<B: Basis> Table<B> {
                 self.span,
                 y,
                 knots.as_ptr(),
-                knots.len(),
+                knots.len() as u64,
                 true,
                 &mut place,
                 &mut whole,
@@ -149,14 +149,14 @@ impl<B: Basis> Table<B> {
                 self.span,
                 Out::NUMBER,
                 cv.as_ptr(),
-                cv.len(),
+                cv.len() as u64,
                 out.as_mut_ptr(),
-                out.len(),
+                out.len() as u64,
                 &mut span,
                 &mut written,
             )
         };
-        done(reply, (Table::new(span), written))
+        done(reply, (Table::new(span), written as usize))
     }
 
     /// The same, unless a seam would lose more than `allowance`; then this refuses with the lowest such segment. On a
@@ -189,19 +189,19 @@ impl<B: Basis> Table<B> {
                 self.span,
                 Out::NUMBER,
                 cv.as_ptr(),
-                cv.len(),
+                cv.len() as u64,
                 allowance,
                 out.as_mut_ptr(),
-                out.len(),
+                out.len() as u64,
                 &mut span,
                 &mut written,
             )
         };
-        done(reply, (Table::new(span), written))
+        done(reply, (Table::new(span), written as usize))
     }
 }
 
-fn timed_place(reply: u32, place: [f64; 4], whole: [usize; 4]) -> Result<TimedPlace, Refusal> {
+fn timed_place(reply: u32, place: [f64; 4], whole: [u64; 4]) -> Result<TimedPlace, Refusal> {
     let [ground, segment, count, second] = whole;
     found(reply, place, [ground, segment, count]).map(|place| TimedPlace { place, second: second as u32 })
 }

@@ -59,10 +59,10 @@ pub fn depth_at_with<T: Basis, D: Basis>(
         raw::simmerstoat_depth_at(
             T::NUMBER,
             times.as_ptr(),
-            times.len(),
+            times.len() as u64,
             D::NUMBER,
             depths.as_ptr(),
-            depths.len(),
+            depths.len() as u64,
             y,
             limit,
             precision,

@@ -1,6 +1,7 @@
 //! Valves that count in whole steps: four whole knots mixed at one of 257 places, in whole numbers alone.
 //!
-//! This module calls `libvalve.a`, which `rt staticlib valve` writes and which holds no floating-point arithmetic.
+//! This module, which the feature `valve` turns on, calls `libvalve.a`, which `rt staticlib valve` writes and which holds no floating-point
+//! arithmetic.
 //!
 //! ```
 //! use simmerstoat::valve::{mix, Refusal, WHOLE};
@@ -24,7 +25,7 @@ pub const LAST_STEP: u16 = 256;
 pub const MOST: i64 = 1_000_000;
 
 extern "C" {
-    fn simmerstoat_valve(step: u16, knots: *const i64, n: usize, sum: *mut i64) -> u32;
+    fn simmerstoat_valve(step: u16, knots: *const i64, n: u64, sum: *mut i64) -> u32;
 }
 
 /// Why there is no sum. The first that applies is given, in this order.
@@ -79,7 +80,7 @@ impl Error for Refusal {}
 pub fn mix(step: u16, knots: &[i64]) -> Result<i64, Refusal> {
     let mut sum = 0;
     // SAFETY: the pointer and length are a slice's, and `sum` is a local.
-    let reply = unsafe { simmerstoat_valve(step, knots.as_ptr(), knots.len(), &mut sum) };
+    let reply = unsafe { simmerstoat_valve(step, knots.as_ptr(), knots.len() as u64, &mut sum) };
     if reply == 0 {
         Ok(sum)
     } else {

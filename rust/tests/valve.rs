@@ -1,4 +1,6 @@
 //! The valve's refusals in their order, its rows, and its sums.
+#![cfg(feature = "valve")]
+
 use simmerstoat::valve::{mix, Refusal, LAST_STEP, MOST, WHOLE};
 
 #[test]

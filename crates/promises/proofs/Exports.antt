@@ -18,6 +18,7 @@ use Rattle.convert.specs.Buffer.{answerOf, bufferOf}
 use Rattle.exports_reply.specs.declared.BasisChoice.{BasisChoice}
 use Rattle.exports_reply.specs.declared.BasisChoice.the-variants.{Known, Unknown}
 use Rattle.exports_reply.specs.Replies.{chosenOf, noBasis, chosen, evaluatedReply, valueLeft, invertedReply, placeLeft, wholeLeft, convertedReply, lengthLeft}
+use Rattle.simmerstoat.proofs.version.simmerstoat_version.Reads as version
 use Rattle.simmerstoat.proofs.simmerstoat_is_len_ok.Reads as is_len_ok
 use Rattle.simmerstoat.proofs.simmerstoat_spline.Reads as spline
 use Rattle.simmerstoat.proofs.simmerstoat_spline_segment.Reads as spline_segment
@@ -30,6 +31,9 @@ use Rattle.simmerstoat.proofs.simmerstoat_convert_spline.Reads as convert_splin
 use Rattle.calls.specs.Calls.{AsksNothing, Keeps}
 
 -- ---- no export asks anything of its caller
+pub version-asks-nothing : AsksNothing version.Asked
+version-asks-nothing κs a = tt
+
 pub is-len-ok-asks-nothing : AsksNothing is_len_ok.Asked
 is-len-ok-asks-nothing κs a = tt
 

@@ -16,6 +16,7 @@ use Rattle.inverse.proofs.spline_inverse_with.Reads as spline_inverse_with
 use Rattle.inverse.proofs.spline_inverse.Reads as spline_inverse
 use Rattle.convert.proofs.convert_segment.Reads as convert_segment
 use Rattle.convert.proofs.convert_spline.Reads as convert_spline
+use Rattle.simmerstoat.proofs.version.simmerstoat_version.Reads as c_version
 use Rattle.simmerstoat.proofs.simmerstoat_is_len_ok.Reads as c_is_len_ok
 use Rattle.simmerstoat.proofs.simmerstoat_spline.Reads as c_spline
 use Rattle.simmerstoat.proofs.simmerstoat_spline_segment.Reads as c_spline_segment
@@ -75,6 +76,9 @@ pub convert-spline-one-reply : OneReply convert_spline.Learnt (λ κs z e z′ e
 convert-spline-one-reply κs a z z′ e e′ p q = (one (p .0) (q .0), one (p .1) (q .1))
 
 -- ---- what others link: the number returned, and what stands behind each pointer that may be written
+pub c-version-one-reply : OneReply c_version.Learnt (λ κs z e z′ e′. z ≡ z′)
+c-version-one-reply κs a z z′ e e′ p q = one p q
+
 pub c-is-len-ok-one-reply : OneReply c_is_len_ok.Learnt (λ κs z e z′ e′. z ≡ z′)
 c-is-len-ok-one-reply κs a z z′ e e′ p q = one p q
 

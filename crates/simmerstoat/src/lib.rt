@@ -29,6 +29,7 @@ pub mod options;
 pub mod seams;
 pub mod spans;
 pub mod steady;
+pub mod version;
 
 // 1 or 0; 255 for a number that is no basis, here and in every other call.
 #[no_mangle]

@@ -85,7 +85,7 @@ fn rising(r: &mut Rng, b: usize, n: usize) -> Vec<f64> {
 fn spline_segment(r: &mut Rng, b: usize) -> Row {
     let cv = rising(r, b, 4);
     let xs: Vec<f64> = (0..1000).map(|_| r.unit()).collect();
-    let (number, at, n) = (b as u8, cv.as_ptr(), cv.len());
+    let (number, at, n) = (b as u8, cv.as_ptr(), cv.len() as u64);
     let mut outs = [0.0; 3];
     let [o0, o1, o2] = &mut outs;
     let ns = timed(
@@ -102,7 +102,7 @@ fn spline_segment(r: &mut Rng, b: usize) -> Row {
 fn spline(r: &mut Rng, b: usize, k: usize) -> Row {
     let knots = rising(r, b, 4 + (k - 1) * STEP[b]);
     let xs: Vec<f64> = (0..passes(k)).map(|_| r.unit()).collect();
-    let (number, at, n) = (b as u8, knots.as_ptr(), knots.len());
+    let (number, at, n) = (b as u8, knots.as_ptr(), knots.len() as u64);
     let mut outs = [0.0; 3];
     let [o0, o1, o2] = &mut outs;
     let ns = timed(
@@ -143,7 +143,7 @@ fn inversion_target(b: usize) -> f64 {
 fn spline_inverse_segment(r: &mut Rng, b: usize) -> Row {
     let cv = rising(r, b, 4);
     let ys = targets(r, b, &cv, 500);
-    let (number, at, n) = (b as u8, cv.as_ptr(), cv.len());
+    let (number, at, n) = (b as u8, cv.as_ptr(), cv.len() as u64);
     let (mut place, mut whole, mut outs) = ([0.0; 4], [0; 3], [0.0; 2]);
     let [o1, o2] = &mut outs;
     let ns = timed(
@@ -164,7 +164,7 @@ fn spline_inverse_segment(r: &mut Rng, b: usize) -> Row {
 fn spline_inverse(r: &mut Rng, b: usize, k: usize, check: bool) -> Row {
     let knots = rising(r, b, 4 + (k - 1) * STEP[b]);
     let ys = targets(r, b, &knots, passes(k) / 2);
-    let (number, at, n) = (b as u8, knots.as_ptr(), knots.len());
+    let (number, at, n) = (b as u8, knots.as_ptr(), knots.len() as u64);
     let (mut place, mut whole, mut outs) = ([0.0; 4], [0; 3], [0.0; 2]);
     let [o1, o2] = &mut outs;
     let ns = timed(
@@ -207,7 +207,7 @@ fn convert_segment(r: &mut Rng, from: usize, to: usize) -> Row {
 
 fn convert_spline(r: &mut Rng, from: usize, to: usize, k: usize) -> Row {
     let knots = rising(r, from, 4 + (k - 1) * STEP[from]);
-    let (a, b, n) = (from as u8, to as u8, knots.len());
+    let (a, b, n) = (from as u8, to as u8, knots.len() as u64);
     let mut out = vec![0.0; 4 + (k - 1) * STEP[to]];
     let (mut written, mut other) = (0, out.clone());
     let calls = if k > 200 { 30 } else { 300 };
@@ -216,7 +216,7 @@ fn convert_spline(r: &mut Rng, from: usize, to: usize, k: usize) -> Row {
         [
             &mut || {
                 (0..calls).for_each(|_| unsafe {
-                    let (o, room) = (out.as_mut_ptr(), out.len());
+                    let (o, room) = (out.as_mut_ptr(), out.len() as u64);
                     black_box(raw::simmerstoat_convert_spline(a, b, knots.as_ptr(), n, o, room, &mut written));
                 })
             },
