@@ -36,9 +36,9 @@ use Rattle.inverse_segment.specs.Answer.{inverted, inverseSegmentUses, inverseS
 use Rattle.inverse_segment.proofs.Enclosing.{Says}
 use Rattle.inverse_segment.proofs.Verdicts.{passes}
 use Rattle.inverse_segment.proofs.Call.{Owed, inverse-segment-owed}
-use Rattle.inverse_methods.specs.declared.Method.{Method}
-use Rattle.inverse_methods.specs.Method.{ruleOf}
-use Rattle.inverse_methods.proofs.Lawful.{lawful-of}
+use Rattle.inverse_segment.specs.declared.Method.{Method}
+use Rattle.inverse_segment.specs.Method.{ruleOf}
+use Rattle.inverse_segment.proofs.Lawful.{lawful-of}
 use Rattle.inverse_order.specs.declared.EndsBy.{EndsBy}
 use Rattle.inverse.specs.Inverse.{inverseUses, inverseBy}
 use Rattle.inverse.proofs.Facts.{AtPlace, Proper, Enclosed, GroundSays}

@@ -1,7 +1,7 @@
 // The exports of one segment's inversion: each function has the contract of the export that calls it.
 ghost use mathlib.Core.Path.{_≡_};
 ghost use Rattle.inverse_segment.specs.Answer.{inverseSegmentOf, inverseSegmentBy, defaultLimit, defaultPrecision};
-ghost use Rattle.inverse_methods.specs.Method.{ruleOf, steadySegmentOf};
+ghost use Rattle.inverse_segment.specs.Method.{ruleOf, steadySegmentOf};
 ghost use Rattle.exports_reply.specs.Replies.{chosenOf, noBasis, chosen, invertedReply, placeLeft, wholeLeft};
 ghost use Rattle.exports_reply.specs.Options.{chosenBy};
 use exports_reply::BasisChoice;
@@ -27,7 +27,7 @@ pub fn spline_inverse_segment(
         return exports_reply::UNKNOWN;
     };
     exports_reply::place_told(
-        inverse_methods::spline_inverse_segment(b, y, cv),
+        inverse_segment::spline_inverse_segment(b, y, cv),
         place,
         whole,
     )
@@ -55,7 +55,7 @@ pub fn spline_inverse_segment_with(
         return exports_reply::UNKNOWN;
     };
     exports_reply::place_told(
-        inverse_methods::spline_inverse_segment_with(b, y, cv, limit, precision),
+        inverse_segment::spline_inverse_segment_with(b, y, cv, limit, precision),
         place,
         whole,
     )
@@ -88,7 +88,7 @@ pub fn spline_inverse_segment_by(
         return exports_reply::UNKNOWN;
     };
     exports_reply::place_told(
-        inverse_methods::spline_inverse_segment_by(b, y, cv, limit, precision, m),
+        inverse_segment::spline_inverse_segment_by(b, y, cv, limit, precision, m),
         place,
         whole,
     )
@@ -113,7 +113,7 @@ pub fn spline_inverse_segment_steady(
         return exports_reply::UNKNOWN;
     };
     exports_reply::place_told(
-        inverse_methods::spline_inverse_segment_steady(b, y, cv),
+        inverse_segment::spline_inverse_segment_steady(b, y, cv),
         place,
         whole,
     )

@@ -3,7 +3,7 @@ use mathlib.Core.Path.{_≡_, sym, ap, _∙_}
 use Rattle.basis.specs.declared.Basis.{Basis}
 use Rattle.exports_reply.specs.declared.BasisChoice.{BasisChoice}
 use Rattle.exports_reply.specs.declared.BasisChoice.the-variants.{Known, Unknown}
-use Rattle.inverse_methods.specs.declared.Method.{Method}
+use Rattle.inverse_segment.specs.declared.Method.{Method}
 use Rattle.inverse_order.specs.declared.EndsBy.{EndsBy}
 use Rattle.exports_reply.specs.declared.options.Way.{Way}
 use Rattle.exports_reply.specs.declared.options.Way.the-variants as W

@@ -1,7 +1,7 @@
 // Rules of the ends and methods by their numbers.
 ghost use mathlib.Core.Path.{_≡_};
 ghost use Rattle.exports_reply.specs.Options.{methodOf, wayOf};
-use inverse_methods::Method;
+use inverse_segment::Method;
 use inverse_order::EndsBy;
 
 pub enum Way {

@@ -17,9 +17,9 @@ use Rattle.checks.specs.Checks.{allInRange}
 use Rattle.inverse_segment.specs.declared.Stop.{Stop}
 use Rattle.inverse_segment.specs.Segment.{Outcome, off, placed}
 use Rattle.inverse_segment.proofs.Enclosing.{Numbers}
-use Rattle.inverse_methods.specs.declared.Method.{Method}
-use Rattle.inverse_methods.specs.Method.{ruleOf}
-use Rattle.inverse_methods.proofs.Lawful.{lawful-of}
+use Rattle.inverse_segment.specs.declared.Method.{Method}
+use Rattle.inverse_segment.specs.Method.{ruleOf}
+use Rattle.inverse_segment.proofs.Lawful.{lawful-of}
 use Rattle.inverse_search.specs.declared.SearchResult.{SearchResult}
 use Rattle.inverse_search.specs.declared.SearchResult.the-variants.{Entered}
 use Rattle.inverse_search.specs.Contract.{resultOf, FindIs}

@@ -22,8 +22,8 @@ use Rattle.inverse_segment.specs.Round.{Rule}
 use Rattle.inverse_segment.specs.Rounds.{Arrival}
 use Rattle.inverse_segment.specs.Segment.{Outcome}
 use Rattle.inverse_segment.specs.Answer.{placeOf, answered, inverted}
-use Rattle.inverse_methods.specs.declared.Method.{Method}
-use Rattle.inverse_methods.specs.Method.{ruleOf}
+use Rattle.inverse_segment.specs.declared.Method.{Method}
+use Rattle.inverse_segment.specs.Method.{ruleOf}
 use Rattle.inverse_segment.proofs.Later.{isEnd, More}
 use Rattle.inverse_search.specs.Search.{find}
 use Rattle.inverse_search.specs.Trial.{trial}

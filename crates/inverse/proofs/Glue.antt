@@ -20,9 +20,9 @@ use Rattle.basis.specs.Basis.{stepOf, matrixOf, segmentsOf}
 use Rattle.spline.specs.declared.RowSums.{RowSums}
 use Rattle.spline.specs.Segment.{rowSumsOf, hornerOf, segmentOf}
 use Rattle.inverse_segment.specs.Evaluations.{Evaluations}
-use Rattle.inverse_methods.specs.declared.Method.{Method}
+use Rattle.inverse_segment.specs.declared.Method.{Method}
 use Rattle.inverse_segment.specs.Round.{Rule}
-use Rattle.inverse_methods.specs.Method.{ruleOf}
+use Rattle.inverse_segment.specs.Method.{ruleOf}
 use Rattle.inverse_search.specs.declared.SearchResult.{SearchResult}
 use Rattle.inverse_search.specs.declared.SearchResult.the-variants.{OffCurve as NotOn, Entered}
 use Rattle.inverse_search.specs.Contract.{resultOf, countIn}

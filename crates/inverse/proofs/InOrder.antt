@@ -19,9 +19,9 @@ use Rattle.inverse_segment.specs.Answer.{answered}
 use Rattle.inverse_search.proofs.Found.{Holds, Nothing}
 use Rattle.inverse_search.proofs.First.{first-entered}
 use Rattle.inverse_search.specs.Trial.{trial}
-use Rattle.inverse_methods.specs.declared.Method.{Method}
-use Rattle.inverse_methods.specs.Method.{ruleOf}
-use Rattle.inverse_methods.proofs.Lawful.{lawful-of}
+use Rattle.inverse_segment.specs.declared.Method.{Method}
+use Rattle.inverse_segment.specs.Method.{ruleOf}
+use Rattle.inverse_segment.proofs.Lawful.{lawful-of}
 use Rattle.inverse_search.proofs.Sound.{SoundIn, trial-tried}
 use Rattle.inverse_order.specs.declared.EndsBy.{EndsBy}
 use Rattle.inverse.specs.EndRule.{atLow, atHigh, endRuleOf}

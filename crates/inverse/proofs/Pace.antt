@@ -26,9 +26,9 @@ use Rattle.inverse.specs.EndRule.{atLow, atHigh}
 use Rattle.inverse.specs.Curve.{parameterOf, located}
 use Rattle.inverse_segment.specs.Round.{Rule}
 use Rattle.inverse_segment.proofs.Rules.{Lawful}
-use Rattle.inverse_methods.specs.Steady.{paced}
-use Rattle.inverse_methods.proofs.Ending.{Enough}
-use Rattle.inverse_methods.proofs.Timely as S
+use Rattle.inverse_segment.specs.Steady.{paced}
+use Rattle.inverse_segment.proofs.Ending.{Enough}
+use Rattle.inverse_segment.proofs.Timely as S
 
 module _ (R : Rule) (lawful : Lawful R) (y ε : Float) (limit N : ℕ) (E : Enough ε N) where
   abbrev InTime : ℕ → ℕ → Arrival → Type 0

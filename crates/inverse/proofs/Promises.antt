@@ -22,9 +22,9 @@ use Rattle.inverse_segment.specs.declared.Inversion.{Inversion}
 use Rattle.inverse_segment.specs.declared.Inversion.the-variants.{Refused, OffCurve, At}
 use Rattle.inverse_segment.specs.Agreed.{Agreed}
 use Rattle.inverse_segment.specs.Answer.{inverted, countTold, unlessRefused}
-use Rattle.inverse_methods.specs.declared.Method.{Method}
-use Rattle.inverse_methods.specs.Method.{ruleOf}
-use Rattle.inverse_methods.proofs.Lawful.{lawful-of}
+use Rattle.inverse_segment.specs.declared.Method.{Method}
+use Rattle.inverse_segment.specs.Method.{ruleOf}
+use Rattle.inverse_segment.proofs.Lawful.{lawful-of}
 use Rattle.inverse_segment.proofs.Enclosing.{Numbers}
 use Rattle.inverse_search.specs.Bound.{bitsOf, boundOf}
 use Rattle.inverse_search.proofs.Found.{Holds}

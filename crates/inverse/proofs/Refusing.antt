@@ -19,8 +19,8 @@ use Rattle.doubles.proofs.Tests.{branch}
 use Rattle.spline.specs.Segment.{segmentOf}
 use Rattle.inverse_segment.specs.declared.Inversion.the-variants.{Refused}
 use Rattle.inverse_segment.proofs.Verdicts.{Past, answered-past, refused-by}
-use Rattle.inverse_methods.specs.declared.Method.{Method}
-use Rattle.inverse_methods.specs.Method.{ruleOf}
+use Rattle.inverse_segment.specs.declared.Method.{Method}
+use Rattle.inverse_segment.specs.Method.{ruleOf}
 use Rattle.inverse_search.specs.Trial.{trial}
 use Rattle.inverse_search.specs.Search.{find}
 use Rattle.inverse_order.specs.Order.{turnsBack, turningKnot}

@@ -14,11 +14,11 @@ use Rattle.spline.specs.Segment.{segmentOf}
 use Rattle.inverse_segment.specs.declared.Inversion.{Inversion}
 use Rattle.inverse_segment.specs.Answer.{countTold}
 use Rattle.inverse_search.specs.Bound.{boundOf}
-use Rattle.inverse_methods.specs.declared.Method.the-variants.{Steady}
-use Rattle.inverse_methods.specs.Steady.{secant}
-use Rattle.inverse_methods.proofs.Lawful.{secant-lawful}
-use Rattle.inverse_methods.proofs.Ending.{Enough}
-use Rattle.inverse_methods.proofs.Timely.{NeverSpent}
+use Rattle.inverse_segment.specs.declared.Method.the-variants.{Steady}
+use Rattle.inverse_segment.specs.Steady.{secant}
+use Rattle.inverse_segment.proofs.Lawful.{secant-lawful}
+use Rattle.inverse_segment.proofs.Ending.{Enough}
+use Rattle.inverse_segment.proofs.Timely.{NeverSpent}
 use Rattle.inverse_order.specs.declared.EndsBy.{EndsBy}
 use Rattle.inverse.specs.EndRule.{endRuleOf, own}
 use Rattle.inverse.specs.Inverse.{inverseBy}

@@ -17,8 +17,8 @@ use Rattle.spline.specs.Segment.{segmentOf}
 use Rattle.checks.specs.Checks.{allInRange, badKnot, curveLength, asked}
 use Rattle.inverse_segment.specs.declared.Inversion.{Inversion}
 use Rattle.inverse_segment.specs.declared.Inversion.the-variants.{Refused}
-use Rattle.inverse_methods.specs.declared.Method.{Method}
-use Rattle.inverse_methods.specs.Method.{ruleOf}
+use Rattle.inverse_segment.specs.declared.Method.{Method}
+use Rattle.inverse_segment.specs.Method.{ruleOf}
 use Rattle.checks.proofs.Verdicts.{askedRows, lastRows}
 use Rattle.inverse_order.specs.Order.{turnsBack, turnBack}
 use Rattle.inverse_order.specs.declared.EndsBy.{EndsBy}

@@ -9,8 +9,8 @@ use Rattle.basis.specs.declared.Basis.{Basis}
 use Rattle.spline.specs.Segment.{segmentOf}
 use Rattle.inverse_segment.specs.declared.Inversion.{Inversion}
 use Rattle.inverse_segment.specs.Evaluations.{Evaluations}
-use Rattle.inverse_methods.specs.declared.Method.{Method}
-use Rattle.inverse_methods.specs.Method.{ruleOf}
+use Rattle.inverse_segment.specs.declared.Method.{Method}
+use Rattle.inverse_segment.specs.Method.{ruleOf}
 use Rattle.inverse_segment.specs.Answer.{answered}
 use Rattle.inverse_search.specs.Search.{find}
 use Rattle.inverse_search.specs.Trial.{trial}

@@ -12,9 +12,9 @@ use Rattle.checks.specs.Checks.{curveLength, badKnot, asked}
 use Rattle.inverse_segment.specs.declared.Inversion.{Inversion}
 use Rattle.inverse_segment.specs.Evaluations.{Evaluations}
 use Rattle.inverse_segment.specs.Answer.{inverted, unlessRefused, defaultPrecision}
-use Rattle.inverse_methods.specs.declared.Method.{Method}
-use Rattle.inverse_methods.specs.declared.Method.the-variants.{AsCrate, Steady}
-use Rattle.inverse_methods.specs.Method.{ruleOf, steadyLimit}
+use Rattle.inverse_segment.specs.declared.Method.{Method}
+use Rattle.inverse_segment.specs.declared.Method.the-variants.{AsCrate, Steady}
+use Rattle.inverse_segment.specs.Method.{ruleOf, steadyLimit}
 use Rattle.inverse_order.specs.declared.EndsBy.{EndsBy}
 use Rattle.inverse_order.specs.declared.EndsBy.the-variants.{Knots}
 use Rattle.inverse_order.specs.Order.{turnBack}

@@ -17,8 +17,8 @@ use Rattle.inverse_segment.specs.declared.Trial.{Trial as Tried}
 use Rattle.inverse_segment.specs.declared.Trial.the-variants.{Outside, Inside}
 use Rattle.inverse_segment.specs.Evaluations.{Evaluations}
 use Rattle.inverse_segment.specs.Segment.{Entry, outside, inside, Outcome, off, orElse}
-use Rattle.inverse_methods.specs.declared.Method.{Method}
-use Rattle.inverse_methods.specs.Method.{ruleOf}
+use Rattle.inverse_segment.specs.declared.Method.{Method}
+use Rattle.inverse_segment.specs.Method.{ruleOf}
 use Rattle.inverse_segment.specs.Contract.{stopOf, trialOf}
 use Rattle.inverse_segment.proofs.Stops.{Leaves, enter-leaves}
 use Rattle.inverse_search.specs.declared.SearchResult.{SearchResult}

@@ -15,8 +15,8 @@ use Rattle.inverse_segment.specs.declared.Trial.{Trial as Tried}
 use Rattle.inverse_segment.specs.Evaluations.{Evaluations}
 use Rattle.inverse_segment.specs.Segment.{Outcome, off, placed}
 use Rattle.inverse_segment.specs.Contract.{stopOf, trialOf}
-use Rattle.inverse_methods.specs.declared.Method.{Method}
-use Rattle.inverse_methods.specs.Method.{ruleOf}
+use Rattle.inverse_segment.specs.declared.Method.{Method}
+use Rattle.inverse_segment.specs.Method.{ruleOf}
 use Rattle.inverse_search.specs.declared.SearchResult.{SearchResult}
 use Rattle.inverse_search.specs.declared.SearchResult.the-variants.{OffCurve, Entered}
 use Rattle.inverse_search.specs.Search.{Trial, tries, last, halve, find}

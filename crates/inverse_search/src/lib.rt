@@ -17,7 +17,7 @@ ghost use Rattle.inverse_search.specs.Contract.{
   FindIs,
 };
 use basis::Basis;
-use inverse_methods::Method;
+use inverse_segment::Method;
 use inverse_segment::Ground;
 use inverse_segment::Stop;
 use inverse_segment::Trial;
@@ -88,7 +88,7 @@ fn try_at(
     ensures { λ r. ⌜ TrialIs how b (now (knots .entry)) y precision limit s n r ⌝ }
 {
     let start = s * basis::step(b);
-    inverse_methods::enter(how, b, &knots[start..], y, precision, limit, n)
+    inverse_segment::enter(how, b, &knots[start..], y, precision, limit, n)
 }
 
 // The segments from `first` up to below `end`, in order: the first whose ends enclose the target is entered.

@@ -9,3 +9,10 @@ pub mod Complete
 pub mod Later
 pub mod Verdicts
 pub mod Call
+pub mod Halving
+pub mod Lawful
+pub mod Ending
+pub mod Times
+pub mod Choosing
+pub mod Trying
+pub mod Timely

@@ -10,7 +10,6 @@ use lib.ListN.{length}
 use lib.Ieee.{Float, binary64, sub, lt}
 use Rattle.error.proofs.First.{never}
 use Rattle.doubles.specs.Numbers.{nought, one, magnitudeOf}
-use Rattle.doubles.specs.Lerp.{lerpOf}
 use Rattle.inverse_segment.specs.declared.Ground.{Ground}
 use Rattle.inverse_segment.specs.declared.Ground.the-variants.{Edge, Value, Width, Spent}
 use Rattle.inverse_segment.specs.declared.Bracket.{Bracket}
@@ -20,14 +19,10 @@ use Rattle.inverse_segment.specs.declared.RoundResult.the-variants.{Done
 use Rattle.inverse_segment.specs.declared.Stop.{Stop}
 use Rattle.inverse_segment.specs.Evaluations.{Evaluations}
 use Rattle.inverse_segment.specs.Round.{
-  Weighting,
   Rule,
-  chord,
   midpoint,
   narrow,
   usesRegulaFalsi,
-  weighed,
-  fraction,
   moved,
   Round,
   found,
@@ -51,34 +46,31 @@ module _ (y ε : Float) (rising : Bool) (b : Bracket) (st : State) (x v : Float)
   unfolding settled
   settled-on h = simp h
 
-module _ (W : Weighting) (f : Float → Float) (y ε : Float) (rising regula-falsi : Bool) (st : State) (n limit i : ℕ)
-    (e-r : regula-falsi ≡ usesRegulaFalsi limit i st) (s : ℕ)
-    (ev : Evaluations) (k : length ev ≡ n) where
+module _ (R : Rule) (f : Float → Float) (y ε : Float) (rising : Bool) (st : State) (n limit i s : ℕ) (ev : Evaluations) (k : length ev ≡ n) where
   pub round-width : {x : Float} → true ≡ narrow ε (st .bracket) → x ≡ midpoint (st .bracket)
-      → Done Width x (st .bracket) n ≡ shown (roundOf (chord W) f s y ε rising limit i st ev)
+      → Done Width x (st .bracket) n ≡ shown (roundOf R f s y ε rising limit i st ev)
   unfolding roundOf
   round-width h e = simp (← h, e, k)
 
-  round-probed : false ≡ narrow ε (st .bracket) → (a : Bracket) (t x v : Float) → a ≡ weighed W y regula-falsi st → t ≡ fraction y regula-falsi a
-      → x ≡ lerpOf (a .lower) (a .upper) t → v ≡ f x
-      → roundOf (chord W) f s y ε rising limit i st ev ≡ settled y ε rising a st x v ((s, x) ∷ ev)
-  unfolding roundOf probed chord
-  round-probed h a t x v e-a e-t e-x e-v = simp (← h, ← e-r) (cc)
+  round-probed : false ≡ narrow ε (st .bracket) → (a : Bracket) (x v : Float) → a ≡ R limit i y st .bracket → x ≡ R limit i y st .place → v ≡ f x
+      → roundOf R f s y ε rising limit i st ev ≡ settled y ε rising a st x v ((s, x) ∷ ev)
+  unfolding roundOf probed
+  round-probed h a x v e-a e-x e-v = simp (← h) (cc)
 
-  module _ {a : Bracket} {t x v g : Float} {next : State} (h : false ≡ narrow ε (st .bracket)) (e-a : a ≡ weighed W y regula-falsi st)
-      (e-t : t ≡ fraction y regula-falsi a) (e-x : x ≡ lerpOf (a .lower) (a .upper) t) (e-v : v ≡ f x)
+  module _ {a : Bracket} {x v g : Float} {next : State} (h : false ≡ narrow ε (st .bracket))
+      (c : (a ≡ R limit i y st .bracket) × (x ≡ R limit i y st .place)) (e-v : v ≡ f x)
       (e-n : next ≡ moved (Bool·beq (lt v y) rising) a st x v) (e-g : g ≡ magnitudeOf (sub binary64 v y)) where
-    pub round-value : lt g ε ≡ true → Done Value x (next .bracket) (n + 1) ≡ shown (roundOf (chord W) f s y ε rising limit i st ev)
+    pub round-value : lt g ε ≡ true → Done Value x (next .bracket) (n + 1) ≡ shown (roundOf R f s y ε rising limit i st ev)
     round-value l =
-        let r : roundOf (chord W) f s y ε rising limit i st ev ≡ found Value x (next .bracket) ((s, x) ∷ ev) =
-        round-probed h a t x v e-a e-t e-x e-v ∙ settled-value y ε rising a st x v ((s, x) ∷ ev) (rw (← e-g) l)
+        let r : roundOf R f s y ε rising limit i st ev ≡ found Value x (next .bracket) ((s, x) ∷ ev) =
+        round-probed h a x v (c .0) (c .1) e-v ∙ settled-value y ε rising a st x v ((s, x) ∷ ev) (rw (← e-g) l)
         ∙ ap (λ (z : State). found Value x (z .bracket) ((s, x) ∷ ev)) (sym e-n) in
         rw r (rw (add-one, k))
 
-    pub round-next : lt g ε ≡ false → Next next (n + 1) ≡ shown (roundOf (chord W) f s y ε rising limit i st ev)
+    pub round-next : lt g ε ≡ false → Next next (n + 1) ≡ shown (roundOf R f s y ε rising limit i st ev)
     round-next l =
-        let r : roundOf (chord W) f s y ε rising limit i st ev ≡ on next ((s, x) ∷ ev) =
-        round-probed h a t x v e-a e-t e-x e-v ∙ settled-on y ε rising a st x v ((s, x) ∷ ev) (rw (← e-g) l)
+        let r : roundOf R f s y ε rising limit i st ev ≡ on next ((s, x) ∷ ev) =
+        round-probed h a x v (c .0) (c .1) e-v ∙ settled-on y ε rising a st x v ((s, x) ∷ ev) (rw (← e-g) l)
         ∙ ap (λ (z : State). on z ((s, x) ∷ ev)) (sym e-n) in
         rw r (rw (add-one, k))
 

@@ -13,7 +13,6 @@ use Rattle.doubles.proofs.Units.{clear, InUnit}
 use Rattle.doubles.proofs.Interpolation.{Inside, lerp-inside}
 use Rattle.inverse_segment.specs.declared.Bracket.{Bracket}
 use Rattle.inverse_segment.specs.declared.State.{State}
-use Rattle.inverse_segment.specs.declared.Weighing.{Weighing}
 use Rattle.inverse_segment.specs.Round.{
   Weighting,
   halving,
@@ -25,10 +24,8 @@ use Rattle.inverse_segment.specs.Round.{
   Rule,
   chord,
   asCrate,
-  weightingOf,
-  chordOf,
 }
-use Rattle.inverse_segment.proofs.Weighting.{Keeps, halving-keeps, weighing-keeps}
+use Rattle.inverse_segment.proofs.Weighting.{Keeps, halving-keeps}
 
 -- two places in 0 to 1, the lower not above the upper
 pub record Placing (b : Bracket) : Type 0 where
@@ -113,6 +110,3 @@ chord-lawful W keeps =
 
 pub asCrate-lawful : Lawful asCrate
 asCrate-lawful = chord-lawful halving halving-keeps
-
-pub chordOf-lawful : (m : Weighing) → Lawful (chordOf m)
-chordOf-lawful m = chord-lawful (weightingOf m) (weighing-keeps m)

@@ -3,9 +3,7 @@ use mathlib.Core.Path.{_≡_, refl}
 use mathlib.Core.Bool.{Bool, true, false}
 use lib.Ieee.{Float}
 use Rattle.inverse_segment.specs.declared.Bracket.{Bracket}
-use Rattle.inverse_segment.specs.declared.Weighing.{Weighing}
-use Rattle.inverse_segment.specs.declared.Weighing.the-variants.{Value, Distance}
-use Rattle.inverse_segment.specs.Round.{Weighting, halving, toward, weightingOf}
+use Rattle.inverse_segment.specs.Round.{Weighting, halving, toward}
 
 pub record Keeps (W : Weighting) : Type 0 where
   pub keeps-lower : (y : Float) (lower : Bool) (b : Bracket) → W y lower b .lower ≡ b .lower
@@ -36,7 +34,3 @@ toward-upper y false b = refl
 
 pub toward-keeps : Keeps toward
 toward-keeps = record { keeps-lower = toward-lower; keeps-upper = toward-upper }
-
-pub weighing-keeps : (m : Weighing) → Keeps (weightingOf m)
-weighing-keeps Value = halving-keeps
-weighing-keeps Distance = toward-keeps

@@ -4,4 +4,6 @@ pub mod Round
 pub mod Rounds
 pub mod Segment
 pub mod Answer
+pub mod Steady
+pub mod Method
 pub mod Contract

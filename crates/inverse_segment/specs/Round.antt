@@ -9,8 +9,6 @@ use Rattle.inverse_segment.specs.declared.Ground.{Ground}
 use Rattle.inverse_segment.specs.declared.Ground.the-variants.{Value, Width}
 use Rattle.inverse_segment.specs.declared.Bracket.{Bracket}
 use Rattle.inverse_segment.specs.declared.State.{State}
-use Rattle.inverse_segment.specs.declared.Weighing.{Weighing}
-use Rattle.inverse_segment.specs.declared.Weighing.the-variants.{Value as ByValue, Distance}
 use Rattle.inverse_segment.specs.Evaluations.{Evaluations, see}
 
 -- ---- the width test
@@ -44,10 +42,6 @@ nearer y w = add binary64 y (mul binary64 (sub binary64 w y) half)
 unfoldable pub toward : Weighting
 toward y true b = record { lower = b .lower; upper = b .upper; v0 = b .v0; v1 = nearer y (b .v1) }
 toward y false b = record { lower = b .lower; upper = b .upper; v0 = nearer y (b .v0); v1 = b .v1 }
-
-abbrev pub weightingOf : Weighing → Weighting
-weightingOf ByValue = halving
-weightingOf Distance = toward
 
 -- ---- the fraction
 -- whether a round goes by regula falsi: its number, from 0, is below 3·limit/4 rounded down, and the same-side count below 3
@@ -86,9 +80,6 @@ chord W limit i y st =
 -- by the weighting that halves: the crate's rule
 abbrev pub asCrate : Rule
 asCrate = chord halving
-
-abbrev pub chordOf : Weighing → Rule
-chordOf m = chord (weightingOf m)
 
 -- ---- the move
 -- the lower end moves to x, whose value is v, or else the upper; the count grows on a repeated side and is 0 otherwise

@@ -1,11 +1,20 @@
-// What an inversion of one segment is made of: its two ends, and the rounds as the crate makes them. Rust: `invert` of src/lib.rs.
+// Inversion of one segment: its calls, by each method, and the one operation that enters a segment. Rust: `spline_inverse_segment` of
+// src/spline_trait.rs, and `invert` of src/lib.rs.
 ghost use mathlib.Core.Path.{_≡_};
-ghost use Prim.Native.Nat.{_≤_, _<_, _+_};
+ghost use Prim.Native.Nat.{_≤_, _+_};
+ghost use lib.ListN.{length};
+ghost use Rattle.basis.specs.Basis.{matrixOf};
+ghost use Rattle.spline.specs.Segment.{rowSumsOf};
 ghost use Rattle.inverse_segment.specs.Segment.{encloses, near};
-ghost use Rattle.inverse_segment.specs.Contract.{stopAt, placeAt, RoundsIs, EnteredIs};
+ghost use Rattle.inverse_segment.specs.Answer.{inverseSegmentBy, inverseSegmentOf, defaultLimit, defaultPrecision};
+ghost use Rattle.inverse_segment.specs.Method.{ruleOf, steadySegmentOf};
+ghost use Rattle.inverse_segment.specs.Contract.{stopAt, placeAt, EnteredIs, EnterIs, endsOf};
+use basis::Basis;
 use error::Refusal;
+use error::Verdict;
 use spline::RowSums;
 
+pub mod choice;
 pub mod refusals;
 pub mod round;
 
@@ -13,6 +22,9 @@ pub mod round;
 pub const DEFAULT_LIMIT: u16 = 32;
 
 pub const DEFAULT_PRECISION: f64 = 1e-10;
+
+// The steady method's limit by default: more rounds than it makes at the default precision, so that it is never spent.
+pub const STEADY_LIMIT: u16 = 64;
 
 // Why an inversion stopped: the target lies at or beyond an end of the curve; a segment's start or end is within twice the precision of it;
 // the value at the place is within the precision; the bracket is narrower than the precision; or all rounds were made.
@@ -24,11 +36,12 @@ pub enum Ground {
     Spent,
 }
 
-// What is halved where the same end of the bracket moves again: the value of that end, as in the crate;
-// or, as regula falsi is taught, the distance to the target at the other end.
-pub enum Weighing {
-    Value,
-    Distance,
+// How the next place is chosen: as the crate does; with the weighting as it is taught; or steadily, at a pace: a round allows the bracket
+// half the width that the round before it did, and takes the midpoint of one that is wider.
+pub enum Method {
+    AsCrate,
+    Taught,
+    Steady,
 }
 
 // Two local places and their values, as weighed.
@@ -46,10 +59,23 @@ pub struct State {
     pub repeats: u32,
 }
 
+// The bracket as weighed, and the place that is evaluated.
+pub struct NextPlace {
+    pub bracket: Bracket,
+    pub place: f64,
+}
+
 // What a round leaves: an answer, or the next round's state; with the count of evaluations.
 pub enum RoundResult {
     Done(Ground, f64, Bracket, u32),
     Next(State, u32),
+}
+
+// A segment's row sums, and the values of both its ends.
+struct SegmentEnds {
+    pub sums: RowSums,
+    pub v0: f64,
+    pub v1: f64,
 }
 
 // Where an inversion stopped in the segment that it entered, and why, the bracket after its last move, and the evaluations counted.
@@ -113,53 +139,7 @@ pub fn place_of(parameter: f64, s: usize, e: Stop) -> Place
     }
 }
 
-// The rounds by either weighting, from the bracket that is given; n evaluations have been made before them.
-fn rounds(
-    m: Weighing,
-    w: RowSums,
-    y: f64,
-    precision: f64,
-    rising: bool,
-    first: Bracket,
-    limit: u16,
-    n: u32,
-) -> Stop
-    requires { ⌜ n ≤ 1000000 ⌝ }
-    ensures { λ r. ⌜ RoundsIs m w y precision rising first limit n r ⌝ }
-{
-    let most = limit as u32;
-    let early = 3 * most / 4;
-    let mut st = State {
-        bracket: first,
-        side: 0,
-        repeats: 0,
-    };
-    let mut i: u32 = 0;
-    let mut count = n;
-    while i < most {
-        let regula_falsi = round::uses_regula_falsi(i, early, st.repeats);
-        let t = round::round(m, w, y, precision, rising, regula_falsi, st, count);
-        match t {
-            RoundResult::Next(next, k) => {
-                st = next;
-                count = k;
-            }
-            RoundResult::Done(ground, x, b, k) => {
-                return stopped(ground, x, b, k);
-            }
-        }
-        i += 1;
-    }
-    let b = st.bracket;
-    stopped(
-        Ground::Spent,
-        doubles::lerp(b.lower, b.upper, 0.5),
-        b,
-        count,
-    )
-}
-
-pub fn encloses(v0: f64, v1: f64, y: f64) -> bool
+fn encloses(v0: f64, v1: f64, y: f64) -> bool
     ensures { λ r. ⌜ r ≡ encloses v0 v1 y ⌝ }
 {
     if v0 < v1 {
@@ -176,8 +156,8 @@ pub fn is_near(y: f64, v: f64, precision: f64) -> bool
 }
 
 // A segment whose end values v0 and v1 enclose y is entered; n evaluations have been made, those of its ends among them.
-pub fn entered(
-    m: Weighing,
+fn entered(
+    how: Method,
     w: RowSums,
     y: f64,
     precision: f64,
@@ -187,7 +167,7 @@ pub fn entered(
     n: u32,
 ) -> Stop
     requires { ⌜ n ≤ 1000000 ⌝ }
-    ensures { λ r. ⌜ EnteredIs m w y precision limit v0 v1 n r ⌝ }
+    ensures { λ r. ⌜ EnteredIs how w y precision limit v0 v1 n r ⌝ }
 {
     let whole = Bracket {
         lower: 0.0,
@@ -201,5 +181,100 @@ pub fn entered(
     if is_near(y, v1, precision) {
         return stopped(Ground::Edge, 1.0, whole, n);
     }
-    rounds(m, w, y, precision, v0 < v1, whole, limit, n)
+    round::rounds(how, w, y, precision, v0 < v1, whole, limit, n)
+}
+
+fn ends_of(w: RowSums) -> SegmentEnds
+    ensures { λ r. ⌜ r ≡ endsOf w ⌝ }
+{
+    let v0 = spline::segment::horner(w, 0.0);
+    let v1 = spline::segment::horner(w, 1.0);
+    SegmentEnds {
+        sums: w,
+        v0: v0,
+        v1: v1,
+    }
+}
+
+// A match on the basis, so that each matrix is known where its row sums and end values are worked out.
+fn ends_in(b: Basis, cv: &[f64]) -> SegmentEnds
+    requires { ⌜ 4 ≤ length (now cv) ⌝ }
+    ensures { λ r. ⌜ r ≡ endsOf (rowSumsOf (matrixOf b) (now (cv .entry))) ⌝ }
+{
+    match b {
+        Basis::Bspline => ends_of(spline::segment::sums(basis::basis_macros::bspline(), cv)),
+        Basis::Bezier => ends_of(spline::segment::sums(basis::basis_macros::bezier(), cv)),
+        Basis::CatmullRom => ends_of(spline::segment::sums(basis::basis_macros::catmull_rom(), cv)),
+        Basis::Hermite => ends_of(spline::segment::sums(basis::basis_macros::hermite(), cv)),
+        Basis::Linear => ends_of(spline::segment::sums(basis::basis_macros::linear(), cv)),
+        Basis::Power => ends_of(spline::segment::sums(basis::basis_macros::power(), cv)),
+    }
+}
+
+// The segment whose four knots stand at the front of cv is tried: both its ends are evaluated, once, and it is entered where they enclose y.
+// n evaluations have been made before.
+pub fn enter(how: Method, b: Basis, cv: &[f64], y: f64, precision: f64, limit: u16, n: u32) -> Trial
+    requires enough { ⌜ 4 ≤ length (now cv) ⌝ }
+    requires count { ⌜ n ≤ 900000 ⌝ }
+    ensures { λ r. ⌜ EnterIs how b (now (cv .entry)) y precision limit n r ⌝ }
+{
+    let ends = ends_in(b, cv);
+    let w = ends.sums;
+    let v0 = ends.v0;
+    let v1 = ends.v1;
+    if encloses(v0, v1, y) {
+        return Trial::Inside(entered(how, w, y, precision, limit, v0, v1, n + 2));
+    }
+    Trial::Outside(v0)
+}
+
+// The place of y on the segment whose four knots are cv, by the method that is asked for.
+pub fn spline_inverse_segment_by(
+    b: Basis,
+    y: f64,
+    cv: &[f64],
+    limit: u16,
+    precision: f64,
+    how: Method,
+) -> Inversion
+    ensures { λ r. ⌜ r ≡ inverseSegmentBy (ruleOf how) b y (now (cv .entry)) limit precision ⌝ }
+{
+    let v = refusals::segment_verdict(y, cv, limit, precision);
+    match v {
+        Verdict::Failed(r) => Inversion::Refused(r),
+        Verdict::Passed => {
+            let t = enter(how, b, cv, y, precision, limit, 0);
+            let Trial::Inside(e) = t else {
+                return Inversion::OffCurve(2);
+            };
+            Inversion::At(place_of(e.local, 0, e))
+        }
+    }
+}
+
+// As the crate inverts.
+pub fn spline_inverse_segment_with(
+    b: Basis,
+    y: f64,
+    cv: &[f64],
+    limit: u16,
+    precision: f64,
+) -> Inversion
+    ensures { λ r. ⌜ r ≡ inverseSegmentOf b y (now (cv .entry)) limit precision ⌝ }
+{
+    spline_inverse_segment_by(b, y, cv, limit, precision, Method::AsCrate)
+}
+
+// As the crate inverts, with limit 32 and precision 1e-10.
+pub fn spline_inverse_segment(b: Basis, y: f64, cv: &[f64]) -> Inversion
+    ensures { λ r. ⌜ r ≡ inverseSegmentOf b y (now (cv .entry)) defaultLimit defaultPrecision ⌝ }
+{
+    spline_inverse_segment_with(b, y, cv, DEFAULT_LIMIT, DEFAULT_PRECISION)
+}
+
+// By the steady method, with limit 64 and precision 1e-10.
+pub fn spline_inverse_segment_steady(b: Basis, y: f64, cv: &[f64]) -> Inversion
+    ensures { λ r. ⌜ r ≡ steadySegmentOf b y (now (cv .entry)) ⌝ }
+{
+    spline_inverse_segment_by(b, y, cv, STEADY_LIMIT, DEFAULT_PRECISION, Method::Steady)
 }

@@ -1,18 +1,19 @@
-// One round of the inversion of a segment, given by its row sums: what is weighed, the next place, the move.
+// The rounds of the inversion of a segment, given by its row sums: the width test, the place that the method chooses, the move.
 ghost use mathlib.Core.Path.{_≡_};
 ghost use Prim.Native.Nat.{_≤_, _<_, _+_};
 ghost use lib.Dec.{ltb};
 ghost use mathlib.Core.Bool.{_&&_};
-ghost use Rattle.inverse_segment.specs.Round.{narrow, halving, toward, weightingOf, weighed, fraction, moved};
-ghost use Rattle.inverse_segment.specs.Contract.{RoundIs, repeatsAfter, countAfter};
+ghost use Rattle.inverse_segment.specs.Round.{narrow, moved};
+ghost use Rattle.inverse_segment.specs.Contract.{RoundIs, RoundsIs, repeatsAfter, countAfter};
 use crate::Bracket;
 use crate::Ground;
+use crate::Method;
 use crate::RoundResult;
 use crate::State;
-use crate::Weighing;
+use crate::Stop;
 use spline::RowSums;
 
-pub fn is_narrow(precision: f64, b: Bracket) -> bool
+fn is_narrow(precision: f64, b: Bracket) -> bool
     ensures { λ r. ⌜ r ≡ narrow precision b ⌝ }
 {
     let width = doubles::magnitude(b.upper - b.lower);
@@ -24,87 +25,7 @@ pub fn is_narrow(precision: f64, b: Bracket) -> bool
     }
 }
 
-// The weighting as in the crate: the stored value of the end that moved last is halved. `y` is unused here; the other weighting needs it.
-pub fn halved(y: f64, lower_moved_last: bool, b: Bracket) -> Bracket
-    ensures { λ r. ⌜ r ≡ halving y «lower_moved_last» b ⌝ }
-{
-    if lower_moved_last {
-        Bracket {
-            lower: b.lower,
-            upper: b.upper,
-            v0: b.v0 * 0.5,
-            v1: b.v1,
-        }
-    } else {
-        Bracket {
-            lower: b.lower,
-            upper: b.upper,
-            v0: b.v0,
-            v1: b.v1 * 0.5,
-        }
-    }
-}
-
-// The distance to the target is halved at the end that did not move last.
-pub fn toward(y: f64, lower_moved_last: bool, b: Bracket) -> Bracket
-    ensures { λ r. ⌜ r ≡ toward y «lower_moved_last» b ⌝ }
-{
-    if lower_moved_last {
-        Bracket {
-            lower: b.lower,
-            upper: b.upper,
-            v0: b.v0,
-            v1: y + (b.v1 - y) * 0.5,
-        }
-    } else {
-        Bracket {
-            lower: b.lower,
-            upper: b.upper,
-            v0: y + (b.v0 - y) * 0.5,
-            v1: b.v1,
-        }
-    }
-}
-
-fn reweighed(m: Weighing, y: f64, lower_moved_last: bool, b: Bracket) -> Bracket
-    ensures { λ r. ⌜ r ≡ weightingOf m y «lower_moved_last» b ⌝ }
-{
-    match m {
-        Weighing::Value => halved(y, lower_moved_last, b),
-        Weighing::Distance => toward(y, lower_moved_last, b),
-    }
-}
-
-pub fn weighed(m: Weighing, y: f64, regula_falsi: bool, st: State) -> Bracket
-    ensures { λ r. ⌜ r ≡ weighed (weightingOf m) y «regula_falsi» st ⌝ }
-{
-    let b = st.bracket;
-    if regula_falsi {
-        if 0 < st.repeats {
-            return reweighed(m, y, st.side == 1, b);
-        }
-        return b;
-    }
-    b
-}
-
-// Where in the bracket the next place lies, from 0 to 1. All halves go through one return, so that the compiler keeps the tests as branches
-// and divides only where the quotient is wanted.
-pub fn fraction(y: f64, regula_falsi: bool, b: Bracket) -> f64
-    ensures { λ r. ⌜ r ≡ fraction y «regula_falsi» b ⌝ }
-{
-    if regula_falsi {
-        let t = (y - b.v0) / (b.v1 - b.v0);
-        if 0.01 < t {
-            if t < 0.99 {
-                return t;
-            }
-        }
-    }
-    0.5
-}
-
-pub fn moved(lower_moves: bool, b: Bracket, st: State, x: f64, v: f64) -> State
+fn moved(lower_moves: bool, b: Bracket, st: State, x: f64, v: f64) -> State
     requires { ⌜ st .repeats < 65536 ⌝ }
     ensures answer { λ r. ⌜ r ≡ moved «lower_moves» b st x v ⌝ }
     ensures repeats_after { λ r. ⌜ r .repeats ≤ st .repeats + 1 ⌝ }
@@ -152,26 +73,27 @@ pub fn moved(lower_moves: bool, b: Bracket, st: State, x: f64, v: f64) -> State
     }
 }
 
-pub fn uses_regula_falsi(i: u32, early: u32, repeats: u32) -> bool
+fn uses_regula_falsi(i: u32, early: u32, repeats: u32) -> bool
     ensures { λ r. ⌜ r ≡ (ltb i early && ltb repeats 3) ⌝ }
 {
     i < early && repeats < 3
 }
 
 // One round: the width test, the place chosen and evaluated, the move, the value test. n evaluations have been made before it.
-pub fn round(
-    m: Weighing,
+fn round(
+    how: Method,
     w: RowSums,
     y: f64,
     precision: f64,
     rising: bool,
     regula_falsi: bool,
+    width: f64,
     st: State,
     n: u32,
 ) -> RoundResult
     requires repeats { ⌜ st .repeats < 65536 ⌝ }
     requires count { ⌜ n < 2000000 ⌝ }
-    ensures answer { λ r. ⌜ RoundIs m w y precision rising «regula_falsi» st n r ⌝ }
+    ensures answer { λ r. ⌜ RoundIs how w y precision rising «regula_falsi» width st n r ⌝ }
     ensures repeats_after { λ r. ⌜ repeatsAfter r ≤ st .repeats + 1 ⌝ }
     ensures count_after { λ r. ⌜ countAfter r ≤ n + 1 ⌝ }
 {
@@ -179,8 +101,9 @@ pub fn round(
     if is_narrow(precision, b) {
         return RoundResult::Done(Ground::Width, doubles::lerp(b.lower, b.upper, 0.5), b, n);
     }
-    let a = weighed(m, y, regula_falsi, st);
-    let x = doubles::lerp(a.lower, a.upper, fraction(y, regula_falsi, a));
+    let c = crate::choice::choose(how, y, regula_falsi, width, st);
+    let a = c.bracket;
+    let x = c.place;
     let v = spline::segment::horner(w, x);
     let next = moved((v < y) == rising, a, st, x, v);
     if doubles::magnitude(v - y) < precision {
@@ -188,4 +111,48 @@ pub fn round(
         return RoundResult::Done(Ground::Value, x, e, n + 1);
     }
     RoundResult::Next(next, n + 1)
+}
+
+// The rounds by a method, from the bracket that is given; n evaluations have been made before them.
+pub fn rounds(
+    how: Method,
+    w: RowSums,
+    y: f64,
+    precision: f64,
+    rising: bool,
+    first: Bracket,
+    limit: u16,
+    n: u32,
+) -> Stop
+    requires { ⌜ n ≤ 1000000 ⌝ }
+    ensures { λ r. ⌜ RoundsIs how w y precision rising first limit n r ⌝ }
+{
+    let most = limit as u32;
+    let early = 3 * most / 4;
+    let mut st = State {
+        bracket: first,
+        side: 0,
+        repeats: 0,
+    };
+    let mut width = 16.0;
+    let mut i: u32 = 0;
+    let mut count = n;
+    while i < most {
+        let regula_falsi = uses_regula_falsi(i, early, st.repeats);
+        let t = round(how, w, y, precision, rising, regula_falsi, width, st, count);
+        match t {
+            RoundResult::Next(next, k) => {
+                st = next;
+                count = k;
+            }
+            RoundResult::Done(ground, x, b, k) => {
+                return crate::stopped(ground, x, b, k);
+            }
+        }
+        width = width * 0.5;
+        i += 1;
+    }
+    let b = st.bracket;
+    let middle = doubles::lerp(b.lower, b.upper, 0.5);
+    crate::stopped(Ground::Spent, middle, b, count)
 }

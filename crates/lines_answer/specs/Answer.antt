@@ -14,7 +14,7 @@ use Rattle.inverse.specs.Inverse.{inverseBy}
 use Rattle.inverse_segment.specs.Answer.{defaultLimit, defaultPrecision}
 use Rattle.inverse_segment.specs.declared.Inversion.{Inversion}
 use Rattle.inverse_segment.specs.declared.Inversion.the-variants as I
-use Rattle.inverse_methods.specs.declared.Method.the-variants.{AsCrate}
+use Rattle.inverse_segment.specs.declared.Method.the-variants.{AsCrate}
 use Rattle.lines_record.specs.declared.Record.{Record}
 use Rattle.lines_record.specs.declared.Record.the-variants.{Curve as CurveOf, Span, Knot, Ends, At, Find, Turn, Bad}
 use Rattle.lines_reply.specs.Reply.{Reply, silence, refused, value, place, curve}

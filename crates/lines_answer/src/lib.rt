@@ -16,7 +16,7 @@ use basis::Basis;
 use convert::ConversionAnswer;
 use error::Refusal;
 use inverse::Options;
-use inverse_methods::Method;
+use inverse_segment::Method;
 use inverse_order::EndsBy;
 use inverse_segment::DEFAULT_LIMIT;
 use inverse_segment::DEFAULT_PRECISION;

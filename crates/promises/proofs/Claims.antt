@@ -19,13 +19,13 @@ use Rattle.inverse_segment.specs.declared.Place.{Place}
 use Rattle.inverse_segment.specs.declared.Inversion.{Inversion}
 use Rattle.inverse_segment.specs.declared.Inversion.the-variants as I
 use Rattle.inverse_segment.specs.Answer.{inverseSegmentBy, defaultLimit, defaultPrecision}
-use Rattle.inverse_methods.proofs.spline_inverse_segment_with.Reads as spline_inverse_segment_with
-use Rattle.inverse_methods.proofs.spline_inverse_segment.Reads as spline_inverse_segment
-use Rattle.inverse_methods.specs.declared.Method.{Method}
-use Rattle.inverse_methods.specs.declared.Method.the-variants.{AsCrate, Steady}
-use Rattle.inverse_methods.specs.Method.{ruleOf, steadyLimit}
-use Rattle.inverse_methods.proofs.spline_inverse_segment_by.Reads as spline_inverse_segment_by
-use Rattle.inverse_methods.proofs.spline_inverse_segment_steady.Reads as spline_inverse_segment_steady
+use Rattle.inverse_segment.proofs.spline_inverse_segment_with.Reads as spline_inverse_segment_with
+use Rattle.inverse_segment.proofs.spline_inverse_segment.Reads as spline_inverse_segment
+use Rattle.inverse_segment.specs.declared.Method.{Method}
+use Rattle.inverse_segment.specs.declared.Method.the-variants.{AsCrate, Steady}
+use Rattle.inverse_segment.specs.Method.{ruleOf, steadyLimit}
+use Rattle.inverse_segment.proofs.spline_inverse_segment_by.Reads as spline_inverse_segment_by
+use Rattle.inverse_segment.proofs.spline_inverse_segment_steady.Reads as spline_inverse_segment_steady
 use Rattle.inverse_order.specs.declared.EndsBy.{EndsBy}
 use Rattle.inverse_order.specs.declared.EndsBy.the-variants.{Knots}
 use Rattle.inverse.specs.Inverse.{inverseBy}

@@ -28,9 +28,9 @@ use Rattle.inverse_segment.specs.Answer.{defaultLimit, defaultPrecision}
 use Rattle.inverse_segment.specs.Round.{narrow, halving, weighed, chord, kept, fraction, moved, settled, probed, roundOf}
 use Rattle.inverse_segment.specs.Rounds.{rounds}
 use Rattle.inverse_segment.specs.Segment.{entered, enter}
-use Rattle.inverse_methods.specs.declared.Method.{Method}
-use Rattle.inverse_methods.specs.declared.Method.the-variants.{AsCrate, Steady}
-use Rattle.inverse_methods.specs.Method.{steadyLimit}
+use Rattle.inverse_segment.specs.declared.Method.{Method}
+use Rattle.inverse_segment.specs.declared.Method.the-variants.{AsCrate, Steady}
+use Rattle.inverse_segment.specs.Method.{steadyLimit}
 use Rattle.inverse_search.specs.Bound.{bitsOf}
 use Rattle.inverse_search.specs.Search.{tries, last, halve, find}
 use Rattle.inverse_order.specs.declared.EndsBy.{EndsBy}

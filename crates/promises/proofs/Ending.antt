@@ -11,13 +11,13 @@ use lib.Ieee.{Float, le}
 use Rattle.basis.specs.declared.Basis.{Basis}
 use Rattle.inverse_segment.specs.declared.Inversion.{Inversion}
 use Rattle.inverse_segment.specs.Answer.{inverseSegmentBy, defaultPrecision}
-use Rattle.inverse_methods.specs.declared.Method.{Method}
-use Rattle.inverse_methods.specs.declared.Method.the-variants.{Steady}
-use Rattle.inverse_methods.specs.Method.{ruleOf}
-use Rattle.inverse_methods.proofs.Ending.{Enough}
-use Rattle.inverse_methods.proofs.Times.{twoToMinus, default-enough, power-enough, any-enough}
-use Rattle.inverse_methods.proofs.Timely.{SegmentWithin, segment-timely}
-use Rattle.inverse_methods.proofs.spline_inverse_segment_by.Reads as spline_inverse_segment_by
+use Rattle.inverse_segment.specs.declared.Method.{Method}
+use Rattle.inverse_segment.specs.declared.Method.the-variants.{Steady}
+use Rattle.inverse_segment.specs.Method.{ruleOf}
+use Rattle.inverse_segment.proofs.Ending.{Enough}
+use Rattle.inverse_segment.proofs.Times.{twoToMinus, default-enough, power-enough, any-enough}
+use Rattle.inverse_segment.proofs.Timely.{SegmentWithin, segment-timely}
+use Rattle.inverse_segment.proofs.spline_inverse_segment_by.Reads as spline_inverse_segment_by
 use Rattle.inverse_order.specs.declared.EndsBy.{EndsBy}
 use Rattle.inverse.specs.Inverse.{inverseBy}
 use Rattle.inverse.proofs.Timely.{Within, timely}

@@ -25,13 +25,13 @@ use Rattle.inverse_segment.specs.Answer.{
   defaultPrecision,
 }
 use Rattle.inverse_segment.proofs.Call.{Owed, inverse-segment-listed, inverse-segment-unlisted, inverse-segment-owed, inverse-segment-count}
-use Rattle.inverse_methods.proofs.spline_inverse_segment_with.Reads as spline_inverse_segment_with
-use Rattle.inverse_methods.proofs.spline_inverse_segment.Reads as spline_inverse_segment
-use Rattle.inverse_methods.specs.declared.Method.{Method}
-use Rattle.inverse_methods.specs.declared.Method.the-variants.{AsCrate}
-use Rattle.inverse_methods.specs.Method.{ruleOf}
-use Rattle.inverse_methods.proofs.Lawful.{lawful-of}
-use Rattle.inverse_methods.proofs.spline_inverse_segment_by.Reads as spline_inverse_segment_by
+use Rattle.inverse_segment.proofs.spline_inverse_segment_with.Reads as spline_inverse_segment_with
+use Rattle.inverse_segment.proofs.spline_inverse_segment.Reads as spline_inverse_segment
+use Rattle.inverse_segment.specs.declared.Method.{Method}
+use Rattle.inverse_segment.specs.declared.Method.the-variants.{AsCrate}
+use Rattle.inverse_segment.specs.Method.{ruleOf}
+use Rattle.inverse_segment.proofs.Lawful.{lawful-of}
+use Rattle.inverse_segment.proofs.spline_inverse_segment_by.Reads as spline_inverse_segment_by
 use Rattle.inverse_order.specs.declared.EndsBy.the-variants.{Knots}
 use Rattle.inverse.proofs.Promises.{Promised, reply-promised}
 use Rattle.inverse.proofs.spline_inverse_by.Reads as spline_inverse_by

@@ -17,7 +17,7 @@ use Rattle.checks.specs.Checks.{inRange, allInRange, firstBad}
 use Rattle.spline.specs.Evaluation.{splineUses, splineSegmentUses}
 use Rattle.inverse_segment.specs.declared.Inversion.the-variants as I
 use Rattle.inverse_segment.specs.Answer.{inverseSegmentUses, defaultLimit, defaultPrecision}
-use Rattle.inverse_methods.specs.declared.Method.the-variants.{AsCrate}
+use Rattle.inverse_segment.specs.declared.Method.the-variants.{AsCrate}
 use Rattle.inverse_order.specs.declared.EndsBy.the-variants.{Knots}
 use Rattle.inverse.specs.Inverse.{inverseUses}
 use Rattle.inverse_order.proofs.TurnsBack.{AgainstAt}
@@ -26,9 +26,9 @@ use Rattle.convert.specs.declared.ConversionAnswer.the-variants as C
 use Rattle.convert.specs.Conversion.{convertSegmentUses, convertUses}
 use Rattle.spline.proofs.spline.Reads as spline
 use Rattle.spline.proofs.spline_segment.Reads as spline_segment
-use Rattle.inverse_methods.proofs.spline_inverse_segment_with.Reads as spline_inverse_segment_with
-use Rattle.inverse_methods.proofs.spline_inverse_segment.Reads as spline_inverse_segment
-use Rattle.inverse_methods.proofs.spline_inverse_segment_by.Reads as spline_inverse_segment_by
+use Rattle.inverse_segment.proofs.spline_inverse_segment_with.Reads as spline_inverse_segment_with
+use Rattle.inverse_segment.proofs.spline_inverse_segment.Reads as spline_inverse_segment
+use Rattle.inverse_segment.proofs.spline_inverse_segment_by.Reads as spline_inverse_segment_by
 use Rattle.inverse.proofs.spline_inverse_by.Reads as spline_inverse_by
 use Rattle.inverse.proofs.spline_inverse_with.Reads as spline_inverse_with
 use Rattle.inverse.proofs.spline_inverse.Reads as spline_inverse

@@ -17,7 +17,7 @@ use Rattle.error.specs.declared.Refusal.the-variants.{BadKnot, TurnsBack}
 use Rattle.error.specs.Refusals.{Uses, rows, applies, refusalBy}
 use Rattle.error.proofs.First.{First, first-applies}
 use Rattle.inverse_segment.specs.Answer.{defaultLimit, defaultPrecision}
-use Rattle.inverse_methods.specs.Method.{steadyLimit}
+use Rattle.inverse_segment.specs.Method.{steadyLimit}
 use Rattle.inverse_order.specs.Order.{turnsBack, turningKnot}
 use Rattle.inverse_order.proofs.TurnsBack.{AgainstAt, turning-first}
 use Rattle.inverse.specs.Inverse.{inverseUses}

@@ -16,9 +16,9 @@ use Rattle.basis.specs.declared.Basis.{Basis}
 use Rattle.inverse_segment.specs.declared.Inversion.{Inversion}
 use Rattle.inverse_segment.specs.declared.Inversion.the-variants as I
 use Rattle.inverse_segment.specs.Answer.{inverseSegmentUses, inverseSegmentBy, inverseSegmentOf, defaultLimit, defaultPrecision}
-use Rattle.inverse_methods.specs.declared.Method.{Method}
-use Rattle.inverse_methods.specs.declared.Method.the-variants.{AsCrate, Steady}
-use Rattle.inverse_methods.specs.Method.{ruleOf, steadyLimit, steadySegmentOf}
+use Rattle.inverse_segment.specs.declared.Method.{Method}
+use Rattle.inverse_segment.specs.declared.Method.the-variants.{AsCrate, Steady}
+use Rattle.inverse_segment.specs.Method.{ruleOf, steadyLimit, steadySegmentOf}
 use Rattle.inverse_order.specs.declared.EndsBy.{EndsBy}
 use Rattle.inverse_order.specs.declared.EndsBy.the-variants.{Knots}
 use Rattle.inverse.specs.Inverse.{inverseUses, inverseBy, inverseOf, steadyOf}

@@ -9,8 +9,8 @@ use Rattle.basis.specs.declared.Basis.{Basis}
 use Rattle.inverse_segment.specs.declared.Inversion.{Inversion}
 use Rattle.inverse_segment.specs.declared.Inversion.the-variants as I
 use Rattle.inverse_segment.specs.Answer.{inverseSegmentBy}
-use Rattle.inverse_methods.specs.declared.Method.{Method}
-use Rattle.inverse_methods.specs.Method.{ruleOf}
+use Rattle.inverse_segment.specs.declared.Method.{Method}
+use Rattle.inverse_segment.specs.Method.{ruleOf}
 use Rattle.inverse_order.specs.declared.EndsBy.{EndsBy}
 use Rattle.inverse.specs.Inverse.{inverseBy}
 use Rattle.exports_reply.specs.declared.BasisChoice.{BasisChoice}

@@ -25,18 +25,18 @@ use Rattle.spline.specs.Evaluation.{evaluated, splineUses, splineOf, splineSegm
 use Rattle.spline.proofs.spline.Reads as spline
 use Rattle.spline.proofs.spline_segment.Reads as spline_segment
 use Rattle.inverse_segment.specs.declared.Inversion.the-variants as I
-use Rattle.inverse_methods.specs.declared.Method.the-variants.{AsCrate}
+use Rattle.inverse_segment.specs.declared.Method.the-variants.{AsCrate}
 use Rattle.inverse_segment.specs.Round.{Rule, asCrate}
 use Rattle.inverse_segment.specs.Segment.{Outcome, enter, outcomeOf}
 use Rattle.inverse_order.specs.declared.EndsBy.the-variants.{Knots}
 use Rattle.inverse_segment.specs.Answer.{answered, inverted, alone, inverseSegmentUses, inverseSegmentBy, defaultLimit, defaultPrecision}
 use Rattle.inverse_segment.proofs.Verdicts.{answered-past, refused-by}
-use Rattle.inverse_methods.proofs.spline_inverse_segment_with.Reads as spline_inverse_segment_with
-use Rattle.inverse_methods.proofs.spline_inverse_segment.Reads as spline_inverse_segment
+use Rattle.inverse_segment.proofs.spline_inverse_segment_with.Reads as spline_inverse_segment_with
+use Rattle.inverse_segment.proofs.spline_inverse_segment.Reads as spline_inverse_segment
 use Rattle.inverse.specs.Inverse.{inverseUses, inverseOf}
 use Rattle.inverse.proofs.Refusing.{inverse-refused-only, inverse-refused-where}
-use Rattle.inverse_methods.specs.Method.{ruleOf}
-use Rattle.inverse_methods.proofs.spline_inverse_segment_by.Reads as spline_inverse_segment_by
+use Rattle.inverse_segment.specs.Method.{ruleOf}
+use Rattle.inverse_segment.proofs.spline_inverse_segment_by.Reads as spline_inverse_segment_by
 use Rattle.inverse.proofs.spline_inverse_by.Reads as spline_inverse_by
 use Rattle.inverse.proofs.spline_inverse_with.Reads as spline_inverse_with
 use Rattle.inverse.proofs.spline_inverse.Reads as spline_inverse

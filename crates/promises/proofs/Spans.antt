@@ -10,8 +10,8 @@ use Rattle.basis.specs.declared.Basis.{Basis}
 use Rattle.convert.specs.Conversion.{Conversion, gives, refuses}
 use Rattle.convert.specs.Buffer.{answerOf, bufferOf}
 use Rattle.inverse_segment.specs.Answer.{defaultLimit, defaultPrecision}
-use Rattle.inverse_methods.specs.declared.Method.{Method}
-use Rattle.inverse_methods.specs.declared.Method.the-variants.{AsCrate}
+use Rattle.inverse_segment.specs.declared.Method.{Method}
+use Rattle.inverse_segment.specs.declared.Method.the-variants.{AsCrate}
 use Rattle.inverse_order.specs.declared.EndsBy.{EndsBy}
 use Rattle.inverse_order.specs.declared.EndsBy.the-variants.{Knots}
 use Rattle.spline.specs.declared.Evaluation.{Evaluation}

@@ -10,9 +10,9 @@ use Rattle.doubles.specs.Lerp.{lerpOf}
 use Rattle.inverse_segment.specs.declared.Ground.the-variants.{Width, Spent}
 use Rattle.inverse_segment.specs.Round.{toward, narrow, weighed, moved, settled, probed, roundOf}
 use Rattle.inverse_segment.specs.Rounds.{rounds}
-use Rattle.inverse_methods.specs.Steady.{allowed, inner, secant, paced}
-use Rattle.inverse_methods.proofs.Lawful.{secant-lawful}
-use Rattle.inverse_methods.proofs.Ending.{steadily}
+use Rattle.inverse_segment.specs.Steady.{allowed, inner, secant, paced}
+use Rattle.inverse_segment.proofs.Lawful.{secant-lawful}
+use Rattle.inverse_segment.proofs.Ending.{steadily}
 
 -- 0 below 3/4 and a little, 1 from there on
 pub jump : Float → Float

@@ -23,14 +23,14 @@ use Rattle.inverse_segment.specs.declared.Place.{Place}
 use Rattle.inverse_segment.specs.declared.Inversion.{Inversion}
 use Rattle.inverse_segment.specs.declared.Inversion.the-variants as I
 use Rattle.inverse_segment.specs.Answer.{countTold, inverseSegmentUses, defaultPrecision}
-use Rattle.inverse_methods.specs.declared.Method.{Method}
-use Rattle.inverse_methods.specs.declared.Method.the-variants.{Steady}
-use Rattle.inverse_methods.specs.Method.{steadyLimit, steadySegmentOf}
-use Rattle.inverse_methods.specs.Steady.{steady}
-use Rattle.inverse_methods.proofs.Ending.{isSpent}
-use Rattle.inverse_methods.proofs.Times.{default-enough}
-use Rattle.inverse_methods.proofs.Timely.{NeverSpent, segment-timely}
-use Rattle.inverse_methods.proofs.spline_inverse_segment_steady.Reads as spline_inverse_segment_steady
+use Rattle.inverse_segment.specs.declared.Method.{Method}
+use Rattle.inverse_segment.specs.declared.Method.the-variants.{Steady}
+use Rattle.inverse_segment.specs.Method.{steadyLimit, steadySegmentOf}
+use Rattle.inverse_segment.specs.Steady.{steady}
+use Rattle.inverse_segment.proofs.Ending.{isSpent}
+use Rattle.inverse_segment.proofs.Times.{default-enough}
+use Rattle.inverse_segment.proofs.Timely.{NeverSpent, segment-timely}
+use Rattle.inverse_segment.proofs.spline_inverse_segment_steady.Reads as spline_inverse_segment_steady
 use Rattle.inverse_search.specs.Bound.{boundOf}
 use Rattle.inverse_order.specs.declared.EndsBy.{EndsBy}
 use Rattle.inverse_order.specs.declared.EndsBy.the-variants.{Knots}

@@ -1,7 +1,7 @@
 // What C and Rust call: inversion with every option, the rule of the ends and the method by their numbers.
 ghost use mathlib.Core.Path.{_≡_};
 ghost use Rattle.inverse_segment.specs.Answer.{inverseSegmentBy};
-ghost use Rattle.inverse_methods.specs.Method.{ruleOf};
+ghost use Rattle.inverse_segment.specs.Method.{ruleOf};
 ghost use Rattle.inverse.specs.Inverse.{inverseBy};
 ghost use Rattle.exports_reply.specs.Replies.{noBasis, invertedReply, placeLeft, wholeLeft};
 ghost use Rattle.exports_reply.specs.Options.{chosenBy};

@@ -1,6 +1,6 @@
 // What C and Rust call: inversion by the steady method with its defaults, which is never spent.
 ghost use mathlib.Core.Path.{_≡_};
-ghost use Rattle.inverse_methods.specs.Method.{steadySegmentOf};
+ghost use Rattle.inverse_segment.specs.Method.{steadySegmentOf};
 ghost use Rattle.inverse.specs.Inverse.{steadyOf};
 ghost use Rattle.table.specs.Calls.{tableSteadyOf};
 ghost use Rattle.exports_reply.specs.Replies.{chosenOf, noBasis, chosen, invertedReply, placeLeft, wholeLeft};

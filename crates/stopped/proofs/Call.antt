@@ -14,9 +14,9 @@ use Rattle.error.specs.Refusals.{first}
 use Rattle.inverse.specs.Curve.{located}
 use Rattle.inverse.specs.EndRule.{curveRule}
 use Rattle.inverse.proofs.Verdicts.{answer-is}
-use Rattle.inverse_methods.specs.declared.Method.the-variants.{Steady}
-use Rattle.inverse_methods.specs.Method.{steadyLimit}
-use Rattle.inverse_methods.specs.Steady.{steady}
+use Rattle.inverse_segment.specs.declared.Method.the-variants.{Steady}
+use Rattle.inverse_segment.specs.Method.{steadyLimit}
+use Rattle.inverse_segment.specs.Steady.{steady}
 use Rattle.inverse_order.specs.declared.EndsBy.the-variants.{Curve}
 use Rattle.inverse_segment.specs.declared.Inversion.{Inversion}
 use Rattle.inverse_segment.specs.Answer.{defaultPrecision}

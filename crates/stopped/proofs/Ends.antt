@@ -17,9 +17,9 @@ use Rattle.inverse.specs.Contract.{SearchedIs}
 use Rattle.inverse.specs.Curve.{located}
 use Rattle.inverse.specs.EndRule.{atLow, atHigh, curveRule}
 use Rattle.inverse.proofs.Glue.{located-searched}
-use Rattle.inverse_methods.specs.declared.Method.the-variants.{Steady}
-use Rattle.inverse_methods.specs.Method.{steadyLimit}
-use Rattle.inverse_methods.specs.Steady.{steady}
+use Rattle.inverse_segment.specs.declared.Method.the-variants.{Steady}
+use Rattle.inverse_segment.specs.Method.{steadyLimit}
+use Rattle.inverse_segment.specs.Steady.{steady}
 use Rattle.inverse_segment.specs.declared.Inversion.{Inversion}
 use Rattle.inverse_segment.specs.Answer.{defaultPrecision}
 use Rattle.spline.specs.Segment.{segmentOf}

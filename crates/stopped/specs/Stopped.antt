@@ -11,8 +11,8 @@ use Rattle.error.specs.declared.Verdict.the-variants.{Passed, Failed}
 use Rattle.inverse.specs.declared.Ends.{Ends}
 use Rattle.inverse.specs.EndRule.{curveRule}
 use Rattle.inverse.specs.Inverse.{inverseUses}
-use Rattle.inverse_methods.specs.declared.Method.the-variants.{Steady}
-use Rattle.inverse_methods.specs.Method.{steadyLimit}
+use Rattle.inverse_segment.specs.declared.Method.the-variants.{Steady}
+use Rattle.inverse_segment.specs.Method.{steadyLimit}
 use Rattle.inverse_order.specs.declared.EndsBy.the-variants.{Curve}
 use Rattle.inverse_segment.specs.Answer.{defaultPrecision}
 use Rattle.spline.specs.Segment.{segmentOf}

@@ -22,7 +22,7 @@ use Rattle.inverse_order.specs.declared.EndsBy.{EndsBy}
 use Rattle.inverse.specs.Inverse.{inverseUses, inverseBy}
 use Rattle.inverse_segment.specs.Answer.{inverted}
 use Rattle.inverse_segment.specs.declared.Inversion.{Inversion}
-use Rattle.inverse_methods.specs.declared.Method.{Method}
+use Rattle.inverse_segment.specs.declared.Method.{Method}
 use Rattle.spline.specs.Evaluation.{evaluated, splineUses, splineOf}
 use Rattle.checks.specs.Checks.{curveLength}
 use Rattle.spline.specs.declared.Evaluation.the-variants as E

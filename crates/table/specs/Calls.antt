@@ -18,9 +18,9 @@ use Rattle.inverse.specs.Inverse.{inverseUses, inverseBy}
 use Rattle.inverse_segment.specs.declared.Inversion.{Inversion}
 use Rattle.inverse_segment.specs.declared.Inversion.the-variants as I
 use Rattle.inverse_segment.specs.Answer.{defaultPrecision}
-use Rattle.inverse_methods.specs.declared.Method.{Method}
-use Rattle.inverse_methods.specs.declared.Method.the-variants.{Steady}
-use Rattle.inverse_methods.specs.Method.{steadyLimit}
+use Rattle.inverse_segment.specs.declared.Method.{Method}
+use Rattle.inverse_segment.specs.declared.Method.the-variants.{Steady}
+use Rattle.inverse_segment.specs.Method.{steadyLimit}
 use Rattle.spline.specs.Evaluation.{splineUses, splineOf}
 use Rattle.spline.specs.declared.Evaluation.{Evaluation}
 use Rattle.spline.specs.declared.Evaluation.the-variants as E

@@ -5,7 +5,7 @@ ghost use Prim.Native.Nat.{_≤_, _<_};
 ghost use lib.ListN.{length};
 use basis::Basis;
 use inverse::Options;
-use inverse_methods::Method;
+use inverse_segment::Method;
 use inverse_order::EndsBy;
 use inverse_segment::Ground;
 use inverse_segment::Inversion;
@@ -179,7 +179,7 @@ fn ask(a: Question, y: f64, knots: &[f64], tally: &mut [u32; 9]) {
     if knots.len() < 4 {
         return;
     }
-    let one = inverse_methods::spline_inverse_segment_by(
+    let one = inverse_segment::spline_inverse_segment_by(
         b,
         y,
         &knots[0..4],

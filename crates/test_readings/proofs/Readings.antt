@@ -15,7 +15,7 @@ use Rattle.inverse_segment.specs.Answer.{inverseSegmentBy}
 use Rattle.inverse_segment.specs.Round.{narrow, halving, toward, weighed, chord, kept, fraction, moved, settled, probed, roundOf}
 use Rattle.inverse_segment.specs.Rounds.{rounds}
 use Rattle.inverse_segment.specs.Segment.{entered, enter}
-use Rattle.inverse_methods.specs.Steady.{allowed, inner, secant, paced}
+use Rattle.inverse_segment.specs.Steady.{allowed, inner, secant, paced}
 use Rattle.inverse_search.specs.Bound.{bitsOf}
 use Rattle.inverse_search.specs.Search.{tries, last, halve, find}
 use Rattle.inverse_order.specs.Order.{ordered, turnsAt}

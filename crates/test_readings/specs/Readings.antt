@@ -24,9 +24,9 @@ use Rattle.inverse_segment.specs.declared.Inversion.the-variants as I
 use Rattle.inverse_segment.specs.Answer.{inverseSegmentBy, defaultLimit, defaultPrecision}
 use Rattle.inverse.specs.Inverse.{inverseBy, inverseOf, inverseEvaluations}
 use Rattle.inverse_order.specs.declared.EndsBy.the-variants.{Curve}
-use Rattle.inverse_methods.specs.declared.Method.{Method}
-use Rattle.inverse_methods.specs.declared.Method.the-variants.{AsCrate, Taught, Steady}
-use Rattle.inverse_methods.specs.Method.{ruleOf}
+use Rattle.inverse_segment.specs.declared.Method.{Method}
+use Rattle.inverse_segment.specs.declared.Method.the-variants.{AsCrate, Taught, Steady}
+use Rattle.inverse_segment.specs.Method.{ruleOf}
 use Rattle.convert.specs.Conversion.{Conversion, gives, refuses, convertedOf}
 
 -- ---- what a reading tells: a value or the knots, a place by its parameter, ground and count, a bracket,

@@ -3,7 +3,7 @@ use basis::Basis;
 use convert::ConversionAnswer;
 use error::Refusal;
 use inverse::Options;
-use inverse_methods::Method;
+use inverse_segment::Method;
 use inverse_order::EndsBy;
 use inverse_segment::Ground;
 use inverse_segment::Inversion;
@@ -97,7 +97,7 @@ fn own_place(b: Basis, knots: &[f64], y: f64) {
 
 // The bracket that four rounds leave.
 fn bracket(b: Basis, cv: &[f64], y: f64, how: Method) {
-    let a = inverse_methods::spline_inverse_segment_by(b, y, cv, 4, 1e-10, how);
+    let a = inverse_segment::spline_inverse_segment_by(b, y, cv, 4, 1e-10, how);
     let Inversion::At(p) = a else {
         return;
     };

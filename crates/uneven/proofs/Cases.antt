@@ -23,7 +23,7 @@ use Rattle.inverse_segment.specs.declared.Place.{Place}
 use Rattle.inverse_segment.specs.declared.Inversion.{Inversion}
 use Rattle.inverse_segment.specs.declared.Inversion.the-variants.{At as Found}
 use Rattle.inverse_segment.specs.Answer.{countTold}
-use Rattle.inverse_methods.specs.declared.Method.the-variants.{AsCrate}
+use Rattle.inverse_segment.specs.declared.Method.the-variants.{AsCrate}
 use Rattle.inverse_search.specs.Bound.{bitsOf, boundOf}
 use Rattle.inverse_order.specs.declared.EndsBy.the-variants.{Knots}
 use Rattle.inverse.specs.Inverse.{inverseOf}

@@ -1,7 +1,7 @@
 -- `exports_inverse_segment::spline_inverse_segment_by` meets its contract: the numbers name a basis and a method, or all stays. Assumes nothing.
 use mathlib.Core.Path.{ap, _∙_}
 use Rattle.inverse_segment.specs.Answer.{inverseSegmentBy}
-use Rattle.inverse_methods.specs.Method.{ruleOf}
+use Rattle.inverse_segment.specs.Method.{ruleOf}
 use Rattle.exports_reply.specs.Replies.{noBasis, invertedReply, placeLeft, wholeLeft}
 use Rattle.exports_reply.specs.Options.{wayOf, way}
 use Rattle.exports_reply.proofs.Found.{found, unfound, way-found, way-unfound}

@@ -1,6 +1,6 @@
 -- A number that is no basis writes nothing (`unfound`); for any other the call's contract is carried over to what C sees (`found`).
 use mathlib.Core.Path.{ap, _∙_}
-use Rattle.inverse_methods.specs.Method.{steadySegmentOf}
+use Rattle.inverse_segment.specs.Method.{steadySegmentOf}
 use Rattle.exports_reply.specs.Replies.{noBasis, placeLeft, wholeLeft, invertedReply}
 use Rattle.exports_reply.proofs.Found.{found, unfound}
 use borrow.Author.Needs.{needs}

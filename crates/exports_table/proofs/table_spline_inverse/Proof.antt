@@ -2,7 +2,7 @@
 use mathlib.Core.Path.{ap, _∙_}
 use Rattle.inverse_segment.specs.Answer.{defaultLimit, defaultPrecision}
 use Rattle.inverse_order.specs.declared.EndsBy.the-variants.{Knots}
-use Rattle.inverse_methods.specs.declared.Method.the-variants.{AsCrate}
+use Rattle.inverse_segment.specs.declared.Method.the-variants.{AsCrate}
 use Rattle.table.specs.Calls.{tableInverseBy}
 use Rattle.exports_reply.specs.Replies.{noBasis}
 use Rattle.exports_table.specs.Tables.{tableOf, timedReply, timedPlace, timedWhole}

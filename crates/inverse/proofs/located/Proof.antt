@@ -2,7 +2,7 @@
 use mathlib.Core.Path.{sym, _∙_}
 use lib.Ieee.{ofBits}
 use Rattle.spline.specs.Segment.{segmentOf}
-use Rattle.inverse_methods.specs.Method.{ruleOf}
+use Rattle.inverse_segment.specs.Method.{ruleOf}
 use Rattle.inverse.proofs.Glue.{located-low, located-high, located-searched}
 use borrow.Author.Needs.{needs}
 use Rattle.inverse.proofs.located.Statement.{statement}

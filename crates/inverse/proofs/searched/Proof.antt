@@ -3,7 +3,7 @@ use native.Mathlib.Nat.{le-trans}
 use native.Mathlib.Omega.{arith}
 use lib.Dec.{lit≤}
 use Rattle.spline.specs.Segment.{segmentOf}
-use Rattle.inverse_methods.specs.Method.{ruleOf}
+use Rattle.inverse_segment.specs.Method.{ruleOf}
 use Rattle.inverse_search.specs.Trial.{trial}
 use Rattle.inverse_search.specs.Search.{find}
 use Rattle.inverse.specs.Curve.{parameterOf}

@@ -3,7 +3,7 @@ use mathlib.Core.Path.{ap, _∙_}
 use Prim.Native.Nat.{ℕ, _*_}
 use lib.ListN.{drop}
 use Rattle.spline.proofs.Parts.{rest}
-use Rattle.inverse_methods.proofs.Trying.{on-curve}
+use Rattle.inverse_segment.proofs.Trying.{on-curve}
 use borrow.Author.Needs.{needs}
 use Rattle.inverse_search.proofs.try_at.Statement.{statement}
 use Rattle.inverse_search.proofs.try_at.Tie as tie

@@ -2,7 +2,7 @@
 use mathlib.Core.Path.{sym, _∙_}
 use lib.Ieee.{ofBits}
 use Rattle.spline.specs.Segment.{hornerOf}
-use Rattle.inverse_segment.specs.Round.{chordOf}
+use Rattle.inverse_segment.specs.Method.{ruleOf}
 use Rattle.inverse_segment.proofs.OneRound.{left-edge, right-edge, by-rounds}
 use borrow.Author.Needs.{needs}
 use Rattle.inverse_segment.proofs.entered.Statement.{statement}
@@ -10,7 +10,7 @@ use Rattle.inverse_segment.proofs.entered.Tie as tie
 use Rattle.inverse_segment.proofs.entered.Reads as reads
 use Rattle.inverse_segment.proofs.entered.Lts as lts
 use Rattle.inverse_segment.proofs.is_near.Reads as is-near-reads
-use Rattle.inverse_segment.proofs.rounds.Reads as rounds-reads
+use Rattle.inverse_segment.proofs.round.rounds.Reads as rounds-reads
 use Rattle.inverse_segment.proofs.stopped.Reads as stopped-reads
 
 is-near-requires : tie.Need-is-near-requires
@@ -23,7 +23,7 @@ returns : tie.Need-returns
 unfolding ofBits
 returns c =
     λ s ev k. c .stopped .ensures
-    ∙ left-edge (chordOf (c .before .before .before .args .m)) (hornerOf (c .before .before .before .args .w)) s
+    ∙ left-edge (ruleOf (c .before .before .before .args .how)) (hornerOf (c .before .before .before .args .w)) s
     (c .before .before .before .args .y) (c .before .before .before .args .precision) (c .before .before .before .args .limit)
     (c .before .before .before .args .n) (c .before .before .before .args .v0) (c .before .before .before .args .v1) ev k
     (sym (c .before .if1 .taken) ∙ c .before .before .is-near .ensures)
@@ -38,7 +38,7 @@ returns-2 : tie.Need-returns-2
 unfolding ofBits
 returns-2 c =
     λ s ev k. c .stopped2 .ensures
-    ∙ right-edge (chordOf (c .before .before .before .before .before .args .m)) (hornerOf (c .before .before .before .before .before .args .w))
+    ∙ right-edge (ruleOf (c .before .before .before .before .before .args .how)) (hornerOf (c .before .before .before .before .before .args .w))
     s (c .before .before .before .before .before .args .y)
     (c .before .before .before .before .before .args .precision) (c .before .before .before .before .before .args .limit)
     (c .before .before .before .before .before .args .n) (c .before .before .before .before .before .args .v0)
@@ -52,7 +52,7 @@ rounds-requires c κs = search needs
 returns-3 : tie.Need-returns-3
 unfolding ofBits
 returns-3 c =
-    λ s ev k. by-rounds (chordOf (c .before .before .before .before .before .args .m)) (hornerOf (c .before .before .before .before .before .args .w))
+    λ s ev k. by-rounds (ruleOf (c .before .before .before .before .before .args .how)) (hornerOf (c .before .before .before .before .before .args .w))
     s (c .before .before .before .before .before .args .y)
     (c .before .before .before .before .before .args .precision) (c .before .before .before .before .before .args .limit)
     (c .before .before .before .before .before .args .n) (c .before .before .before .before .before .args .v0)

@@ -2,7 +2,7 @@
 -- first that applies.
 use mathlib.Core.Path.{sym, _∙_}
 use Rattle.inverse.proofs.Verdicts.{admitted}
-use Rattle.inverse_methods.specs.Method.{steadyLimit}
+use Rattle.inverse_segment.specs.Method.{steadyLimit}
 use Rattle.inverse_segment.specs.Answer.{defaultPrecision}
 use Rattle.stopped.proofs.Call.{by-row, without-span, by-ends}
 use borrow.Author.Needs.{needs}

@@ -3,7 +3,7 @@ use mathlib.Core.Path.{sym, _∙_}
 use native.Mathlib.Omega.{arith}
 use lib.Ieee.{ofBits}
 use Rattle.spline.specs.Segment.{hornerOf}
-use Rattle.inverse_segment.specs.Round.{weightingOf}
+use Rattle.inverse_segment.specs.Method.{ruleOf}
 use Rattle.inverse_segment.proofs.OneRound.{round-width, round-value, round-next}
 use borrow.Author.Needs.{needs}
 use Rattle.inverse_segment.proofs.round.round.Statement.{statement}
@@ -18,19 +18,13 @@ lerp-requires c κs = search needs
 returns : tie.Need-returns
 unfolding ofBits
 returns c = (
-  (λ limit i e s ev k. round-width (weightingOf (c .before .before .before .before .args .m)) (hornerOf (c .before .before .before .before .args .w)) _ _
-      _ _ _ _ limit i e s ev k (sym (c .before .if1 .taken) ∙ c .before .before .is-narrow .ensures) (c .lerp .ensures)),
+  (λ limit i e d s ev k. round-width (ruleOf (c .before .before .before .before .args .how)) (hornerOf (c .before .before .before .before .args .w)) _ _ _ _ _ limit i s ev k
+      (sym (c .before .if1 .taken) ∙ c .before .before .is-narrow .ensures) (c .lerp .ensures)),
   (omega arith, omega arith),
 )
 
-weighed-requires : tie.Need-weighed-requires
-weighed-requires c κs = search needs
-
-fraction-requires : tie.Need-fraction-requires
-fraction-requires c κs = search needs
-
-lerp-requires-2 : tie.Need-lerp-requires-2
-lerp-requires-2 c κs = search needs
+choose-requires : tie.Need-choose-requires
+choose-requires c κs = search needs
 
 horner-requires : tie.Need-horner-requires
 horner-requires c κs = search needs
@@ -41,33 +35,28 @@ moved-requires c κs = search needs
 magnitude-requires : tie.Need-magnitude-requires
 magnitude-requires c κs = search needs
 
-add-t23 : tie.Need-add-t23
-add-t23 c = search needs
+add-t25 : tie.Need-add-t25
+add-t25 c = search needs
 
 returns-2 : tie.Need-returns-2
 returns-2 c = (
-  (λ limit i e s ev k. round-value (weightingOf (c .before .before .before .before .before .before .before .before .before .before .before .args .m))
-      (hornerOf (c .before .before .before .before .before .before .before .before .before .before .before .args .w)) _ _ _ _ _ _ limit i e s ev k
-      (sym (c .before .before .before .before .before .before .before .before .if1 .left)
-      ∙ c .before .before .before .before .before .before .before .before .before .is-narrow .ensures)
-      (c .before .before .before .before .before .before .before .weighed .ensures)
-      (c .before .before .before .before .before .before .fraction .ensures) (c .before .before .before .before .before .lerp2 .ensures)
-      (c .before .before .before .before .horner .ensures) (c .before .before .before .moved .ensures .0)
-      (c .before .before .magnitude .ensures) (c .before .if2 .taken)),
+  (λ limit i e d s ev k. round-value (ruleOf (c .before .before .before .before .before .before .before .before .before .before .args .how)) (hornerOf (c .before .before .before .before .before .before .before .before .before .before .args .w)) _ _ _ _
+      _ limit i s ev k (sym (c .before .before .before .before .before .before .before .if1 .left)
+      ∙ c .before .before .before .before .before .before .before .before .is-narrow .ensures)
+      (c .before .before .before .before .before .before .choose .ensures limit i e d) (c .before .before .before .before .horner .ensures)
+      (c .before .before .before .moved .ensures .0) (c .before .before .magnitude .ensures) (c .before .if2 .taken)),
   (omega arith, omega arith),
 )
 
-add-t24 : tie.Need-add-t24
-add-t24 c = search needs
+add-t26 : tie.Need-add-t26
+add-t26 c = search needs
 
 returns-3 : tie.Need-returns-3
 returns-3 c = (
-  (λ limit i e s ev k. round-next (weightingOf (c .before .before .before .before .before .before .before .before .before .before .args .m))
-      (hornerOf (c .before .before .before .before .before .before .before .before .before .before .args .w)) _ _ _ _ _ _ limit i e s ev k
-      (sym (c .before .before .before .before .before .before .before .if1 .left)
-      ∙ c .before .before .before .before .before .before .before .before .is-narrow .ensures)
-      (c .before .before .before .before .before .before .weighed .ensures) (c .before .before .before .before .before .fraction .ensures)
-      (c .before .before .before .before .lerp2 .ensures) (c .before .before .before .horner .ensures)
+  (λ limit i e d s ev k. round-next (ruleOf (c .before .before .before .before .before .before .before .before .before .args .how)) (hornerOf (c .before .before .before .before .before .before .before .before .before .args .w)) _ _ _ _ _ limit i
+      s ev k (sym (c .before .before .before .before .before .before .if1 .left)
+      ∙ c .before .before .before .before .before .before .before .is-narrow .ensures)
+      (c .before .before .before .before .before .choose .ensures limit i e d) (c .before .before .before .horner .ensures)
       (c .before .before .moved .ensures .0) (c .before .magnitude .ensures) (c .if2 .left)),
   (omega (arith, c .before .before .moved .ensures .1), omega arith),
 )
@@ -79,13 +68,11 @@ round-spec =
     is-narrow-requires
     lerp-requires
     returns
-    weighed-requires
-    fraction-requires
-    lerp-requires-2
+    choose-requires
     horner-requires
     moved-requires
     magnitude-requires
-    add-t23
+    add-t25
     returns-2
-    add-t24
+    add-t26
     returns-3)

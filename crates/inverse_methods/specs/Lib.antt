@@ -1,3 +1,0 @@
-pub mod Steady
-pub mod Method
-pub mod Contract
