@@ -1,8 +1,8 @@
 // Rules of the ends and methods by their numbers.
 ghost use mathlib.Core.Path.{_≡_};
 ghost use Rattle.exports_reply.specs.Options.{methodOf, wayOf};
-use inverse_segment::Method;
 use inverse_order::EndsBy;
+use inverse_segment::Method;
 
 pub enum Way {
     Known(EndsBy, Method),

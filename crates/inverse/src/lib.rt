@@ -15,15 +15,15 @@ ghost use Rattle.inverse.specs.Inverse.{inverseBy, inverseOf, steadyOf};
 ghost use Rattle.inverse.specs.Contract.{EndedIs, SearchedIs, LocatedIs};
 use basis::Basis;
 use error::Verdict;
-use inverse_segment::Method;
-use inverse_segment::STEADY_LIMIT;
 use inverse_order::EndsBy;
 use inverse_search::SearchResult;
 use inverse_segment::DEFAULT_LIMIT;
 use inverse_segment::DEFAULT_PRECISION;
 use inverse_segment::Ground;
 use inverse_segment::Inversion;
+use inverse_segment::Method;
 use inverse_segment::Place;
+use inverse_segment::STEADY_LIMIT;
 
 pub mod refusals;
 

@@ -17,8 +17,8 @@ ghost use Rattle.inverse_search.specs.Contract.{
   FindIs,
 };
 use basis::Basis;
-use inverse_segment::Method;
 use inverse_segment::Ground;
+use inverse_segment::Method;
 use inverse_segment::Stop;
 use inverse_segment::Trial;
 use spline::RowSums;

@@ -18,11 +18,11 @@ ghost use Rattle.picture_finds.specs.Finds.{
 use basis::Basis;
 use error::Refusal;
 use inverse::Options;
-use inverse_segment::Method;
 use inverse_order::EndsBy;
 use inverse_segment::DEFAULT_LIMIT;
 use inverse_segment::DEFAULT_PRECISION;
 use inverse_segment::Inversion;
+use inverse_segment::Method;
 use inverse_segment::Place;
 use picture_scale::Extent;
 use picture_scale::words::put_number;

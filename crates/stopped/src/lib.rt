@@ -19,11 +19,11 @@ use basis::Basis;
 use error::Refusal;
 use error::Verdict;
 use inverse::Ends;
-use inverse_segment::Method;
-use inverse_segment::STEADY_LIMIT;
 use inverse_segment::DEFAULT_PRECISION;
 use inverse_segment::Inversion;
+use inverse_segment::Method;
 use inverse_segment::Place;
+use inverse_segment::STEADY_LIMIT;
 use table_span::Table;
 
 // Refused by a row of the table; not on the curve after so many evaluations; the curve's two ends are equal, so that no depth says anything;

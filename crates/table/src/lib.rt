@@ -12,13 +12,13 @@ use basis::Basis;
 use convert::ConversionAnswer;
 use error::Refusal;
 use inverse::Options;
-use inverse_segment::Method;
-use inverse_segment::STEADY_LIMIT;
 use inverse_order::EndsBy;
 use inverse_segment::DEFAULT_LIMIT;
 use inverse_segment::DEFAULT_PRECISION;
 use inverse_segment::Inversion;
+use inverse_segment::Method;
 use inverse_segment::Place;
+use inverse_segment::STEADY_LIMIT;
 use spline::Evaluation;
 use table_span::Table;
 

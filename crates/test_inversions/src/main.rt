@@ -5,10 +5,10 @@ ghost use Prim.Native.Nat.{_≤_, _<_};
 ghost use lib.ListN.{length};
 use basis::Basis;
 use inverse::Options;
-use inverse_segment::Method;
 use inverse_order::EndsBy;
 use inverse_segment::Ground;
 use inverse_segment::Inversion;
+use inverse_segment::Method;
 use inverse_segment::Place;
 use spline::Evaluation;
 

@@ -3,10 +3,10 @@ use basis::Basis;
 use convert::ConversionAnswer;
 use error::Refusal;
 use inverse::Options;
-use inverse_segment::Method;
 use inverse_order::EndsBy;
 use inverse_segment::Ground;
 use inverse_segment::Inversion;
+use inverse_segment::Method;
 use spline::Evaluation;
 
 fn say(w: &[u8]) {
