@@ -1,19 +1,21 @@
--- The last targets asked, and each find as bytes: the place with its bracket, or the refusal. Definitions only.
-use mathlib.Core.Bool.{cond}
+-- The last targets asked, and each find as bytes: the place, or the refusal. Definitions only.
+use mathlib.Core.Bool.{Bool, true, false, cond}
 use mathlib.Core.List.{List, [], _++_}
 use Prim.Native.Nat.{ℕ, _+_, _-_, min}
 use lib.Dec.{leb}
 use lib.ListN.{length}
-use lib.Ieee.{Float, binary64, add, div}
+use lib.Ieee.{Float}
 use Rattle.basis.specs.declared.Basis.{Basis}
-use Rattle.basis.specs.Basis.{segmentsOf}
-use Rattle.doubles.specs.Whole.{double}
+use Rattle.basis.specs.declared.Basis.the-variants.{Bspline, Bezier, CatmullRom, Hermite, Linear, Power}
 use Rattle.error.specs.declared.Refusal.the-variants.{OffCurve}
+use Rattle.inverse.specs.Inverse.{inverseBy}
+use Rattle.inverse_segment.specs.declared.Method.the-variants.{Steady}
+use Rattle.inverse_segment.specs.Method.{steadyLimit}
 use Rattle.inverse_order.specs.declared.EndsBy.{EndsBy}
+use Rattle.inverse_segment.specs.Answer.{defaultPrecision}
 use Rattle.inverse_segment.specs.declared.Inversion.{Inversion}
 use Rattle.inverse_segment.specs.declared.Place.{Place}
 use Rattle.inverse_segment.specs.declared.Inversion.the-variants as I
-use Rattle.lines_answer.specs.Answer.{foundOf}
 use Rattle.table_span.specs.Second.{secondOf}
 use Rattle.text.specs.Text.{bytes}
 use Rattle.picture_scale.specs.declared.Extent.{Extent}
@@ -36,31 +38,37 @@ cleared f = record { n = 0; a = f .a; b = f .b; c = f .c; d = f .d; e = f .e; f 
 unfoldable pub placeColumn : Float → ℕ
 placeColumn x = 1000 + secondOf 8600 x
 
--- a local place of segment s of k
-unfoldable pub localColumn : ℕ → ℕ → Float → ℕ
-localColumn k s x = placeColumn (div binary64 (add binary64 (double (min s 4096)) x) (double k))
+-- from the depth axis to the place and down to the time axis, and a dot
+abbrev pub markText : ℕ → ℕ → List ℕ
+markText x y =
+    numbered (bytes "<path class=\"f\" d=\"M1000,") y ++ numbered (bytes "H") x ++ numbered (bytes "V5400\"/><path class=\"p\" d=\"M") x
+    ++ numbered (bytes ",") y ++ bytes "h0\"/>\n"
 
--- from the depth axis to the place and down to the time axis, the bracket at the axis, and a dot
-abbrev pub markText : ℕ → ℕ → ℕ → ℕ → List ℕ
-markText x y l u =
-    numbered (bytes "<path class=\"f\" d=\"M1000,") y ++ numbered (bytes "H") x ++ numbered (bytes "V5400M") l
-    ++ numbered (bytes ",5300v160H") u ++ numbered (bytes "v-160\"/><path class=\"p\" d=\"M") x ++ numbered (bytes ",") y ++ bytes
-    "h0\"/>\n"
-
--- a place on a curve of k segments
-abbrev pub placeText : ℕ → Extent → Float → Place → List ℕ
-placeText k e y p =
-    markText (placeColumn (p .parameter)) (rowOf e (heightOf y)) (localColumn k (p .segment) (p .lower))
-    (localColumn k (p .segment) (p .upper))
+-- a place on the curve
+abbrev pub placeText : Extent → Float → Place → List ℕ
+placeText e y p = markText (placeColumn (p .parameter)) (rowOf e (heightOf y))
 
 abbrev pub findIn : Basis → ℕ → Extent → ℕ → Float → Inversion → List ℕ
 findIn b n e slot y (I.Refused r) = noteText b n slot (bytes "find") r
 findIn b n e slot y (I.OffCurve c) = noteText b n slot (bytes "find") OffCurve
-findIn b n e slot y (I.At p) = placeText (segmentsOf b n) e y p
+findIn b n e slot y (I.At p) = placeText e y p
+
+-- whether a basis's knots are all of them depths: where slopes stand between these, or other coefficients, the order check would compare the two
+abbrev pub inDepths : Basis → Bool
+inDepths Bspline = true
+inDepths Bezier = true
+inDepths CatmullRom = true
+inDepths Hermite = false
+inDepths Linear = true
+inDepths Power = false
+
+-- the place that is drawn, by the steady method
+abbrev pub drawnOf : EndsBy → Basis → Float → List Float → Inversion
+drawnOf m b y ks = inverseBy m Steady b y ks (inDepths b) steadyLimit defaultPrecision
 
 -- the find of y in a slot, if it is one of the n that were asked
 abbrev pub findText : EndsBy → Basis → List Float → Extent → ℕ → ℕ → Float → List ℕ
-findText m b ks e n slot y = cond (leb n (slot - 2)) [] (findIn b (length ks) e slot y (foundOf m b y ks))
+findText m b ks e n slot y = cond (leb n (slot - 2)) [] (findIn b (length ks) e slot y (drawnOf m b y ks))
 
 -- the last eight
 abbrev pub findsText : EndsBy → Basis → List Float → Extent → Finds → List ℕ

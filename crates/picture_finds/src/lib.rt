@@ -1,4 +1,4 @@
-// The last eight targets asked, and what is drawn of each, the place with its bracket or the refusal.
+// The last eight targets asked, and what is drawn of each, the place or the refusal.
 ghost use mathlib.Core.Path.{_≡_};
 ghost use Prim.Native.Nat.{_≤_, _+_, min};
 ghost use lib.ListN.{length};
@@ -8,9 +8,9 @@ ghost use Rattle.picture_finds.specs.Finds.{
   asked,
   cleared,
   placeColumn,
-  localColumn,
   markText,
   placeText,
+  inDepths,
   findIn,
   findText,
   findsText,
@@ -19,11 +19,11 @@ use basis::Basis;
 use error::Refusal;
 use inverse::Options;
 use inverse_order::EndsBy;
-use inverse_segment::DEFAULT_LIMIT;
 use inverse_segment::DEFAULT_PRECISION;
 use inverse_segment::Inversion;
 use inverse_segment::Method;
 use inverse_segment::Place;
+use inverse_segment::STEADY_LIMIT;
 use picture_scale::Extent;
 use picture_scale::words::put_number;
 
@@ -86,45 +86,44 @@ fn place_column(x: f64) -> u64
     1000 + table_span::second(8600, x) as u64
 }
 
-// How far across a local place of segment s of k lies.
-fn local_column(k: usize, s: usize, x: f64) -> u64
-    requires { ⌜ k ≤ 4097 ⌝ }
-    ensures { λ r. ⌜ r ≡ localColumn k s x ⌝ }
-{
-    let from = doubles::whole::double_of(doubles::whole::lesser(s, 4096));
-    place_column((from + x) / doubles::whole::double_of(k))
-}
-
-fn put_mark(out: &mut [u8], at: usize, x: u64, y: u64, l: u64, u: u64) -> usize
+fn put_mark(out: &mut [u8], at: usize, x: u64, y: u64) -> usize
     requires { ⌜ at + 160 ≤ length (now out) ⌝ }
-    ensures text { λ r. ⌜ Wrote (now (out .entry)) at (markText x y l u) (now (out .exit)) r ⌝ }
+    ensures text { λ r. ⌜ Wrote (now (out .entry)) at (markText x y) (now (out .exit)) r ⌝ }
     ensures short { λ r. ⌜ r ≤ at + 160 ⌝ }
 {
     let a = put_number(&mut *out, at, b"<path class=\"f\" d=\"M1000,", y);
     let b = put_number(&mut *out, a, b"H", x);
-    let c = put_number(&mut *out, b, b"V5400M", l);
-    let d = put_number(&mut *out, c, b",5300v160H", u);
-    let e = put_number(&mut *out, d, b"v-160\"/><path class=\"p\" d=\"M", x);
-    let f = put_number(&mut *out, e, b",", y);
-    text::put_word(out, f, b"h0\"/>\n")
+    let c = put_number(&mut *out, b, b"V5400\"/><path class=\"p\" d=\"M", x);
+    let d = put_number(&mut *out, c, b",", y);
+    text::put_word(out, d, b"h0\"/>\n")
 }
 
-fn put_place(out: &mut [u8], at: usize, k: usize, e: Extent, y: f64, p: Place) -> usize
-    requires segments { ⌜ k ≤ 4097 ⌝ }
+fn put_place(out: &mut [u8], at: usize, e: Extent, y: f64, p: Place) -> usize
     requires open { ⌜ Open e ⌝ }
     requires room { ⌜ at + 160 ≤ length (now out) ⌝ }
-    ensures text { λ r. ⌜ Wrote (now (out .entry)) at (placeText k e y p) (now (out .exit)) r ⌝ }
+    ensures text { λ r. ⌜ Wrote (now (out .entry)) at (placeText e y p) (now (out .exit)) r ⌝ }
     ensures short { λ r. ⌜ r ≤ at + 160 ⌝ }
 {
     let x = place_column(p.parameter);
     let row = picture_scale::row(e, picture_scale::height(y));
-    let s = p.segment;
-    let l = local_column(k, s, p.lower);
-    let u = local_column(k, s, p.upper);
-    put_mark(out, at, x, row, l, u)
+    put_mark(out, at, x, row)
 }
 
-// The find of y, with the order check.
+// Whether every knot of a basis is a depth, so that the order check compares like with like.
+fn is_in_depths(b: Basis) -> bool
+    ensures { λ r. ⌜ r ≡ inDepths b ⌝ }
+{
+    match b {
+        Basis::Bspline => true,
+        Basis::Bezier => true,
+        Basis::CatmullRom => true,
+        Basis::Hermite => false,
+        Basis::Linear => true,
+        Basis::Power => false,
+    }
+}
+
+// The find of y: the place, or the refusal.
 fn put_found(
     out: &mut [u8],
     at: usize,
@@ -154,7 +153,7 @@ fn put_found(
             b"find",
             Refusal::OffCurve,
         ),
-        Inversion::At(p) => put_place(out, at, picture_scale::segments(b, n), e, y, p),
+        Inversion::At(p) => put_place(out, at, e, y, p),
     }
 }
 
@@ -181,11 +180,11 @@ fn put_find(
         return at;
     }
     let o = Options {
-        check: true,
-        limit: DEFAULT_LIMIT,
+        check: is_in_depths(b),
+        limit: STEADY_LIMIT,
         precision: DEFAULT_PRECISION,
         ends: m,
-        method: Method::AsCrate,
+        method: Method::Steady,
     };
     put_found(
         out,

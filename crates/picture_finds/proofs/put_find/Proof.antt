@@ -13,6 +13,9 @@ sub-if1 c = search needs
 returns : tie.Need-returns
 returns c = (rw (le-leb (c .before .before .before .args .n) (c .before .before .before .args .slot - 2) (omega arith)) (nothing _ _), omega arith)
 
+is-in-depths-requires : tie.Need-is-in-depths-requires
+is-in-depths-requires c κs = search needs
+
 spline-inverse-by-requires : tie.Need-spline-inverse-by-requires
 spline-inverse-by-requires c κs = search needs
 
@@ -24,9 +27,10 @@ same-length c = search needs
 
 returns-2 : tie.Need-returns-2
 returns-2 c = (
-  rw (lt-leb (c .before .before .before .before .before .before .before .before .args .n)
-      (c .before .before .before .before .before .before .before .before .args .slot - 2) (omega arith))
-      (rw (c .before .before .before .spline-inverse-by .ensures) at (c .before .before .put-found .ensures .0)),
+  rw (lt-leb (c .before .before .before .before .before .before .before .before .before .args .n)
+      (c .before .before .before .before .before .before .before .before .before .args .slot - 2) (omega arith))
+      (rw (c .before .before .before .spline-inverse-by .ensures, c .before .before .before .before .before .is-in-depths .ensures) at
+      (c .before .before .put-found .ensures .0)),
   c .before .before .put-found .ensures .1,
 )
 
@@ -36,6 +40,7 @@ put-find-spec =
     (tie.spec
     sub-if1
     returns
+    is-in-depths-requires
     spline-inverse-by-requires
     put-found-requires
     same-length

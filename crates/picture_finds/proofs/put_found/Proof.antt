@@ -24,9 +24,6 @@ put-note-requires-2 c κs = search needs
 enum-known-i-2 : tie.Need-enum-known-i-2
 enum-known-i-2 c = search needs
 
-segments-requires : tie.Need-segments-requires
-segments-requires c κs = search needs
-
 put-place-requires : tie.Need-put-place-requires
 put-place-requires c κs = search needs
 
@@ -51,8 +48,7 @@ same-length-3 c = search needs
 
 returns-3 : tie.Need-returns-3
 returns-3 c = (
-  rw (c .before .before .before .before .before .before .i2 .given .1)
-      (rw (c .before .before .before .segments .ensures .0) at (c .before .before .put-place .ensures .0)),
+  rw (c .before .before .before .before .before .i2 .given .1) (c .before .before .put-place .ensures .0),
   c .before .before .put-place .ensures .1,
 )
 
@@ -67,7 +63,6 @@ put-found-spec =
     slice-aggregate-put-note-2
     put-note-requires-2
     enum-known-i-2
-    segments-requires
     put-place-requires
     same-length
     returns

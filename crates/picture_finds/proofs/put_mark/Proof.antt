@@ -30,18 +30,6 @@ slice-aggregate-put-number-4 c = search needs
 put-number-requires-4 : tie.Need-put-number-requires-4
 put-number-requires-4 c κs = search needs
 
-slice-aggregate-put-number-5 : tie.Need-slice-aggregate-put-number-5
-slice-aggregate-put-number-5 c = search needs
-
-put-number-requires-5 : tie.Need-put-number-requires-5
-put-number-requires-5 c κs = search needs
-
-slice-aggregate-put-number-6 : tie.Need-slice-aggregate-put-number-6
-slice-aggregate-put-number-6 c = search needs
-
-put-number-requires-6 : tie.Need-put-number-requires-6
-put-number-requires-6 c κs = search needs
-
 slice-aggregate-put-word : tie.Need-slice-aggregate-put-word
 slice-aggregate-put-word c = search needs
 
@@ -49,93 +37,38 @@ put-word-requires : tie.Need-put-word-requires
 put-word-requires c κs =
     omega (
       arith,
-      c .before .before .before .before .before .before .before .before .before .before .before .before .before .before .before .before .before .before
-          .before .before .before .before .before .before .before .before .before .before .before .before .before .before .before .pre,
-      c .before .before .before .before .before .before .before .before .before .before .before .before .before .before .before .before .before
-          .before .before .before .before .before .before .before .before .before .before .before .before .put-number .ensures .1,
-      c .before .before .before .before .before .before .before .before .before .before .before .before .before .before .before .before
-          .before .before .before .before .before .before .before .before .put-number2 .ensures .1,
-      c .before .before .before .before .before .before .before .before .before .before .before .before .before .before .before
-          .before .before .before .before .put-number3 .ensures .1,
-      c .before .before .before .before .before .before .before .before .before .before .before .before .before .before
-          .put-number4 .ensures .1,
-      c .before .before .before .before .before .before .before .before .before .put-number5 .ensures .1,
-      c .before .before .before .before .put-number6 .ensures .1,
-      c .before .before .before .before .before .before .before .before .before .before .before .before
-          .before .before .before .before .before .before .before .before .before .before .before .before
-          .before .before .before .before .before .put-number .ensures .0 .long,
-      c .before .before .before .before .before .before .before .before .before .before
-          .before .before .before .before .before .before .before .before .before .before
-          .before .before .before .before .put-number2 .ensures .0 .long,
-      c .before .before .before .before .before .before .before .before .before
-          .before .before .before .before .before .before .before .before .before
-          .before .put-number3 .ensures .0 .long,
-      c .before .before .before .before .before .before .before
-          .before .before .before .before .before .before .before
-          .put-number4 .ensures .0 .long,
-      c .before .before .before .before .before .before
-          .before .before .before .put-number5 .ensures .0
-          .long,
-      c .before .before .before .before
-          .put-number6 .ensures .0 .long,
+      c .before .before .before .before .before .before .before .before .before .before .before .before .before .before .before .before .before .before .before .before .before .before .before .pre,
+      c .before .before .before .before .before .before .before .before .before .before .before .before .before .before .before .before .before .before .before .put-number .ensures .1,
+      c .before .before .before .before .before .before .before .before .before .before .before .before .before .before .put-number2 .ensures .1,
+      c .before .before .before .before .before .before .before .before .before .put-number3 .ensures .1,
+      c .before .before .before .before .put-number4 .ensures .1,
+      c .before .before .before .before .before .before .before .before .before .before .before .before .before .before .before .before .before .before .before .put-number .ensures .0 .long,
+      c .before .before .before .before .before .before .before .before .before .before .before .before .before .before .put-number2 .ensures .0 .long,
+      c .before .before .before .before .before .before .before .before .before .put-number3 .ensures .0 .long,
+      c .before .before .before .before .put-number4 .ensures .0 .long,
     )
 
 same-length : tie.Need-same-length
 same-length c =
-    c .before .before .put-word .ensures .long ∙ c .before .before .before .before .before .before .before .put-number6 .ensures .0 .long
-    ∙ c .before .before .before .before .before .before .before .before .before .before .before .before .put-number5 .ensures .0 .long
-    ∙ c .before .before .before .before .before .before .before .before .before .before .before .before .before .before .before .before .before
-    .put-number4 .ensures .0 .long
-    ∙ c .before .before .before .before .before .before .before .before .before .before .before .before .before .before .before .before
-    .before .before .before .before .before .before .put-number3 .ensures .0 .long
-    ∙ c .before .before .before .before .before .before .before .before .before .before .before .before .before .before .before
-    .before .before .before .before .before .before .before .before .before .before .before .before .put-number2 .ensures .0
-    .long
-    ∙ c .before .before .before .before .before .before .before .before .before .before .before .before .before .before
-    .before .before .before .before .before .before .before .before .before .before .before .before .before .before
-    .before .before .before .before .put-number .ensures .0 .long
+    c .before .before .put-word .ensures .long
+    ∙ c .before .before .before .before .before .before .before .put-number4 .ensures .0 .long
+    ∙ c .before .before .before .before .before .before .before .before .before .before .before .before .put-number3 .ensures .0 .long
+    ∙ c .before .before .before .before .before .before .before .before .before .before .before .before .before .before .before .before .before .put-number2 .ensures .0 .long
+    ∙ c .before .before .before .before .before .before .before .before .before .before .before .before .before .before .before .before .before .before .before .before .before .before .put-number .ensures .0 .long
 
 returns : tie.Need-returns
 returns c = (
-  (then (then (then (then
-      (then (then (c .before .before .before .before .before .before .before .before .before .before .before .before .before .before .before .before
-      .before .before .before .before .before .before .before .before .before .before .before .before .before .before .before .before .put-number
-      .ensures .0) (c .before .before .before .before .before .before .before .before .before .before .before .before .before .before .before
-      .before .before .before .before .before .before .before .before .before .before .before .before .put-number2 .ensures .0))
-      (c .before .before .before .before .before .before .before .before .before .before .before .before .before .before .before .before
-      .before .before .before .before .before .before .put-number3 .ensures .0))
-      (c .before .before .before .before .before .before .before .before .before .before .before .before .before .before .before
-      .before .before .put-number4 .ensures .0))
-      (c .before .before .before .before .before .before .before .before .before .before .before .before .put-number5
-      .ensures .0)) (c .before .before .before .before .before .before .before .put-number6 .ensures .0))
-      (c .before .before .put-word .ensures)),
+  then (then (then (then (c .before .before .before .before .before .before .before .before .before .before .before .before .before .before .before .before .before .before .before .before .before .before .put-number .ensures .0)
+      (c .before .before .before .before .before .before .before .before .before .before .before .before .before .before .before .before .before .put-number2 .ensures .0))
+      (c .before .before .before .before .before .before .before .before .before .before .before .before .put-number3 .ensures .0))
+      (c .before .before .before .before .before .before .before .put-number4 .ensures .0))
+      (c .before .before .put-word .ensures),
   omega (
     arith,
-    c .before .before .before .before .before .before .before .before .before .before .before
-        .before .before .before .before .before .before .before .before .before .before .before
-        .before .before .before .before .before .before .before .before .before .before
-        .put-number .ensures .1,
-    c .before .before .before .before .before .before .before .before .before
-        .before .before .before .before .before .before .before .before .before
-        .before .before .before .before .before .before .before .before .before
-        .put-number2 .ensures .1,
-    c .before .before .before .before .before .before .before
-        .before .before .before .before .before .before .before
-        .before .before .before .before .before .before .before
-        .before .put-number3 .ensures .1,
-    c .before .before .before .before .before
-        .before .before .before .before .before
-        .before .before .before .before .before
-        .before .before .put-number4
-        .ensures .1,
-    c .before .before .before
-        .before .before .before
-        .before .before
-        .before .before
-        .before
-        .before
-        .put-number5 .ensures .1,
-    c .before .before .before .before .before .before .before .put-number6 .ensures .1,
+    c .before .before .before .before .before .before .before .before .before .before .before .before .before .before .before .before .before .before .before .before .before .before .put-number .ensures .1,
+    c .before .before .before .before .before .before .before .before .before .before .before .before .before .before .before .before .before .put-number2 .ensures .1,
+    c .before .before .before .before .before .before .before .before .before .before .before .before .put-number3 .ensures .1,
+    c .before .before .before .before .before .before .before .put-number4 .ensures .1,
     c .before .before .put-word .ensures .next,
   ),
 )
@@ -152,10 +85,6 @@ put-mark-spec =
     put-number-requires-3
     slice-aggregate-put-number-4
     put-number-requires-4
-    slice-aggregate-put-number-5
-    put-number-requires-5
-    slice-aggregate-put-number-6
-    put-number-requires-6
     slice-aggregate-put-word
     put-word-requires
     same-length

@@ -1,4 +1,4 @@
--- Every column and the row are the definition's.
+-- The column and the row are the definition's.
 use borrow.Author.Needs.{needs}
 use Rattle.picture_finds.proofs.put_place.Statement.{statement}
 use Rattle.picture_finds.proofs.put_place.Tie as tie
@@ -12,12 +12,6 @@ height-requires c κs = search needs
 row-requires : tie.Need-row-requires
 row-requires c κs = search needs
 
-local-column-requires : tie.Need-local-column-requires
-local-column-requires c κs = search needs
-
-local-column-requires-2 : tie.Need-local-column-requires-2
-local-column-requires-2 c κs = search needs
-
 put-mark-requires : tie.Need-put-mark-requires
 put-mark-requires c κs = search needs
 
@@ -27,11 +21,9 @@ same-length c = search needs
 returns : tie.Need-returns
 returns c = (
   rw (
-    c .before .before .before .before .before .before .before .before .place-column .ensures,
-    c .before .before .before .before .before .before .row .ensures .0,
-    c .before .before .before .before .before .before .before .height .ensures .0,
-    c .before .before .before .before .before .local-column .ensures,
-    c .before .before .before .before .local-column2 .ensures,
+    c .before .before .before .before .before .before .place-column .ensures,
+    c .before .before .before .before .row .ensures .0,
+    c .before .before .before .before .before .height .ensures .0,
   ) at
       (c .before .before .put-mark .ensures .0),
   c .before .before .put-mark .ensures .1,
@@ -44,8 +36,6 @@ put-place-spec =
     place-column-requires
     height-requires
     row-requires
-    local-column-requires
-    local-column-requires-2
     put-mark-requires
     same-length
     returns)
