@@ -1,8 +1,9 @@
 // What the checker of claims replies to a line, and the table after it.
 ghost use mathlib.Core.Path.{_≡_};
 ghost use mathlib.Core.List.{_∷_};
-ghost use Prim.Native.Nat.{_+_, _≤_};
+ghost use Prim.Native.Nat.{_+_, _≤_, _<_};
 ghost use lib.ListN.{length};
+ghost use lib.Seq.{slice};
 ghost use Rattle.lines_answer.specs.Answer.{places};
 ghost use Rattle.lines_answer.specs.Contract.{curveOf, countOf};
 ghost use Rattle.lines_reply.specs.Contract.{longest};
@@ -10,11 +11,15 @@ ghost use Rattle.text.specs.Text.{fieldsOf, hexOf};
 ghost use Rattle.text.specs.Wrote.{Wrote};
 ghost use Rattle.text_decimals.specs.Decimals.{numberIn};
 ghost use Rattle.lines_machine.specs.Program.{widest};
-ghost use Rattle.lines_machine.specs.Contract.{openOf};
+ghost use Rattle.lines_machine.specs.Bytes.{endOf};
+ghost use Rattle.lines_machine.specs.Contract.{openOf, Fed};
+ghost use Rattle.lines.specs.Contract.{stateOf};
 ghost use Rattle.claims.specs.Claims.{ofTable, claimWith, claimIn, saidIn, says, claimText, checkText, claimsProgram};
 use claim::ClaimAnswer;
 use error::Refusal;
+use lines::LineReader;
 use lines::LineResult;
+use lines::LinesFed;
 use lines_answer::Session;
 use lines_record::Record;
 use text::HexNumber;
@@ -211,4 +216,90 @@ pub fn line(
             }
         }
     }
+}
+
+// The bytes of a chunk from `from` on, as long as `out` has room for any reply.
+pub fn feed(
+    st: LineReader,
+    chunk: &[u8],
+    from: usize,
+    begun: &mut [u8],
+    table: &mut [f64],
+    converted: &mut [f64],
+    out: &mut [u8],
+) -> LinesFed
+    requires start { ⌜ from ≤ length (now chunk) ⌝ }
+    requires begun { ⌜ length (now begun) ≡ widest ⌝ }
+    requires held { ⌜ countOf (st .held) ≤ places ⌝ }
+    requires table { ⌜ length (now table) ≡ places ⌝ }
+    requires converted { ⌜ length (now converted) ≡ places ⌝ }
+    ensures fed { λ r. ⌜ Fed claimsProgram (stateOf st (now (begun .entry)) (now (table .entry))) (slice from (r .next) (now (chunk .entry)))
+        (stateOf (r .st) (now (begun .exit)) (now (table .exit))) (now (out .entry)) 0 (now (out .exit)) (r .at) ⌝ }
+    ensures few { λ r. ⌜ countOf (r .st .held) ≤ places ⌝ }
+    ensures after { λ r. ⌜ from ≤ r .next ⌝ }
+    ensures within { λ r. ⌜ r .next ≤ length (now (chunk .entry)) ⌝ }
+    ensures short { λ r. ⌜ r .at ≤ length (now (out .exit)) ⌝ }
+    ensures progress { λ r. ⌜ (from < length (now (chunk .entry)) → longest ≤ length (now (out .entry)) → from < r .next) ⌝ }
+{
+    let mut n = st.len;
+    let mut held = st.held;
+    let mut at = 0;
+    let mut i = from;
+    while i < chunk.len() {
+        if out.len() - at < lines_reply::LONGEST {
+            return LinesFed {
+                st: LineReader { len: n, held: held },
+                at: at,
+                next: i,
+            };
+        }
+        let c = lines_machine::cut(chunk, i, n, &mut *begun);
+        n = c.len;
+        i = c.stop;
+        if i < chunk.len() {
+            let l = line(
+                held,
+                n,
+                &begun[..],
+                &mut *table,
+                &mut *converted,
+                &mut *out,
+                at,
+            );
+            held = l.held;
+            at = l.at;
+            n = 0;
+            i += 1;
+        }
+    }
+    LinesFed {
+        st: LineReader { len: n, held: held },
+        at: at,
+        next: i,
+    }
+}
+
+// The end of the input: a last line may lack its LF.
+pub fn finish(
+    st: LineReader,
+    begun: &[u8],
+    table: &mut [f64],
+    converted: &mut [f64],
+    out: &mut [u8],
+) -> usize
+    requires begun { ⌜ length (now begun) ≡ widest ⌝ }
+    requires held { ⌜ countOf (st .held) ≤ places ⌝ }
+    requires table { ⌜ length (now table) ≡ places ⌝ }
+    requires converted { ⌜ length (now converted) ≡ places ⌝ }
+    requires room { ⌜ longest ≤ length (now out) ⌝ }
+    ensures text { λ r. ⌜ Wrote (now (out .entry)) 0 (endOf claimsProgram (stateOf st (now (begun .entry)) (now (table .entry)))) (now (out .exit)) r ⌝ }
+    ensures short { λ r. ⌜ r ≤ longest ⌝ }
+{
+    let len = st.len;
+    if len == 0 {
+        return 0;
+    }
+    let held = st.held;
+    let l = line(held, len, begun, table, converted, out, 0);
+    l.at
 }

@@ -3,6 +3,9 @@ use mathlib.Core.Path.{_≡_}
 use mathlib.Core.List.{List}
 use Prim.Native.Nat.{ℕ, _≤_, max}
 use lib.ListN.{take}
+use Rattle.lines_machine.specs.Bytes.{State, stateAt}
+use Rattle.lines_machine.specs.Contract.{openOf}
+use Rattle.compare_lines.specs.declared.CompareReader.{CompareReader}
 use Rattle.compare_lines.specs.declared.EntryResult.{EntryResult}
 use Rattle.compare_lines.specs.declared.Comparison.{Comparison}
 use Rattle.compare_lines.specs.declared.Comparison.the-variants.{Before, Parted}
@@ -29,6 +32,10 @@ bothOf (Parted k l) old new = parted (listingOf k old) (listingOf l new)
 abbrev pub countOf : Comparison → ℕ
 countOf (Before l) = knotsOf l
 countOf (Parted k l) = max (knotsOf k) (knotsOf l)
+
+-- the line that is being read, and the listings
+abbrev pub stateOf : CompareReader → List ℕ → List ℕ → List ℕ → State Both
+stateOf st begun old new = stateAt (openOf (st .len) begun) (bothOf (st .held) old new)
 
 -- a record came upon the listing l
 pub record Enters (l : Listing) (s : CompareRecord) (e : EntryResult) (knots : List ℕ) : Type 0 where

@@ -1,19 +1,21 @@
 // Two listings on one input, parted by `other`: what a line gets, and at the end what differs.
 ghost use mathlib.Core.Path.{_≡_};
-ghost use mathlib.Core.List.{_∷_};
-ghost use Prim.Native.Nat.{_+_, _≤_};
+ghost use mathlib.Core.List.{List, _∷_};
+ghost use Prim.Native.Nat.{ℕ, _+_, _≤_, _<_};
 ghost use lib.ListN.{length, take};
+ghost use lib.Seq.{slice};
 ghost use Rattle.text.specs.Text.{fieldsOf, hexOf};
 ghost use Rattle.text.specs.Wrote.{Wrote};
 ghost use Rattle.text_decimals.specs.Decimals.{numberIn};
 ghost use Rattle.lines_record.specs.Record.{namedOf};
 ghost use Rattle.lines_machine.specs.Program.{widest};
-ghost use Rattle.lines_machine.specs.Contract.{openOf};
+ghost use Rattle.lines_machine.specs.Bytes.{start, endOf};
+ghost use Rattle.lines_machine.specs.Contract.{openOf, Fed};
 ghost use Rattle.compare.specs.Contract.{longest};
 ghost use Rattle.compare_lines.specs.declared.CompareRecord.the-variants.{Span, Knot};
 ghost use Rattle.compare_lines.specs.CompareRecord.{curveSaid, spanSaid, knotSaid, meaningOf, ofFields, saidOf, isOther};
-ghost use Rattle.compare_lines.specs.Listings.{none, on, places, parted, verdictText, endsOf, says, compareProgram};
-ghost use Rattle.compare_lines.specs.Contract.{listingOf, knotsOf, bothOf, countOf, Enters, Takes};
+ghost use Rattle.compare_lines.specs.Listings.{none, on, before, places, parted, verdictText, endsOf, says, compareProgram};
+ghost use Rattle.compare_lines.specs.Contract.{listingOf, knotsOf, bothOf, countOf, stateOf, Enters, Takes};
 use basis::Basis;
 use error::Refusal;
 use error::Verdict;
@@ -378,4 +380,110 @@ pub fn end(h: Comparison, old: &[u64], new: &[u64], out: &mut [u8], at: usize) -
         Comparison::Before(_) => lines_reply::put_refused(out, at, Refusal::NoComparison),
         Comparison::Parted(k, l) => end_parted(k, l, old, new, out, at),
     }
+}
+
+// `len`: bytes of the current line in the lent 64; 65 means that the line is too long.
+pub struct CompareReader {
+    pub len: usize,
+    pub held: Comparison,
+}
+
+// Before the first byte.
+pub fn begin() -> CompareReader
+    ensures state { λ r. ⌜ ((begun old new : List ℕ) → stateOf r begun old new ≡ start (before none)) ⌝ }
+    ensures few { λ r. ⌜ countOf (r .held) ≤ places ⌝ }
+{
+    CompareReader {
+        len: 0,
+        held: Comparison::Before(Listing::Nothing),
+    }
+}
+
+// Where the program stands, where the text in `out` ends, and the chunk's first byte that was not taken.
+pub struct CompareFed {
+    pub st: CompareReader,
+    pub at: usize,
+    pub next: usize,
+}
+
+// The bytes of a chunk from `from` on, as long as `out` has room for any refusal.
+pub fn feed(
+    st: CompareReader,
+    chunk: &[u8],
+    from: usize,
+    begun: &mut [u8],
+    old: &mut [u64],
+    new: &mut [u64],
+    out: &mut [u8],
+) -> CompareFed
+    requires start { ⌜ from ≤ length (now chunk) ⌝ }
+    requires begun { ⌜ length (now begun) ≡ widest ⌝ }
+    requires held { ⌜ countOf (st .held) ≤ places ⌝ }
+    requires old { ⌜ length (now old) ≡ places ⌝ }
+    requires new { ⌜ length (now new) ≡ places ⌝ }
+    ensures fed { λ r. ⌜ Fed compareProgram (stateOf st (now (begun .entry)) (now (old .entry)) (now (new .entry)))
+        (slice from (r .next) (now (chunk .entry)))
+        (stateOf (r .st) (now (begun .exit)) (now (old .exit)) (now (new .exit))) (now (out .entry)) 0 (now (out .exit)) (r .at) ⌝ }
+    ensures few { λ r. ⌜ countOf (r .st .held) ≤ places ⌝ }
+    ensures after { λ r. ⌜ from ≤ r .next ⌝ }
+    ensures within { λ r. ⌜ r .next ≤ length (now (chunk .entry)) ⌝ }
+    ensures short { λ r. ⌜ r .at ≤ length (now (out .exit)) ⌝ }
+    ensures progress { λ r. ⌜ (from < length (now (chunk .entry)) → 18 ≤ length (now (out .entry)) → from < r .next) ⌝ }
+{
+    let mut n = st.len;
+    let mut held = st.held;
+    let mut at = 0;
+    let mut i = from;
+    while i < chunk.len() {
+        if out.len() - at < 18 {
+            return CompareFed {
+                st: CompareReader { len: n, held: held },
+                at: at,
+                next: i,
+            };
+        }
+        let c = lines_machine::cut(chunk, i, n, &mut *begun);
+        n = c.len;
+        i = c.stop;
+        if i < chunk.len() {
+            let l = line(held, n, &begun[..], &mut *old, &mut *new, &mut *out, at);
+            held = l.held;
+            at = l.at;
+            n = 0;
+            i += 1;
+        }
+    }
+    CompareFed {
+        st: CompareReader { len: n, held: held },
+        at: at,
+        next: i,
+    }
+}
+
+// The end of the input: a last line may lack its LF.
+pub fn finish(
+    st: CompareReader,
+    begun: &[u8],
+    old: &mut [u64],
+    new: &mut [u64],
+    out: &mut [u8],
+) -> usize
+    requires begun { ⌜ length (now begun) ≡ widest ⌝ }
+    requires held { ⌜ countOf (st .held) ≤ places ⌝ }
+    requires old { ⌜ length (now old) ≡ places ⌝ }
+    requires new { ⌜ length (now new) ≡ places ⌝ }
+    requires room { ⌜ 18 + longest ≤ length (now out) ⌝ }
+    ensures text { λ r. ⌜ Wrote (now (out .entry)) 0 (endOf compareProgram
+        (stateOf st (now (begun .entry)) (now (old .entry)) (now (new .entry)))) (now (out .exit)) r ⌝ }
+    ensures short { λ r. ⌜ r ≤ 18 + longest ⌝ }
+{
+    let len = st.len;
+    let held = st.held;
+    if len == 0 {
+        return end(held, &old[..], &new[..], out, 0);
+    }
+    let l = line(held, len, begun, &mut *old, &mut *new, &mut *out, 0);
+    let after = l.held;
+    let at = l.at;
+    end(after, &old[..], &new[..], out, at)
 }

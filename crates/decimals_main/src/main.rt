@@ -37,7 +37,7 @@ fn whole(chunk: &mut [u8], begun: &mut [u8], out: &mut [u8])
     requires begun { ⌜ length (now begun) ≡ widest ⌝ }
     requires room { ⌜ 129 ≤ length (now out) ⌝ }
 {
-    let mut len = 0;
+    let mut len = decimals::begin();
     let mut fine = true;
     let mut left = u64::MAX;
     while left > 0 {

@@ -1,15 +1,17 @@
 // What the line program replies to a line, and the curve after it.
 ghost use mathlib.Core.Path.{_≡_};
-ghost use Prim.Native.Nat.{_+_, _≤_, _<_};
+ghost use mathlib.Core.List.{List};
+ghost use Prim.Native.Nat.{ℕ, _+_, _≤_, _<_};
+ghost use lib.Ieee.{Float};
 ghost use lib.ListN.{length};
 ghost use lib.Seq.{slice};
-ghost use Rattle.lines_answer.specs.Answer.{places, replyTo, afterOf};
+ghost use Rattle.lines_answer.specs.Answer.{none, places, replyTo, afterOf};
 ghost use Rattle.lines_answer.specs.Contract.{curveOf, countOf};
 ghost use Rattle.lines_reply.specs.Reply.{textOf};
 ghost use Rattle.lines_reply.specs.Contract.{longest};
 ghost use Rattle.text.specs.Wrote.{Wrote};
 ghost use Rattle.lines_machine.specs.Program.{widest};
-ghost use Rattle.lines_machine.specs.Bytes.{endOf};
+ghost use Rattle.lines_machine.specs.Bytes.{start, endOf};
 ghost use Rattle.lines_machine.specs.Contract.{openOf, Fed};
 ghost use Rattle.lines.specs.Lines.{says, lineProgram};
 ghost use Rattle.lines.specs.Contract.{stateOf};
@@ -92,6 +94,17 @@ pub fn line(
 pub struct LineReader {
     pub len: usize,
     pub held: Session,
+}
+
+// Before the first byte.
+pub fn begin() -> LineReader
+    ensures state { λ r. ⌜ ((begun : List ℕ) (table : List Float) → stateOf r begun table ≡ start none) ⌝ }
+    ensures few { λ r. ⌜ countOf (r .held) ≤ places ⌝ }
+{
+    LineReader {
+        len: 0,
+        held: Session::Nothing,
+    }
 }
 
 // Where the program stands, where the text in `out` ends, and the chunk's first byte that was not taken.

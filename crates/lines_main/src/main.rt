@@ -10,7 +10,6 @@ ghost use Rattle.lines_machine.specs.Bytes.{ranOf};
 ghost use Rattle.lines.specs.Lines.{lineProgram};
 ghost use Rattle.lines.specs.Contract.{stateOf};
 use lines::LineReader;
-use lines_answer::Session;
 
 // Where the program stands, and whether each write succeeded.
 struct Chunked {
@@ -70,10 +69,7 @@ fn whole(
     requires converted { ⌜ length (now converted) ≡ places ⌝ }
     requires room { ⌜ longest ≤ length (now out) ⌝ }
 {
-    let mut st = LineReader {
-        len: 0,
-        held: Session::Nothing,
-    };
+    let mut st = lines::begin();
     let mut fine = true;
     let mut left = u64::MAX;
     while left > 0 {

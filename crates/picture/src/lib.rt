@@ -1,16 +1,17 @@
 // A listing in, the picture of its last table out, as SVG.
 ghost use mathlib.Core.Path.{_≡_};
-ghost use mathlib.Core.List.{List};
-ghost use Prim.Native.Nat.{_≤_, _+_};
+ghost use mathlib.Core.List.{List, []};
+ghost use Prim.Native.Nat.{ℕ, _≤_, _+_};
 ghost use lib.Ieee.{Float};
 ghost use lib.ListN.{length};
 ghost use Rattle.text.specs.Wrote.{Wrote};
 ghost use Rattle.lines_answer.specs.Answer.{places};
 ghost use Rattle.lines_machine.specs.Program.{widest};
-ghost use Rattle.lines_machine.specs.Contract.{openOf};
+ghost use Rattle.lines_machine.specs.Bytes.{start, endOf};
+ghost use Rattle.lines_machine.specs.Contract.{openOf, Fed};
 ghost use Rattle.lines_reply.specs.Contract.{replyOf, longest};
 ghost use Rattle.picture.specs.Program.{nothingDrawn, findsAfter, faultIn, faultAfter, pictureProgram};
-ghost use Rattle.picture.specs.Contract.{drawingOf, countOf};
+ghost use Rattle.picture.specs.Contract.{drawingOf, countOf, stateOf};
 use basis::Basis;
 use inverse_order::EndsBy;
 use lines_record::Record;
@@ -28,10 +29,16 @@ pub struct PictureState {
     pub fault: Fault,
 }
 
-// Before the first line.
-pub fn blank() -> PictureState
-    ensures drawing { λ h. ⌜ ((t : List Float) → drawingOf h t ≡ nothingDrawn) ⌝ }
-    ensures count_after { λ h. ⌜ countOf h ≡ 0 ⌝ }
+// `len`: bytes of the current line in the lent 64; 65 means that the line is too long.
+pub struct PictureReader {
+    pub len: usize,
+    pub held: PictureState,
+}
+
+// Before the first byte.
+pub fn begin() -> PictureReader
+    ensures state { λ r. ⌜ ((begun : List ℕ) (table : List Float) → stateOf r begun table ≡ start nothingDrawn) ⌝ }
+    ensures few { λ r. ⌜ countOf (r .held) ≤ places ⌝ }
 {
     let none = Finds {
         n: 0,
@@ -44,10 +51,14 @@ pub fn blank() -> PictureState
         g: 0.0,
         h: 0.0,
     };
-    PictureState {
+    let blank = PictureState {
         curve: lines_answer::Session::Nothing,
         finds: none,
         fault: Fault::Nothing,
+    };
+    PictureReader {
+        len: 0,
+        held: blank,
     }
 }
 
@@ -146,4 +157,64 @@ pub fn end(h: PictureState, table: &[f64], out: &mut [u8], at: usize) -> usize
             draw::put_picture(t, m, &table[0..n], finds, fault, out, at)
         }
     }
+}
+
+// The bytes of a chunk, all of them. Nothing is printed before the end.
+pub fn feed(
+    st: PictureReader,
+    chunk: &[u8],
+    begun: &mut [u8],
+    table: &mut [f64],
+    converted: &mut [f64],
+) -> PictureReader
+    requires begun { ⌜ length (now begun) ≡ widest ⌝ }
+    requires held { ⌜ countOf (st .held) ≤ places ⌝ }
+    requires table { ⌜ length (now table) ≡ places ⌝ }
+    requires converted { ⌜ length (now converted) ≡ places ⌝ }
+    ensures fed { λ r. ⌜ Fed pictureProgram (stateOf st (now (begun .entry)) (now (table .entry))) (now (chunk .entry))
+        (stateOf r (now (begun .exit)) (now (table .exit))) [] 0 [] 0 ⌝ }
+    ensures few { λ r. ⌜ countOf (r .held) ≤ places ⌝ }
+{
+    let mut len = st.len;
+    let mut held = st.held;
+    let mut i = 0;
+    while i < chunk.len() {
+        let c = lines_machine::cut(chunk, i, len, &mut *begun);
+        len = c.len;
+        i = c.stop;
+        if i < chunk.len() {
+            held = line(held, len, &begun[..], &mut *table, &mut *converted);
+            len = 0;
+            i += 1;
+        }
+    }
+    PictureReader {
+        len: len,
+        held: held,
+    }
+}
+
+// The end of the input: a last line may lack its LF.
+pub fn finish(
+    st: PictureReader,
+    begun: &[u8],
+    table: &mut [f64],
+    converted: &mut [f64],
+    out: &mut [u8],
+) -> usize
+    requires begun { ⌜ length (now begun) ≡ widest ⌝ }
+    requires held { ⌜ countOf (st .held) ≤ places ⌝ }
+    requires table { ⌜ length (now table) ≡ places ⌝ }
+    requires converted { ⌜ length (now converted) ≡ places ⌝ }
+    requires room { ⌜ longest ≤ length (now out) ⌝ }
+    ensures text { λ r. ⌜ Wrote (now (out .entry)) 0 (endOf pictureProgram (stateOf st (now (begun .entry)) (now (table .entry)))) (now (out .exit)) r ⌝ }
+    ensures short { λ r. ⌜ r ≤ longest ⌝ }
+{
+    let len = st.len;
+    let held = st.held;
+    if len == 0 {
+        return end(held, &table[..], out, 0);
+    }
+    let after = line(held, len, begun, &mut *table, converted);
+    end(after, &table[..], out, 0)
 }

@@ -25,9 +25,6 @@ pub mod NumbersBeyond
 pub mod Spans
 pub mod Steady
 pub mod StrictTables
-pub mod Programs
-pub mod Sheets
-pub mod Comparing
 pub mod KnotsBeyond
 pub mod OneCount
 pub mod ClaimsBeyond

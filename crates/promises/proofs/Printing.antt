@@ -3,7 +3,7 @@
 -- the definition that is the call's contract, so each is one equation. Assumes nothing.
 use mathlib.Core.Path.{_≡_, refl, sym, ap, _∙_}
 use mathlib.Core.Bool.{Bool, true, false, cond}
-use mathlib.Core.List.{List, [], _∷_, _++_, append-assoc, append-nil}
+use mathlib.Core.List.{List, [], _∷_, _++_, append-nil}
 use Prim.Native.Nat.{ℕ}
 use denote.Ref.{now}
 use lib.Dec.{ltb}
@@ -44,11 +44,10 @@ use Rattle.table.proofs.table_spline_inverse_by.Reads as table_spline_inverse_b
 use Rattle.text.specs.Text.{bytes, LF, decText}
 use Rattle.lines_record.specs.declared.Record.{Record}
 use Rattle.lines_record.specs.declared.Record.the-variants.{Curve as CurveOf, Span, Knot, Ends, At, Find, Turn, Bad}
-use Rattle.lines_reply.specs.Reply.{Reply, silence, refused, refusedText, placeText, textOf}
-use Rattle.lines_answer.specs.Answer.{places, Curve, none, on, valueReply, foundOf, placeReply, curveReply, replyTo, afterOf}
-use Rattle.lines_machine.specs.Program.{Line, linesOf, lineOf, outputOf}
+use Rattle.lines_reply.specs.Reply.{silence, refused, refusedText, placeText, textOf}
+use Rattle.lines_answer.specs.Answer.{places, on, valueReply, foundOf, placeReply, curveReply, replyTo}
+use Rattle.lines_machine.specs.Program.{Line}
 use Rattle.lines.specs.Lines.{says, lineProgram}
-use Rattle.lines.proofs.Replies.{saysOf, repliesOf, textsOf, curveAfter, in-order, output-replies}
 use Rattle.claims.specs.declared.ClaimRecord.the-variants.{Claim}
 use Rattle.claims.specs.Claims.{says as saysClaim, claimText, checkText, tellsOf, claimsProgram}
 use Rattle.calls.specs.Calls.{Keeps}
@@ -129,22 +128,6 @@ claim-prints κs a z e p t m o q f =
     ap (tellsOf (on t m ks)) f
     ∙ ap (λ (b : Basis). claimText (claimOf b (a .1 .0) (a .1 .1 .0) (a .1 .1 .1 .0) (a .1 .1 .1 .1 .0) ks)) q
     ∙ ap claimText (sym p)
-
--- ---- where a line stands in an input, there its reply stands in the output
-texts-after : (rs qs : List Reply) → textsOf (rs ++ qs) ≡ textsOf rs ++ textsOf qs
-unfolding textsOf
-texts-after [] qs = refl
-texts-after (r ∷ rs) qs = ap (λ (s : List ℕ). textOf r ++ s) (texts-after rs qs) ∙ sym (append-assoc (textOf r) (textsOf rs) (textsOf qs))
-
-pub printed-there : (x : List ℕ) (ls : List (List ℕ)) (l : List ℕ) (ms : List (List ℕ)) → linesOf x ≡ ls ++ (l ∷ ms)
-    → outputOf lineProgram none x
-    ≡ textsOf (repliesOf none ls) ++ (lineProgram .tells (curveAfter none ls) (lineOf l) ++ textsOf (repliesOf (afterOf (curveAfter none ls) (saysOf l)) ms))
-unfolding repliesOf textsOf
-printed-there x ls l ms e =
-    output-replies none x
-    ∙ ap (λ (k : List (List ℕ)). textsOf (repliesOf none k)) e
-    ∙ ap textsOf (in-order none ls (l ∷ ms))
-    ∙ texts-after (repliesOf none ls) (repliesOf (curveAfter none ls) (l ∷ ms))
 
 -- ---- the knot that a line's refusal tells
 value-refused-by : (v : Evaluation) (r : Refusal) → valueReply v ≡ refused r → v ≡ E.Refused r

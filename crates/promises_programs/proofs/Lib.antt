@@ -1,3 +1,7 @@
+pub mod There
+pub mod Lines
 pub mod Sheet
 pub mod Decimals
-pub mod Lines
+pub mod Claims
+pub mod Compare
+pub mod Picture

@@ -1,6 +1,6 @@
 // A sheet of decimals: a basis, then a depth a line.
 ghost use mathlib.Core.Path.{_≡_};
-ghost use Prim.Native.Nat.{_+_, _≤_};
+ghost use Prim.Native.Nat.{ℕ, _+_, _≤_};
 ghost use lib.ListN.{length, take, getD};
 ghost use lib.Dec.{eqb};
 ghost use lib.Ieee.{Float};
@@ -9,9 +9,9 @@ ghost use Rattle.text_decimals.specs.Decimals.{MINUS};
 ghost use Rattle.text.specs.Wrote.{Wrote};
 ghost use Rattle.lines_reply.specs.Contract.{longest};
 ghost use Rattle.lines_machine.specs.Program.{widest};
-ghost use Rattle.lines_machine.specs.Bytes.{endOf};
+ghost use Rattle.lines_machine.specs.Bytes.{start, endOf};
 ghost use Rattle.lines_machine.specs.Contract.{openOf, Fed};
-ghost use Rattle.sheet.specs.Sheet.{most, depthIn, depthLine, named, added, afterOf, endsOf, sheetProgram};
+ghost use Rattle.sheet.specs.Sheet.{most, unbegun, depthIn, depthLine, named, added, afterOf, endsOf, sheetProgram};
 ghost use Rattle.sheet.specs.Contract.{sheetOf, countOf, stateOf};
 ghost use Rattle.lines_record.specs.Record.{namedOf};
 use basis::Basis;
@@ -156,6 +156,17 @@ pub fn end(h: SheetState, table: &[f64], out: &mut [u8], at: usize) -> usize
 pub struct SheetReader {
     pub len: usize,
     pub held: SheetState,
+}
+
+// Before the first byte.
+pub fn begin() -> SheetReader
+    ensures state { λ r. ⌜ ((begun : List ℕ) (table : List Float) → stateOf r begun table ≡ start unbegun) ⌝ }
+    ensures few { λ r. ⌜ countOf (r .held) ≤ most ⌝ }
+{
+    SheetReader {
+        len: 0,
+        held: SheetState::Unbegun,
+    }
 }
 
 // The bytes of a chunk, all of them. Nothing is printed before the end.

@@ -5,8 +5,6 @@ ghost use lib.ListN.{length};
 ghost use Rattle.lines_machine.specs.Program.{widest};
 ghost use Rattle.lines_reply.specs.Contract.{longest};
 ghost use Rattle.sheet.specs.Sheet.{most};
-use sheet::SheetReader;
-use sheet::SheetState;
 
 // The whole input; its end is written where nothing failed.
 fn whole(chunk: &mut [u8], begun: &mut [u8], table: &mut [f64], out: &mut [u8])
@@ -14,10 +12,7 @@ fn whole(chunk: &mut [u8], begun: &mut [u8], table: &mut [f64], out: &mut [u8])
     requires table { ⌜ length (now table) ≡ most ⌝ }
     requires room { ⌜ longest ≤ length (now out) ⌝ }
 {
-    let mut st = SheetReader {
-        len: 0,
-        held: SheetState::Unbegun,
-    };
+    let mut st = sheet::begin();
     let mut fine = true;
     let mut left = u64::MAX;
     while left > 0 {

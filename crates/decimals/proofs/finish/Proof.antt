@@ -20,7 +20,8 @@ same-length c = search needs
 returns-2 : tie.Need-returns-2
 returns-2 c = let a = c .before .before .before .before .before .before .before .args in
     let w = c .before .before .line .ensures in (
-      end-some decimalsProgram (a .len) (a .begun .now) tt {h′ = tt} (omega arith) (c .before .before .before .before .before .before .before .pre .0) refl (w .0) (nothing _ _),
+      end-some decimalsProgram (a .len) (a .begun .now) tt {h′ = tt} (omega arith) (c .before .before .before .before .before .before
+          .before .pre .0) refl (w .0) (nothing _ _),
       omega (arith, w .1),
     )
 

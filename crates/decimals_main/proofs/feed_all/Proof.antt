@@ -39,7 +39,12 @@ written-requires : tie.Need-written-requires Inv-loop μ-loop
 written-requires c κs = search needs
 
 loop-less : tie.Need-loop-less Inv-loop μ-loop
-loop-less c = let f = c .before .before .before .before .before .before .before .feed .ensures in omega (arith, f .1 .1 .0, f .1 .1 .1 .1 (omega arith) (omega arith))
+loop-less c = let f = c .before .before .before .before .before .before .before .feed .ensures in omega (
+  arith,
+  f .1 .1 .0,
+  f .1 .1 .1 .1
+      (omega arith) (omega arith),
+)
 
 loop-again : tie.Need-loop-again Inv-loop μ-loop
 loop-again c = let l = c .before .before .before .before .before .before .before .before .before .before .before .loop in
@@ -47,7 +52,8 @@ loop-again c = let l = c .before .before .before .before .before .before .before
       omega arith,
       omega arith,
       omega arith,
-      ran-on decimalsProgram _ (c .before .before .before .before .before .before .before .before .before .before .before .before .before .before .before .args .chunk .now) (l .«from») (f .result .next) (l .inv .0) (f .ensures .1 .0) (l .inv .3) (f .ensures .0),
+      ran-on decimalsProgram _ (c .before .before .before .before .before .before .before .before .before .before .before .before .before
+          .before .before .args .chunk .now) (l .«from») (f .result .next) (l .inv .0) (f .ensures .1 .0) (l .inv .3) (f .ensures .0),
     )
 
 same-length : tie.Need-same-length Inv-loop μ-loop
@@ -57,7 +63,8 @@ same-length-2 : tie.Need-same-length-2 Inv-loop μ-loop
 same-length-2 c = search needs
 
 returns : tie.Need-returns Inv-loop μ-loop
-returns c = ran-all decimalsProgram _ (c .before .before .before .before .before .args .chunk .now) (c .before .loop .«from») (omega arith) (c .before .loop .inv .3)
+returns c = ran-all decimalsProgram _ (c .before .before .before .before .before .args .chunk .now) (c .before .loop .«from») (omega arith) (c
+    .before .loop .inv .3)
 
 pub feed-all-spec : {M : Type 1} → statement M
 feed-all-spec =

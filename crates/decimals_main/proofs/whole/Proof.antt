@@ -13,6 +13,9 @@ Inv-loop chunk₀ begun₀ out₀ len₀ fine₀ left₀ chunk begun out len fin
 abbrev μ-loop : tie.MeasureT-loop
 μ-loop chunk₀ begun₀ out₀ len₀ fine₀ left₀ chunk begun out len fine left = left
 
+begin-requires : tie.Need-begin-requires Inv-loop μ-loop
+begin-requires c κs = search needs
+
 loop-holds : tie.Need-loop-holds Inv-loop μ-loop
 loop-holds c = search needs
 
@@ -73,6 +76,7 @@ whole-spec =
     (tie.spec
     Inv-loop
     μ-loop
+    begin-requires
     loop-holds
     read-requires
     sub-feed-all

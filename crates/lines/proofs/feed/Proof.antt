@@ -65,14 +65,21 @@ line-requires : tie.Need-line-requires Inv-loop μ-loop
 line-requires c κs = search needs
 
 add-i : tie.Need-add-i Inv-loop μ-loop
-add-i c = omega (arith, c .before .before .before .before .before .before .before .before .before .before .before .if2 .taken, c .before .before .before .before .before .before .before .before .before .before .before .before .before .before .before .before .before .before .loop .inv .9)
+add-i c = omega (
+  arith,
+  c .before .before .before .before .before .before .before .before .before .before .before .if2 .taken,
+  c .before .before
+      .before .before .before .before .before .before .before .before .before .before .before .before .before .before .before .before .loop .inv .9,
+)
 
 loop-less : tie.Need-loop-less Inv-loop μ-loop
 loop-less c = search needs
 
 loop-again : tie.Need-loop-again Inv-loop μ-loop
-loop-again c = let a = c .before .before .before .before .before .before .before .before .before .before .before .before .before .before .before .before .before .before .before .before .before .before .before .before .args in
-    let l = c .before .before .before .before .before .before .before .before .before .before .before .before .before .before .before .before .before .before .loop in
+loop-again c = let a = c .before .before .before .before .before .before .before .before .before .before .before .before .before .before .before
+    .before .before .before .before .before .before .before .before .before .args in
+    let l = c .before .before .before .before .before .before .before .before .before .before .before .before .before .before .before .before
+    .before .before .loop in
     let k = c .before .before .before .before .before .before .before .before .before .before .before .before .before .before .cut in
     let w = c .before .before .before .before .before .before .line .ensures in
     let t = c .before .before .before .before .before .before .before .before .before .before .before .if2 .taken in (

@@ -27,7 +27,9 @@ same-length-3 c = search needs
 returns-2 : tie.Need-returns-2
 returns-2 c = let a = c .before .before .before .before .before .before .before .before .before .before .before .before .before .before .before .args in
     let w = c .before .before .before .before .before .before .line .ensures in (
-      end-some lineProgram (a .st .len) (a .begun .now) (curveOf (a .st .held) (a .table .now)) (c .before .before .before .before .before .before .before .before .before .before .if1 .left) (c .before .before .before .before .before .before .before .before .before .before .before .before .before .before .before .pre .0) (w .0) (w .1 .1 .0)
+      end-some lineProgram (a .st .len) (a .begun .now) (curveOf (a .st .held) (a .table .now)) (c .before .before .before .before .before
+          .before .before .before .before .before .if1 .left) (c .before .before .before .before .before .before .before .before .before .before
+          .before .before .before .before .before .pre .0) (w .0) (w .1 .1 .0)
           (nothing _ _),
       omega (arith, w .1 .1 .1),
     )

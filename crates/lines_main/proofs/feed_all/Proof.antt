@@ -43,16 +43,32 @@ written-requires c κs = search needs
 
 loop-less : tie.Need-loop-less Inv-loop μ-loop
 loop-less c = let f = c .before .before .before .before .before .before .before .before .before .before .before .before .feed .ensures in
-    let l = c .before .before .before .before .before .before .before .before .before .before .before .before .before .before .before .before .before .before .loop in
-    let t = c .before .before .before .before .before .before .before .before .before .before .before .before .before .before .before .before .before .loop-test .taken in omega (arith, t, f .1 .1 .1 .0, f .1 .1 .1 .1 .1 t (omega (arith, l .inv .2, c .before .before .before .before .before .before .before .before .before .before .before .before .before .before .before .before .before .before .before .before .before .before .before .before .pre)))
+    let l = c .before .before .before .before .before .before .before .before .before .before .before .before .before .before .before .before
+    .before .before .loop in
+    let t = c .before .before .before .before .before .before .before .before .before .before .before .before .before .before .before .before
+    .before .loop-test .taken in omega (
+      arith,
+      t,
+      f .1 .1 .1 .0,
+      f .1 .1 .1 .1 .1 t (omega (
+        arith,
+        l .inv .2,
+        c .before .before .before
+            .before .before .before .before .before .before .before .before .before .before .before .before .before .before .before .before .before
+            .before .before .before .before .pre,
+      )),
+    )
 
 loop-again : tie.Need-loop-again Inv-loop μ-loop
-loop-again c = let l = c .before .before .before .before .before .before .before .before .before .before .before .before .before .before .before .before .before .before .loop in
+loop-again c = let l = c .before .before .before .before .before .before .before .before .before .before .before .before .before .before .before
+    .before .before .before .loop in
     let f = c .before .before .before .before .before .before .before .before .before .before .before .before .feed in (
       f .ensures .1 .1 .1 .0,
       omega (arith, l .inv .1),
       omega (arith, l .inv .2),
-      ran-on lineProgram _ (c .before .before .before .before .before .before .before .before .before .before .before .before .before .before .before .before .before .before .before .before .before .before .before .before .args .chunk .now) (l .«from») (f .result .next) (l .inv .0) (f .ensures .1 .1 .0) (l .inv .3) (f .ensures .0),
+      ran-on lineProgram _ (c .before .before .before .before .before .before .before .before .before .before .before .before .before .before
+          .before .before .before .before .before .before .before .before .before .before .args .chunk .now) (l .«from») (f .result .next) (l .inv .0)
+          (f .ensures .1 .1 .0) (l .inv .3) (f .ensures .0),
       omega (arith, l .inv .4),
       omega (arith, l .inv .5),
       f .ensures .1 .0,
@@ -71,7 +87,11 @@ same-length-4 : tie.Need-same-length-4 Inv-loop μ-loop
 same-length-4 c = search needs
 
 returns : tie.Need-returns Inv-loop μ-loop
-returns c = let l = c .before .loop in (ran-all lineProgram _ (c .before .before .before .before .before .before .before .args .chunk .now) (l .«from») (omega arith) (l .inv .3), l .inv .6)
+returns c = let l = c .before .loop in (
+  ran-all lineProgram _ (c .before .before .before .before .before .before .before .args .chunk .now)
+      (l .«from») (omega arith) (l .inv .3),
+  l .inv .6,
+)
 
 pub feed-all-spec : {M : Type 1} → statement M
 feed-all-spec =

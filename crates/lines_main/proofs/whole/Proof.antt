@@ -18,6 +18,9 @@ Inv-loop chunk₀ begun₀ table₀ converted₀ out₀ st₀ fine₀ left₀ ch
 abbrev μ-loop : tie.MeasureT-loop
 μ-loop chunk₀ begun₀ table₀ converted₀ out₀ st₀ fine₀ left₀ chunk begun table converted out st fine left = left
 
+begin-requires : tie.Need-begin-requires Inv-loop μ-loop
+begin-requires c κs = search needs
+
 loop-holds : tie.Need-loop-holds Inv-loop μ-loop
 loop-holds c = search needs
 
@@ -43,14 +46,15 @@ loop-less : tie.Need-loop-less Inv-loop μ-loop
 loop-less c = search needs
 
 loop-again : tie.Need-loop-again Inv-loop μ-loop
-loop-again c = let l = c .before .before .before .before .before .before .before .before .before .before .before .before .before .before .before .before .before .before .before .before .before .before .before .before .before .before .loop in (
-  omega (arith, l .inv .0),
-  omega (arith, l .inv .1),
-  omega (arith, l .inv .2),
-  omega (arith, l .inv .3),
-  omega (arith, l .inv .4),
-  c .before .before .before .before .before .before .before .before .before .before .before .before .before .before .feed-all .ensures .1,
-)
+loop-again c = let l = c .before .before .before .before .before .before .before .before .before .before .before .before .before .before .before
+    .before .before .before .before .before .before .before .before .before .before .before .loop in (
+      omega (arith, l .inv .0),
+      omega (arith, l .inv .1),
+      omega (arith, l .inv .2),
+      omega (arith, l .inv .3),
+      omega (arith, l .inv .4),
+      c .before .before .before .before .before .before .before .before .before .before .before .before .before .before .feed-all .ensures .1,
+    )
 
 finish-requires : tie.Need-finish-requires Inv-loop μ-loop
 finish-requires c κs = search needs
@@ -91,6 +95,7 @@ whole-spec =
     (tie.spec
     Inv-loop
     μ-loop
+    begin-requires
     loop-holds
     read-requires
     sub-feed-all

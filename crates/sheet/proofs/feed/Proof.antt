@@ -39,7 +39,8 @@ loop-less : tie.Need-loop-less Inv-loop μ-loop
 loop-less c = omega arith
 
 loop-again : tie.Need-loop-again Inv-loop μ-loop
-loop-again c = let x = c .before .before .before .before .before .before .before .before .before .before .before .before .before .before .before .args .chunk .now in
+loop-again c = let x = c .before .before .before .before .before .before .before .before .before .before .before .before .before .before
+    .before .args .chunk .now in
     let l = c .before .before .before .before .before .before .before .before .before .before .before .loop in
     let k = c .before .before .before .before .before .before .before .before .cut in (
       omega arith,
@@ -61,7 +62,8 @@ loop-again-2 c = let l = c .before .before .before .before .before .before .loop
       omega arith,
       omega arith,
       search needs,
-      fed-stretch sheetProgram (c .before .before .before .before .before .before .before .before .before .before .args .chunk .now) 0 (l .i) (k .result .stop) (omega arith) (l .inv .0) (l .inv .4) (k .ensures),
+      fed-stretch sheetProgram (c .before .before .before .before .before .before .before .before .before .before .args .chunk .now) 0 (l .i)
+          (k .result .stop) (omega arith) (l .inv .0) (l .inv .4) (k .ensures),
     )
 
 same-length : tie.Need-same-length Inv-loop μ-loop
@@ -71,7 +73,11 @@ same-length-2 : tie.Need-same-length-2 Inv-loop μ-loop
 same-length-2 c = omega arith
 
 returns : tie.Need-returns Inv-loop μ-loop
-returns c = (fed-all sheetProgram (c .before .before .before .before .before .args .chunk .now) (c .before .loop .i) (omega arith) (c .before .loop .inv .4), c .before .loop .inv .3)
+returns c = (
+  fed-all sheetProgram (c .before .before .before .before .before .args .chunk .now) (c .before .loop .i) (omega arith) (c
+      .before .loop .inv .4),
+  c .before .loop .inv .3,
+)
 
 pub feed-spec : {M : Type 1} → statement M
 feed-spec =

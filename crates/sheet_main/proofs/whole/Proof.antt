@@ -16,6 +16,9 @@ Inv-loop chunk₀ begun₀ table₀ out st₀ fine₀ left₀ chunk begun table 
 abbrev μ-loop : tie.MeasureT-loop
 μ-loop chunk₀ begun₀ table₀ out st₀ fine₀ left₀ chunk begun table st fine left = left
 
+begin-requires : tie.Need-begin-requires Inv-loop μ-loop
+begin-requires c κs = search needs
+
 loop-holds : tie.Need-loop-holds Inv-loop μ-loop
 loop-holds c = search needs
 
@@ -79,6 +82,7 @@ whole-spec =
     (tie.spec
     Inv-loop
     μ-loop
+    begin-requires
     loop-holds
     read-requires
     sub-feed

@@ -1,0 +1,54 @@
+-- The picture of a listing: however its input is cut, what its calls write is what the whole of it prints. Assumes nothing.
+use mathlib.Core.Path.{_≡_, refl, _∙_}
+use mathlib.Core.List.{List, [], _++_}
+use Prim.Native.Nat.{ℕ}
+use denote.Ref.{now}
+use lib.ListN.{take}
+use lib.Ieee.{Float}
+use Rattle.picture.specs.declared.PictureReader.{PictureReader}
+use Rattle.picture.specs.Program.{nothingDrawn, endsWith, pictureProgram}
+use Rattle.picture.specs.Contract.{stateOf}
+use Rattle.lines_machine.specs.Program.{linesOf, outputOf}
+use Rattle.lines_machine.specs.Contract.{So}
+use Rattle.lines_machine.proofs.Feeding.{so-none, so-fed, so-ended}
+use Rattle.picture.proofs.begin.Reads as begin
+use Rattle.picture.proofs.feed.Reads as feed
+use Rattle.picture.proofs.finish.Reads as finish
+use Rattle.calls.specs.Calls.{OneReply}
+use Rattle.promises_programs.proofs.There.{stateAfter, printed-at-the-end, one, wrote-one}
+
+-- its calls one after another, each as its contract tells: of the input the bytes x were taken, and the bytes w written
+pub data PictureSoFar : PictureReader → List ℕ → List Float → List ℕ → List ℕ → Type 0 where
+  begun : (κs : _) (a : _) (z : _) (e : _) → begin.Learnt κs a z e → (line : List ℕ) (table : List Float) → PictureSoFar z line table [] []
+  fed : (κs : _) (a : _) (z : _) (e : _) → feed.Learnt κs a z e → (x w : List ℕ) → PictureSoFar (a .0) (now (a .1 .1 .0)) (now (a .1 .1 .1 .0)) x w
+      → PictureSoFar z (now (e .1 .1 .0)) (now (e .1 .1 .1 .0)) (x ++ (now (a .1 .0))) (w ++ [])
+
+-- a whole run: the input is x, and all that the calls wrote, once the last has returned, is y
+pub data PictureRun : List ℕ → List ℕ → Type 0 where
+  ended : (κs : _) (a : _) (z : _) (e : _) → finish.Learnt κs a z e → (x w : List ℕ) → PictureSoFar (a .0) (now (a .1 .0)) (now (a .1 .1 .0)) x w
+      → PictureRun x (w ++ take z (now (e .1 .1 .1 .1 .0)))
+
+so-far : (st : PictureReader) (line : List ℕ) (table : List Float) (x w : List ℕ) → PictureSoFar st line table x w → So pictureProgram nothingDrawn
+    (stateOf st line table) x w
+so-far st line table x w (begun κs a z e p line₀ table₀) = rw (p .0 line₀ table₀) (so-none pictureProgram nothingDrawn)
+so-far st line table x w (fed κs a z e p y v r) = so-fed pictureProgram (so-far _ _ _ y v r) (p .0)
+
+-- however the input is cut
+pub picture-writes : (x y : List ℕ) → PictureRun x y → y ≡ outputOf pictureProgram nothingDrawn x
+picture-writes x y (ended κs a z e p v w r) = so-ended pictureProgram (so-far _ _ _ v w r) (p .0)
+
+-- ---- no second reply
+pub picture-begin-one-reply : OneReply begin.Learnt (λ κs z e z′ e′. (line : List ℕ) (table : List Float) → stateOf z line table ≡ stateOf z′ line table)
+picture-begin-one-reply κs a z z′ e e′ p q line table = one (p .0 line table) (q .0 line table)
+
+pub picture-feed-one-reply : OneReply feed.Learnt (λ κs z e z′ e′. stateOf z (now (e .1 .1 .0)) (now (e .1 .1 .1 .0)) ≡ stateOf z′ (now (e′ .1 .1 .0))
+    (now (e′ .1 .1 .1 .0)))
+picture-feed-one-reply κs a z z′ e e′ p q = one (p .0 .state) (q .0 .state)
+
+pub picture-finish-one-reply : OneReply finish.Learnt (λ κs z e z′ e′. (z ≡ z′) × (now (e .1 .1 .1 .1 .0) ≡ now (e′ .1 .1 .1 .1 .0)))
+picture-finish-one-reply κs a z z′ e e′ p q = wrote-one (p .0) (q .0)
+
+-- ---- bytes in, bytes out: the picture of what the whole listing leaves, and nothing before it
+pub picture-drawn : (x y : List ℕ) → PictureRun x y
+    → (let d = stateAfter pictureProgram nothingDrawn (linesOf x) in y ≡ endsWith (d .curve) (d .finds) (d .fault))
+picture-drawn x y r = picture-writes x y r ∙ printed-at-the-end pictureProgram (λ s o. refl) nothingDrawn x
