@@ -1,5 +1,5 @@
-// The export of what a stopped job's depth means: the function has the contract of the export that calls it. The basis comes by its number, the
-// span in seconds, 0 for none.
+// The export of what a stopped job's depth means: the function has the contract of the export that calls it. The basis comes by its
+// number, the span in seconds, 0 for none.
 ghost use mathlib.Core.Path.{_≡_};
 ghost use Rattle.exports_reply.specs.Replies.{chosenOf, noBasis, chosen};
 ghost use Rattle.exports_stopped.specs.Jobs.{saidReply, saidJob, saidPlace, saidWhole};

@@ -1,5 +1,5 @@
--- What others link of a stopped job asks nothing, allows one reply, and where it does not return 0 leaves what stood behind each pointer, but 11 its count; where
--- it returns 0 the number left is one of six. Assumes nothing.
+-- What others link of a stopped job asks nothing, allows one reply, and where it does not return 0 leaves what stood behind each pointer, but 11 its count.
+-- Assumes nothing.
 use mathlib.Core.Path.{_≡_, refl, sym, _∙_}
 use mathlib.Core.List.{List}
 use Prim.Native.Nat.{ℕ, _≤_}

@@ -175,7 +175,8 @@ module _ (t : Table) (y : Float) (ks ls : List Float) (check : Bool) where
       let n = segmentsOf (t .basis) (length ks) in
       let r = curveRule g n in
       let c = subst (Agreed g h) (searched-list t y ks check (no-row t y ks check e)) a in
-      let found : located steady (r .ends) (r .made) g n y defaultPrecision steadyLimit ≡ located steady (r .ends) (r .made) h n y defaultPrecision steadyLimit =
+      let found : located steady (r .ends) (r .made) g n y defaultPrecision steadyLimit
+      ≡ located steady (r .ends) (r .made) h n y defaultPrecision steadyLimit =
       none-unlisted steady (r .ends) (r .made) g n y defaultPrecision steadyLimit h c in
       let same : r ≡ curveRule h n = rule-same g h n (rule-listed steady (r .ends) (r .made) g n y defaultPrecision steadyLimit h c) in
       sym (call.by-ends t y ks check (span-good t y ks check e) (no-row t y ks check e) refl)

@@ -311,7 +311,7 @@ fn night() {
     words('q', &[6, 0, 0, 0, 0, 255, 0, 0, 0, 0, 0, 0, 0, 0, 0, 0, 0]);
 }
 
-/// Basis, depth, order check, two zeros; the record, which is all zeros but for a job that is under way; what is said, a zero, span and second.
+/// Basis, depth, order check, two zeros; the record, all zeros but for a job that is under way; what is said, a zero, span and second.
 fn job(b: usize, span: u32, y: f64, knots: &[f64], check: bool) {
     let (i, said) = stopped::model(b, span, y, knots, check);
     let (told, second) = match (said, i.answer) {
