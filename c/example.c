@@ -25,7 +25,7 @@ int main(void) {
     uint64_t written;
     struct simmerstoat_place p;
 
-    if (!is_done("0.3", simmerstoat_find(SIMMERSTOAT_CATMULL_ROM, 0.3, hours, 6, simmerstoat_defaults(), &p))) return 1;
+    if (!is_done("0.3", simmerstoat_find(SIMMERSTOAT_CATMULL_ROM, 0.3, hours, 6, simmerstoat_defaults_steady(), &p))) return 1;
     printf("parameter %.6f, ground %s, segment %u, %u evaluations\n", p.parameter, GROUNDS[p.ground], (unsigned)p.segment, (unsigned)p.count);
 
     if (!is_done("depth", simmerstoat_spline(SIMMERSTOAT_CATMULL_ROM, p.parameter, depths, 6, &depth))) return 1;
@@ -38,6 +38,6 @@ int main(void) {
         return 1;
     printf("%u places: %u written, from %.6f to %.6f\n", (unsigned)room, (unsigned)written, bezier[0], bezier[9]);
 
-    if (is_done("mistyped", simmerstoat_find(SIMMERSTOAT_CATMULL_ROM, 0.3, mistyped, 6, simmerstoat_defaults(), &p))) return 1;
+    if (is_done("mistyped", simmerstoat_find(SIMMERSTOAT_CATMULL_ROM, 0.3, mistyped, 6, simmerstoat_defaults_steady(), &p))) return 1;
     return 0;
 }

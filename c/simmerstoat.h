@@ -238,6 +238,25 @@ uint32_t simmerstoat_table_spline_inverse_by(uint8_t basis, uint32_t span, doubl
 uint32_t simmerstoat_table_spline_inverse_steady(uint8_t basis, uint32_t span, double y, const double *knots, uint64_t n,
                                                  bool check, double place[4], uint64_t whole[4]);
 
+/* What the depth at which a job stopped says of the job: what simmerstoat_stopped writes to job. None of these is 0, so that
+ * a byte that was set to 0 says nothing before a call. */
+enum {
+    SIMMERSTOAT_JOB_FLAT = 1,      /* the curve's two ends are equal: no depth says how far the job had come */
+    SIMMERSTOAT_JOB_BEFORE = 2,    /* y lies before the curve's start */
+    SIMMERSTOAT_JOB_NOT_BEGUN = 3, /* y is the curve's start */
+    SIMMERSTOAT_JOB_UNDER_WAY = 4, /* y lies strictly between the ends; the place and its second are written */
+    SIMMERSTOAT_JOB_DONE = 5,      /* y is the curve's end */
+    SIMMERSTOAT_JOB_BEYOND = 6     /* y lies beyond the curve's end */
+};
+
+/* How far a job had come that stopped at the depth y. Start and end are the curve's own, as evaluated, and "is" is equality
+ * of doubles. Between them it is simmerstoat_table_spline_inverse_by in SIMMERSTOAT_ENDS_CURVE and SIMMERSTOAT_STEADY, limit
+ * 64, precision 1e-10: never SIMMERSTOAT_SPENT, and at most 65 evaluations on up to 12 segments and 45 + 2 b above; elsewhere
+ * there are 2. With check, knots that turn back are refused; leave it off for Hermite, whose knots are depths and slopes by
+ * turns. On a refusal job keeps what it held. Refusals: 255, 1, 2, 3, 14, 5, 4, 10, 11. docs/BOX.md says what a box does. */
+uint32_t simmerstoat_stopped(uint8_t basis, uint32_t span, double y, const double *knots, uint64_t n, bool check,
+                             uint8_t *job, double place[4], uint64_t whole[4]);
+
 /* The knots in another basis, as simmerstoat_convert_spline. The new table has the same span, which is written to handed.
  * Refusals: 255, 1, 2, 3, 14, 8, 9, 4. */
 uint32_t simmerstoat_table_convert_spline(uint8_t from, uint32_t span, uint8_t to, const double *knots, uint64_t n,
@@ -310,6 +329,13 @@ static inline struct simmerstoat_options simmerstoat_defaults(void) {
     return o;
 }
 
+/* The order check, 64 rounds, 1e-10, ends as the crate has them, the steady method: for a box, which has to answer for each
+ * ground. It never gives SIMMERSTOAT_SPENT; the crate's method does, on curves like a night's. */
+static inline struct simmerstoat_options simmerstoat_defaults_steady(void) {
+    struct simmerstoat_options o = {true, 64, 1e-10, SIMMERSTOAT_ENDS_KNOTS, SIMMERSTOAT_STEADY};
+    return o;
+}
+
 static inline uint32_t simmerstoat_placed(uint32_t reply, const double place[4], const uint64_t whole[3],
                                           struct simmerstoat_place *p) {
     if (reply == SIMMERSTOAT_DONE) {
@@ -340,6 +366,25 @@ static inline uint32_t simmerstoat_find_in_segment(uint8_t basis, double y, cons
     uint64_t whole[3];
     uint32_t reply = simmerstoat_spline_inverse_segment_by(basis, y, cv, n, o.limit, o.precision, o.method, place, whole);
     return simmerstoat_placed(reply, place, whole, p);
+}
+
+/* What a stopped job's depth says. job is 0 on a refusal, else one of SIMMERSTOAT_JOB_*; second and place are good where it is
+ * SIMMERSTOAT_JOB_UNDER_WAY, and of place count with SIMMERSTOAT_OFF_CURVE. */
+struct simmerstoat_job {
+    uint8_t job;
+    uint32_t second;
+    struct simmerstoat_place place;
+};
+
+/* simmerstoat_stopped over that struct. */
+static inline uint32_t simmerstoat_job_at(uint8_t basis, uint32_t span, double y, const double *knots, uint64_t n, bool check,
+                                          struct simmerstoat_job *j) {
+    double place[4] = {0};
+    uint64_t whole[4] = {0};
+    j->job = 0;
+    uint32_t reply = simmerstoat_stopped(basis, span, y, knots, n, check, &j->job, place, whole);
+    j->second = (uint32_t)whole[SIMMERSTOAT_SECOND];
+    return simmerstoat_placed(reply, place, whole, &j->place);
 }
 
 #ifdef __cplusplus

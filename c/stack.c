@@ -20,6 +20,7 @@ static double knots[KNOTS], out[4 * KNOTS], value, place[4];
 static uint64_t whole[4], written;
 static uint32_t handed;
 static bool holds;
+static uint8_t job;
 static int basis, other;
 static uint64_t length;
 static double at;
@@ -73,6 +74,9 @@ static void table_spline_inverse_by(void) {
 static void table_spline_inverse_steady(void) {
     reply = simmerstoat_table_spline_inverse_steady(basis, 86400, at * 40, knots, length, true, place, whole);
 }
+static void stopped(void) {
+    reply = simmerstoat_stopped(basis, 86400, at * 40, knots, length, true, &job, place, whole);
+}
 static void table_convert_spline(void) {
     reply = simmerstoat_table_convert_spline(basis, 86400, other, knots, length, out, 4 * KNOTS, &handed, &written);
 }
@@ -123,6 +127,7 @@ int main(void) {
                  {"table_spline_inverse", table_spline_inverse, INVERSION},
                  {"table_spline_inverse_by", table_spline_inverse_by, INVERSION},
                  {"table_spline_inverse_steady", table_spline_inverse_steady, INVERSION},
+                 {"stopped", stopped, INVERSION},
                  {"table_convert_spline", table_convert_spline, TABLE},
                  {"table_convert_spline_strict", table_convert_spline_strict, STRICT},
                  {"check_claim", check_claim, EVALUATION},

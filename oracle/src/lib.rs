@@ -10,6 +10,7 @@ pub mod port;
 pub mod promised;
 pub mod sets;
 pub mod steady;
+pub mod stopped;
 pub mod strict;
 pub mod table;
 pub mod tally;

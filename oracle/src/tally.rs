@@ -36,6 +36,7 @@ calls! {
     TableConvertSpline "table_convert_spline",
     CheckClaim "check_claim",
     TableConvertSplineStrict "table_convert_spline_strict",
+    Stopped "stopped",
 }
 
 impl Call {
@@ -59,8 +60,8 @@ impl Call {
     }
 }
 
-/// An answer's column: 0 is plain, 1 to 20 the refusals, then the grounds, a number that stands for nothing, and
-/// the checker's two words.
+/// An answer's column: 0 is plain, 1 to 20 the refusals, then the grounds, a number that stands for nothing, the
+/// checker's two words, and what is said of a stopped job.
 pub type Answer = usize;
 
 pub const PLAIN: Answer = 0;
@@ -69,7 +70,7 @@ const SPENT: Answer = 25;
 pub const NO_NUMBER: Answer = 26;
 pub const HOLDS: Answer = 27;
 pub const DIFFERS: Answer = 28;
-const ANSWERS: usize = 29;
+const ANSWERS: usize = 35;
 
 /// The column of a reply's number.
 pub fn of_reply(reply: u32) -> Answer {
@@ -83,6 +84,11 @@ pub fn of_ground(g: Ground) -> Answer {
     21 + g as usize
 }
 
+/// The column of what is said of a job, by its number from 1 to 6.
+pub fn of_job(job: u8) -> Answer {
+    DIFFERS + job as usize
+}
+
 fn name(a: Answer) -> String {
     match a {
         PLAIN => "answered".into(),
@@ -94,6 +100,7 @@ fn name(a: Answer) -> String {
         SPENT => "spent".into(),
         HOLDS => "holds".into(),
         DIFFERS => "differs".into(),
+        29..=34 => ["flat", "before", "not begun", "under way", "done", "beyond"][a - 29].into(),
         _ => "no such number".into(),
     }
 }

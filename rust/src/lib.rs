@@ -5,7 +5,9 @@
 //! same bits. What they add are the refusals, which keep every input from a panic or an endless loop, and the record of an
 //! inversion ([`Place`]). [`moving`] says what to change in a program that calls the crate.
 //!
-//! An inversion and an evaluation together make a spline over uneven places:
+//! An inversion and an evaluation together make a spline over uneven places. It is the steady method's inversion: it never
+//! stops for want of rounds ([`Ground::Spent`]), as the crate's does on curves like a night's, so that a program on a box has
+//! no such place to answer for.
 //!
 //! ```
 //! use simmerstoat::prelude::*;
@@ -13,7 +15,7 @@
 //! let places = [0.0, 0.0, 0.1, 0.3, 1.0, 1.0];
 //! let depths = [0.0, 0.0, 1.3, 4.2, 3.2, 3.2];
 //!
-//! let found = spline_inverse::<CatmullRom, _>(0.3, &places)?;
+//! let found = spline_inverse_steady::<CatmullRom, _>(0.3, &places)?;
 //! let depth = spline::<CatmullRom, _, _>(found.parameter, &depths)?;
 //! assert!((depth - 4.2).abs() < 1e-6);
 //! # Ok::<(), Refusal>(())
@@ -29,6 +31,9 @@
 //! assert_eq!(refused, Refusal::TurnsBack(2));
 //! assert_eq!(refused.to_string(), "knot 2 goes against the direction");
 //! ```
+//!
+//! How far a job had come that stopped at a depth is asked with [`table::Table::stopped`]; its answer is a [`job::Job`], and no
+//! refusal is among its cases.
 //!
 //! # What a caller owes
 //!
@@ -55,6 +60,7 @@ pub mod basis;
 pub mod claim;
 pub mod convert;
 mod double;
+pub mod job;
 mod options;
 pub mod raw;
 mod steady;

@@ -201,6 +201,18 @@ extern "C" {
         whole: *mut [u64; 4],
     ) -> u32;
 
+    pub fn simmerstoat_stopped(
+        basis: u8,
+        span: u32,
+        y: f64,
+        knots: *const f64,
+        n: u64,
+        check: bool,
+        job: *mut u8,
+        place: *mut [f64; 4],
+        whole: *mut [u64; 4],
+    ) -> u32;
+
     pub fn simmerstoat_table_convert_spline(
         from: u8,
         span: u32,

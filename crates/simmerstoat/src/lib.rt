@@ -25,6 +25,7 @@ ghost use Rattle.exports_reply.specs.Replies.{
 
 pub mod claims;
 pub mod hours;
+pub mod jobs;
 pub mod options;
 pub mod seams;
 pub mod spans;

@@ -120,7 +120,8 @@ module _ (b : Basis) (ks : List Float) (y : Float) (span : ℕ) {k : ℕ} (q : k
           said-between g {i} {j} s r =
               let G = segmentOf b ks in
               let ev = curveRule G k .made in
-              let p : i ≡ located steady (endsOf b ks) (curveRule G (segmentsOf b (length ks)) .made) G (segmentsOf b (length ks)) y defaultPrecision steadyLimit =
+              let p : i ≡ located steady (endsOf b ks) (curveRule G (segmentsOf b (length ks)) .made) G (segmentsOf b (length ks)) y defaultPrecision
+              steadyLimit =
               located-searched steady e ev G k y defaultPrecision steadyLimit (not-low e y c f) (not-high e y d g) (s ev refl)
               ∙ ap (λ (z : Ends). located steady z ev G k y defaultPrecision steadyLimit) ends-are
               ∙ ap (λ (z : ℕ). located steady (endsOf b ks) (curveRule G z .made) G z y defaultPrecision steadyLimit) q in

@@ -1,2 +1,5 @@
 pub mod Ends
 pub mod Call
+pub mod Between
+pub mod Which
+pub mod Stops

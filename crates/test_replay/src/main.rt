@@ -3,6 +3,7 @@
 ghost use Prim.Native.Nat.{_+_, _≤_, _<_};
 use simmerstoat::claims::simmerstoat_check_claim;
 use simmerstoat::hours::simmerstoat_depth_at;
+use simmerstoat::jobs::simmerstoat_stopped;
 use simmerstoat::options::simmerstoat_spline_inverse_by;
 use simmerstoat::options::simmerstoat_spline_inverse_segment_by;
 use simmerstoat::seams::simmerstoat_convert_spline_strict;
@@ -209,6 +210,24 @@ fn table_inversion_equal(letter: u8, q: Question, knots: &[f64], w: [u64; 64]) -
     place_equal_with(reply, place, whole, w)
 }
 
+// q: what is said of the job stands where the end rule does; all else is 0 but where the job is under way.
+fn job_equal(q: Question, knots: &[f64], w: [u64; 64]) -> bool {
+    let mut job: u8 = 0;
+    let mut place = [0.0; 4];
+    let mut whole: [usize; 4] = [0; 4];
+    let reply = simmerstoat_stopped(
+        q.basis,
+        q.span,
+        q.y,
+        knots,
+        q.check,
+        &mut job,
+        &mut place,
+        &mut whole,
+    );
+    place_equal_with(reply, place, whole, w) & (job == q.ends)
+}
+
 // h: the basis of the depths stands where the end rule does, then how many of the knots are the times, and the depth.
 fn depth_equal(q: Question, knots: &[f64], w: [u64; 64]) -> bool {
     let n = w[14] as usize;
@@ -321,6 +340,7 @@ fn is_equal(letter: u8, w: [u64; 64], knots: &[f64]) -> bool {
         b'c' | b'd' => conversion_equal(letter, w, knots),
         b'e' | b'f' | b'g' => further_conversion_equal(letter, w, knots),
         b'h' => depth_equal(q, knots, w),
+        b'q' => job_equal(q, knots, w),
         b'w' | b'x' | b'y' => table_inversion_equal(letter, q, knots, w),
         b'i' | b'j' | b'm' | b'n' | b'o' | b'p' => inversion_equal(letter, q, knots, w),
         _ => false,

@@ -9,6 +9,7 @@ use judge::crates;
 use judge::inputs::{self, Rng};
 use judge::model::{self, Ends, Fate, Method, Options, STEP};
 use judge::port::{UNTOUCHED, UNTOUCHED_WHOLE};
+use judge::stopped;
 use judge::strict;
 use judge::table;
 use judge::uneven;
@@ -68,6 +69,12 @@ fn main() {
     }
     off_curve();
     unknown();
+    // a generator of its own again
+    let mut r = Rng(2028);
+    for i in 0..FURTHER {
+        stopped_jobs(&mut r, i % 6, i / 6);
+    }
+    night();
 }
 
 /// An inversion by every other rule of the ends and method.
@@ -271,6 +278,49 @@ fn timed(letter: char, b: usize, span: u32, y: f64, knots: &[f64], o: &Options) 
     let i = table::inversion(b, span, y, knots, o);
     let second = i.answer.map_or(0, |p| table::second(span, p.parameter));
     by(letter, b, y, o, &i, &[span as u64, second as u64]);
+}
+
+/// What a stopped job's depth says, at any depth and at an end of the curve.
+fn stopped_jobs(r: &mut Rng, b: usize, round: usize) {
+    let k = 1 + r.below(15.min((59 - 4) / STEP[b] + 1));
+    let knots = any_curve(r, b, k, round);
+    listed(&knots);
+    let check = r.below(4) == 0;
+    job(b, any_span(r), any_target(r, b, &knots), &knots, check);
+    if model::spline(b, 0.0, &knots).is_ok() {
+        let at = r.one_of(&[0.0, 1.0]);
+        job(b, any_span(r), model::spline(b, at, &knots).unwrap(), &knots, false);
+    }
+}
+
+/// The night that held an hour twice, by the clock and by seconds; a table that stays where it is; no basis.
+fn night() {
+    let clock = [1.0, 1.0, 1.1, 1.2, 1.4, 1.3, 1.5, 1.6, 1.7, 1.7];
+    let mut seconds = clock;
+    seconds.sort_by(f64::total_cmp);
+    for knots in [clock, seconds] {
+        listed(&knots);
+        for y in [0.9, 1.0, 1.45, 1.7, 1.8] {
+            job(4, 12_600, y, &knots, true);
+        }
+    }
+    listed(&[0.0; 6]);
+    for y in [-0.0, 0.0, 5.0] {
+        job(4, 12_600, y, &[0.0; 6], true);
+    }
+    words('q', &[6, 0, 0, 0, 0, 255, 0, 0, 0, 0, 0, 0, 0, 0, 0, 0, 0]);
+}
+
+/// Basis, depth, order check, two zeros; the record, all zeros but for a job that is under way; what is said, a zero, span and second.
+fn job(b: usize, span: u32, y: f64, knots: &[f64], check: bool) {
+    let (i, said) = stopped::model(b, span, y, knots, check);
+    let (told, second) = match (said, i.answer) {
+        (Some(stopped::UNDER_WAY), Ok(p)) => (record(Some(p.parameter), &i), table::second(span, p.parameter)),
+        (Some(_), _) => (vec![0; 8], 0),
+        (None, _) => (record(None, &i), 0),
+    };
+    let asked = [b as u64, y.to_bits(), check as u64, 0, 0];
+    words('q', &[&asked[..], &told, &[said.unwrap_or(0) as u64, 0, span as u64, second as u64]].concat());
 }
 
 /// A target that the knots' end rule lets in and the curve, from 1 to 6, does not reach.

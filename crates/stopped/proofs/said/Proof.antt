@@ -40,7 +40,8 @@ returns-4 c =
     let a = c .before .before .before .before .before .before .before .before .before .before .before .args in
     let q = c .before .before .before .before .before .before .before .before .before .segments .ensures in
     let h = c .before .before .before .before .before .before .before .before .curve-ends .ensures in
-    said-before (a .b) (a .knots .now) (a .y) (a .span) q h (c .before .before .before .before .before .before .if1 .left) (c .before .before .before .before .if2 .left) (c .before .before .if3 .left)
+    said-before (a .b) (a .knots .now) (a .y) (a .span) q h (c .before .before .before .before .before .before .if1 .left)
+    (c .before .before .before .before .if2 .left) (c .before .before .if3 .left)
     (sym (c .before .is-before .ensures) ∙ c .if4 .taken)
 
 is-beyond-requires : tie.Need-is-beyond-requires
@@ -51,13 +52,15 @@ returns-5 c =
     let a = c .before .before .before .before .before .before .before .before .before .before .before .before .before .args in
     let q = c .before .before .before .before .before .before .before .before .before .before .before .segments .ensures in
     let h = c .before .before .before .before .before .before .before .before .before .before .curve-ends .ensures in
-    said-beyond (a .b) (a .knots .now) (a .y) (a .span) q h (c .before .before .before .before .before .before .before .before .if1 .left) (c .before .before .before .before .before .before .if2 .left) (c .before .before .before .before .if3 .left)
+    said-beyond (a .b) (a .knots .now) (a .y) (a .span) q h (c .before .before .before .before .before .before .before .before .if1 .left)
+    (c .before .before .before .before .before .before .if2 .left) (c .before .before .before .before .if3 .left)
     (sym (c .before .before .before .is-before .ensures) ∙ c .before .before .if4 .left) (sym (c .before .is-beyond .ensures) ∙ c .if5 .taken)
 
 searched-requires : tie.Need-searched-requires
 searched-requires c κs =
     let p = c .before .before .before .before .before .before .before .before .before .before .before .before .before .pre in
-    (c .before .before .before .before .before .before .before .before .before .before .before .segments .ensures, (p .1 .0, (p .1 .1 .0, (p .1 .1 .1 .0, (p .1 .1 .1 .1, search needs)))))
+    let q = c .before .before .before .before .before .before .before .before .before .before .before .segments .ensures in
+    (q, (p .1 .0, (p .1 .1 .0, (p .1 .1 .1 .0, (p .1 .1 .1 .1, search needs)))))
 
 found-requires : tie.Need-found-requires
 found-requires c κs = search needs
@@ -67,8 +70,11 @@ returns-6 c =
     let a = c .before .before .before .before .before .before .before .before .before .before .before .before .before .before .before .args in
     let q = c .before .before .before .before .before .before .before .before .before .before .before .before .before .segments .ensures in
     let h = c .before .before .before .before .before .before .before .before .before .before .before .before .curve-ends .ensures in
-    said-between (a .b) (a .knots .now) (a .y) (a .span) q h (c .before .before .before .before .before .before .before .before .before .before .if1 .left) (c .before .before .before .before .before .before .before .before .if2 .left) (c .before .before .before .before .before .before .if3 .left)
-    (sym (c .before .before .before .before .before .is-before .ensures) ∙ c .before .before .before .before .if4 .left) (sym (c .before .before .before .is-beyond .ensures) ∙ c .before .before .if5 .left)
+    said-between (a .b) (a .knots .now) (a .y) (a .span) q h
+    (c .before .before .before .before .before .before .before .before .before .before .if1 .left)
+    (c .before .before .before .before .before .before .before .before .if2 .left) (c .before .before .before .before .before .before .if3 .left)
+    (sym (c .before .before .before .before .before .is-before .ensures) ∙ c .before .before .before .before .if4 .left)
+    (sym (c .before .before .before .is-beyond .ensures) ∙ c .before .before .if5 .left)
     (c .before .searched .ensures) (c .found .ensures)
 
 pub said-spec : {M : Type 1} → statement M
