@@ -1,5 +1,6 @@
 //! Tells cargo where the archive of the target stands: in the folder SIMMERSTOAT_LIB, or in this repository in target/staticlib for x86-64
-//! Linux and in target/box for what bin/box builds. libvalve.a is asked for only with the feature `valve`.
+//! Linux and in target/box for what bin/box builds. libvalve.a is asked for only with the feature `valve`, libsimmerstoat_whole.a
+//! only with the feature `whole`.
 use std::path::PathBuf;
 use std::{env, process};
 
@@ -34,7 +35,8 @@ fn main() {
     };
     println!("cargo:rustc-link-search=native={}", folder.display());
     let valve = env::var_os("CARGO_FEATURE_VALVE").map(|_| "valve");
-    for name in ["simmerstoat"].into_iter().chain(valve) {
+    let whole = env::var_os("CARGO_FEATURE_WHOLE").map(|_| "simmerstoat_whole");
+    for name in ["simmerstoat"].into_iter().chain(valve).chain(whole) {
         let archive = folder.join(format!("lib{name}.a"));
         println!("cargo:rerun-if-changed={}", archive.display());
         if !archive.is_file() {

@@ -15,4 +15,5 @@ pub mod strict;
 pub mod table;
 pub mod tally;
 pub mod uneven;
+pub mod whole;
 pub mod wrapped;

@@ -46,8 +46,8 @@
 //!
 //! The archive of its target: x86-64 Linux, or one of those that `bin/box` builds; and no standard library. The feature `alloc`, on by
 //! default, adds [`convert::convert_spline`], which answers a `Vec`; [`convert::convert_spline_into`] needs none. The feature `valve` adds
-//! the module of that name, and asks for `libvalve.a` besides. The archive has no state and no heap, so every function may be called from
-//! any thread.
+//! the module of that name, and asks for `libvalve.a` besides; so does `whole` for `libsimmerstoat_whole.a`. The archives have no state
+//! and no heap, so every function may be called from any thread.
 #![no_std]
 
 #[cfg(feature = "alloc")]
@@ -69,6 +69,8 @@ pub mod strict;
 pub mod table;
 #[cfg(feature = "valve")]
 pub mod valve;
+#[cfg(feature = "whole")]
+pub mod whole;
 
 pub use answer::{Ground, Place, Refusal};
 pub(crate) use answer::{done, found};

@@ -58,7 +58,8 @@ twice : (w0 w1 w2 w3 v0 v1 v2 v3 : ℤ) → w0 ≡ v0 *ℤ pos 2 → w1 ≡ v1 *
 unfolding valueAt
 twice w0 w1 w2 w3 v0 v1 v2 v3 e0 e1 e2 e3 n j =
     alike
-    (plus (plus (plus (times (j * j * j) (moved w0 v0 e0)) (times (n * j * j) (moved w1 v1 e1))) (times (n * n * j) (moved w2 v2 e2))) (times (n * n * n) (moved w3 v3 e3)))
+    (plus (plus (plus (times (j * j * j) (moved w0 v0 e0)) (times (n * j * j) (moved w1 v1 e1))) (times (n * n * j) (moved w2 v2 e2)))
+    (times (n * n * n) (moved w3 v3 e3)))
     (times 2 (value-is v0 v1 v2 v3 n j))
     (omega arith)
   where

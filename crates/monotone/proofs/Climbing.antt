@@ -138,6 +138,7 @@ module _ (z : List ℤ) (s : ℕ) (h : suc s < length z) (o : getD z s (pos 0) �
       (cubicNeverFalls (wholeSum v (getD (wholeOf Hermite) 0 [])) (wholeSum v (getD (wholeOf Hermite) 1 [])) (wholeSum v (getD (wholeOf Hermite) 2 [])))
       (holds (hermite-starts (tableOf z) s))
       (subst (λ (t : Bool). T t)
-      (hermite-slopes v (getD z s (pos 0)) (getD z (suc s) (pos 0)) (a .size) (b .size) size (four-0 z s h) (four-1 z s h ∙ a .is) (four-2 z s h) (four-3 z s h ∙ b .is)
+      (hermite-slopes v (getD z s (pos 0)) (getD z (suc s) (pos 0)) (a .size) (b .size) size (four-0 z s h) (four-1 z s h ∙ a .is) (four-2 z s h)
+      (four-3 z s h ∙ b .is)
       step-parts)
       (limited-never-falls (a .size) (b .size) size (a .limit) (b .limit)))

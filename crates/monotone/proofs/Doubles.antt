@@ -42,17 +42,20 @@ use Rattle.monotone.specs.Table.{most, tableOf}
 use Rattle.whole.proofs.Differences.{alike}
 use Rattle.monotone.proofs.Sizes.{slope-within}
 use Rattle.monotone.proofs.Through.{four, four-0, four-1, four-2, four-3}
-use Rattle.monotone.proofs.Kept.{InOrder, knots-within, lengths-pass, segments-are, in-order-within, never-turns}
+use Rattle.turns_back.proofs.InOrder.{InOrder}
+use Rattle.monotone.proofs.Kept.{knots-within, lengths-pass, segments-are, in-order-within, never-turns}
 
 -- ---- twice the textbook cubic
 twofold : (l : List ℤ) (j : ℕ) → exactOf Hermite l j ≡ cubic (wholeOf Hermite) l j *ℤ pos 2
 unfolding cubic valueAt
 twofold l j =
     alike
-    (value-is (up (at l 0)) (down (at l 0)) (up (at l 1)) (down (at l 1)) (up (at l 2)) (down (at l 2)) (up (at l 3)) (down (at l 3)) l (itself (at l 0)) (itself (at l 1))
+    (value-is (up (at l 0)) (down (at l 0)) (up (at l 1)) (down (at l 1)) (up (at l 2)) (down (at l 2)) (up (at l 3)) (down (at l 3)) l (itself (at l 0))
+    (itself (at l 1))
     (itself (at l 2)) (itself (at l 3)) (twice Hermite) 256 j)
     (times 2
-    (value-is (up (at l 0)) (down (at l 0)) (up (at l 1)) (down (at l 1)) (up (at l 2)) (down (at l 2)) (up (at l 3)) (down (at l 3)) l (itself (at l 0)) (itself (at l 1))
+    (value-is (up (at l 0)) (down (at l 0)) (up (at l 1)) (down (at l 1)) (up (at l 2)) (down (at l 2)) (up (at l 3)) (down (at l 3)) l (itself (at l 0))
+    (itself (at l 1))
     (itself (at l 2)) (itself (at l 3)) (wholeOf Hermite) 256 j))
     (omega arith)
 
@@ -140,7 +143,8 @@ pub record Ordered (t : Bool) (r r′ : Evaluation) : Type 0 where
   pub told′ : r′ ≡ Value value′
   pub order : inOrder t value value′
 
-module _ (t : Bool) (z : List ℤ) (m : 2 ≤ length z) (f : length z ≤ 2048) (small : (i : ℕ) → i < length z → natAbs (getD z i (pos 0)) ≤ 2 ^ 19) (o : InOrder t z) where
+module _ (t : Bool) (z : List ℤ) (m : 2 ≤ length z) (f : length z ≤ 2048) (small : (i : ℕ) → i < length z → natAbs (getD z i (pos 0)) ≤ 2 ^ 19)
+    (o : InOrder t z) where
   abbrev ks : List Float
   ks = doublesOf (tableOf z)
 
@@ -218,8 +222,10 @@ module _ (t : Bool) (z : List ℤ) (s : ℕ) (h : suc s < length z) (small : (i 
       let y = getD z (suc s) (pos 0) in
       let b = slopeAt z (suc s) in
       alike
-      (value-is (up x) (down x) (up a) (down a) (up y) (down y) (up b) (down b) (segmentKnots z s) (itself x) (itself a) (itself y) (itself b) (wholeOf Hermite) 256 j)
-      (value-is (up x) (down x) (up a) (down a) (up y) (down y) (up b) (down b) (four z s h) (moved (four-0 z s h)) (moved (four-1 z s h)) (moved (four-2 z s h)) (moved (four-3 z s h))
+      (value-is (up x) (down x) (up a) (down a) (up y) (down y) (up b) (down b) (segmentKnots z s) (itself x) (itself a) (itself y) (itself b)
+      (wholeOf Hermite) 256 j)
+      (value-is (up x) (down x) (up a) (down a) (up y) (down y) (up b) (down b) (four z s h) (moved (four-0 z s h)) (moved (four-1 z s h))
+      (moved (four-2 z s h)) (moved (four-3 z s h))
       (wholeOf Hermite) 256 j)
       refl
     where
@@ -238,7 +244,8 @@ module _ (t : Bool) (z : List ℤ) (s : ℕ) (h : suc s < length z) (small : (i 
   segment-answered j l =
       subst (λ (v : ℤ). Answers (splineSegmentOf Hermite (placeOf j) (doublesOf (segmentKnots z s))) v)
       (twofold (segmentKnots z s) j ∙ ap (λ (v : ℤ). v *ℤ pos 2) (same-cubic j))
-      (segment-answers Hermite tt (placeOf j) (doublesOf (segmentKnots z s)) (segmentKnots z s) j refl (knots-met (segmentKnots z s) knots-few) (place-met j l) l)
+      (segment-answers Hermite tt (placeOf j) (doublesOf (segmentKnots z s)) (segmentKnots z s) j refl (knots-met (segmentKnots z s) knots-few)
+      (place-met j l) l)
 
   pub segment-doubles-in-order : (j j′ : ℕ) → j ≤ j′ → j′ ≤ 256
       → Ordered t (splineSegmentOf Hermite (placeOf j) (doublesOf (segmentKnots z s))) (splineSegmentOf Hermite (placeOf j′) (doublesOf (segmentKnots z s)))

@@ -1,40 +1,35 @@
 -- What the table's curve promises: between two rows it never goes against them; over rows in order it keeps their direction throughout. Assumes nothing.
 use mathlib.Core.Path.{_≡_, refl, sym, ap, _∙_, subst}
-use mathlib.Core.Bool.{Bool, true, false, cond}
-use mathlib.Core.List.{List, [], _∷_, _++_}
+use mathlib.Core.Bool.{Bool, true, false}
+use mathlib.Core.List.{List, _++_}
 use Prim.Native.Nat.{ℕ, zero, suc, _+_, _-_, _*_, _/_, _%_, _≤_, _<_}
 use native.Mathlib.Omega.{arith}
-use lib.IntN.{ℤ, pos, negℤ, natAbs, _*ℤ_}
-use lib.Dec.{T, leb}
-use lib.ListN.{length, drop, getD, List·getD-map}
-use lib.Seq.{getD-drop}
+use lib.IntN.{ℤ, pos, natAbs, _*ℤ_}
+use lib.ListN.{length, drop, getD}
 use lib.Signed.{_≤ℤ_}
 use lib.Ieee.Fits.{and-r}
-use borrow.Author.Tests.{le-ltb, le-leb, eq-eqb}
+use borrow.Author.Tests.{le-ltb, eq-eqb}
 use Rattle.error.specs.declared.Verdict.{Verdict}
 use Rattle.error.specs.declared.Verdict.the-variants.{Passed, Failed}
 use Rattle.error.specs.Refusals.{first}
 use Rattle.error.proofs.First.{never}
-use Rattle.basis.specs.declared.Basis.{Basis}
 use Rattle.basis.specs.declared.Basis.the-variants.{Hermite}
-use Rattle.basis.specs.Basis.{segmentsOf, wholeOf}
+use Rattle.basis.specs.Basis.{segmentsOf}
 use Rattle.checks.specs.Checks.{curveLength}
-use Rattle.spline_exact.specs.Cubic.{at}
-use Rattle.turns_back.specs.Curve.{cubicNeverFalls, coefficient, curveAt, startsNoLower, segmentNeverFalls, fallsFrom, firstFall}
+use Rattle.turns_back.specs.Curve.{cubicNeverFalls, coefficient, curveAt, startsNoLower, segmentNeverFalls}
 use Rattle.turns_back.specs.Call as turning
 use Rattle.whole.specs.Held.{turned, turnedAll, Small}
-use Rattle.turns_back.specs.Call.{turningUses, turningOf, turnsBackByOf}
+use Rattle.turns_back.specs.Call.{turningUses, turnsBackByOf}
 use Rattle.turns_back.specs.declared.Turning.the-variants.{Never}
-use Rattle.whole.proofs.Differences.{up, down, Is, itself, opposite, le, of-le}
 use Rattle.turns_back.proofs.Segment.{rises}
-use Rattle.turns_back.proofs.Seams.{value-is}
 use Rattle.turns_back.proofs.Everywhere.{NotAfter}
 use Rattle.whole.proofs.Held.{turned-long, same-all, small-all}
-use Rattle.turns_back.proofs.Verdicts.{passes, climbs, given}
+use Rattle.turns_back.proofs.Verdicts.{passes, climbs}
+use Rattle.turns_back.proofs.Answer as answer
 use Rattle.turns_back.proofs.Answer.{before, in-order-everywhere}
+use Rattle.turns_back.proofs.InOrder.{InOrder, back-order, turn-pair, none-turns}
 use Rattle.monotone.specs.Table.{pairs, most, tableOf, tableUses, made, left, madeOf, leftOf}
 use Rattle.monotone.specs.declared.Made.the-variants.{Wrote}
-use Rattle.whole.proofs.Differences.{alike}
 use Rattle.monotone.proofs.Sizes.{slope-within}
 use Rattle.monotone.proofs.Pairs.{table-long}
 use Rattle.monotone.proofs.Verdicts.{passed}
@@ -43,45 +38,9 @@ use Rattle.monotone.proofs.Mirror.{table-turned}
 use Rattle.monotone.proofs.Climbing as climbing
 
 -- ---- signs changed
-turn-at : (t : Bool) (z : List ℤ) (i : ℕ) → getD (turnedAll t z) i (pos 0) ≡ turned t (getD z i (pos 0))
-turn-at true z i = List·getD-map (turned true) z i (pos 0)
-turn-at false z i = List·getD-map (turned false) z i (pos 0)
-
-turn-order : (t : Bool) (x y : ℤ) → before t x y → turned t x ≤ℤ turned t y
-turn-order true x y h = h
-turn-order false x y h = let l = of-le (itself y) (itself x) h in le (opposite x) (opposite y) (omega (arith, l))
-
-back-order : (t : Bool) (x y : ℤ) → turned t x ≤ℤ turned t y → before t x y
-back-order true x y h = h
-back-order false x y h = let l = of-le (opposite x) (opposite y) h in le (itself y) (itself x) (omega (arith, l))
-
-turn-pair : (t : Bool) (z : List ℤ) (i k : ℕ) → before t (getD z i (pos 0)) (getD z k (pos 0)) → getD (turnedAll t z) i (pos 0) ≤ℤ getD (turnedAll t z) k (pos 0)
-turn-pair t z i k h = rw (turn-at t z i, turn-at t z k) (turn-order t (getD z i (pos 0)) (getD z k (pos 0)) h)
-
-module _ (z : List ℤ) (s n j : ℕ) where
-  abbrev k : ℕ → ℤ
-  k i = getD z (s * 2 + i) (pos 0)
-
-  plain : (i : ℕ) → Is (at (drop (s * 2) z) i) (up (k i)) (down (k i))
-  plain i = subst (λ (v : ℤ). Is v (up (k i)) (down (k i))) (sym (getD-drop (s * 2) z i (pos 0))) (itself (k i))
-
-  other-way : (i : ℕ) → Is (at (drop (s * 2) (turnedAll false z)) i) (down (k i)) (up (k i))
-  other-way i =
-      subst (λ (v : ℤ). Is v (down (k i)) (up (k i))) (sym (getD-drop (s * 2) (turnedAll false z) i (pos 0) ∙ turn-at false z (s * 2 + i))) (opposite (k i))
-
-  curve-other-way : curveAt Hermite (turnedAll false z) s n j ≡ negℤ (curveAt Hermite z s n j)
-  unfolding curveAt coefficient
-  curve-other-way =
-      flip
-      (value-is _ _ _ _ _ _ _ _ (drop (s * 2) (turnedAll false z)) (other-way 0) (other-way 1) (other-way 2) (other-way 3) (wholeOf Hermite) n j)
-      (value-is _ _ _ _ _ _ _ _ (drop (s * 2) z) (plain 0) (plain 1) (plain 2) (plain 3) (wholeOf Hermite) n j)
-    where
-      flip : {x y : ℤ} {p m : ℕ} → Is x m p → Is y p m → x ≡ negℤ y
-      flip {x} {y} {p} {m} u v = let a = v .is in let o = opposite y .is in alike u (opposite y) (omega (arith, a, o))
-
 curve-turned : (t : Bool) (z : List ℤ) (s n j : ℕ) → curveAt Hermite (turnedAll t z) s n j ≡ turned t (curveAt Hermite z s n j)
 curve-turned true z s n j = ap (λ (l : List ℤ). curveAt Hermite l s n j) (same-all z)
-curve-turned false z s n j = curve-other-way z s n j
+curve-turned false z s n j = answer.curve-turned Hermite z s n j
 
 -- ---- between two rows, whatever the others do
 rises-within : (z : List ℤ) (s : ℕ) → suc s < length z → getD z s (pos 0) ≤ℤ getD z (suc s) (pos 0) → (n i j : ℕ) → i ≤ j → j ≤ n
@@ -112,24 +71,6 @@ stays-between t z s h o n j l = (
 )
 
 -- ---- the whole curve over rows in order
-pub record InOrder (t : Bool) (z : List ℤ) : Type 0 where
-  pub each : (i : ℕ) → suc i < length z → before t (getD z i (pos 0)) (getD z (suc i) (pos 0))
-
-all-pass : (b : Basis) (z : List ℤ) (k s : ℕ) → ((i : ℕ) → i < k → T (segmentNeverFalls b z (s + i))) → fallsFrom b z s k ≡ s + k
-unfolding fallsFrom
-all-pass b z zero s f = omega arith
-all-pass b z (suc k) s f = go (segmentNeverFalls b z s) (subst (λ (m : ℕ). T (segmentNeverFalls b z m)) (none s) (f 0 (omega arith))) (all-pass b z k (suc s) (λ i l. subst (λ (m : ℕ). T (segmentNeverFalls b z m)) (next s i) (f (suc i) (omega arith))))
-  where
-    none : (s : ℕ) → s + 0 ≡ s
-    none s = omega arith
-
-    next : (s i : ℕ) → s + suc i ≡ suc s + i
-    next s i = omega arith
-
-    go : (t : Bool) → T t → fallsFrom b z (suc s) k ≡ suc s + k → cond t (fallsFrom b z (suc s) k) s ≡ s + suc k
-    go true p e = omega (arith, e)
-    go false p e = absurd p
-
 -- every knot of the table is at most twice the largest row
 pub knots-within : (z : List ℤ) (k : ℕ) → ((i : ℕ) → i < length z → natAbs (getD z i (pos 0)) ≤ k) → 2 ≤ length z
     → (c i : ℕ) → i + c ≤ length z → (n : ℕ) → n < length (pairs z i c) → natAbs (getD (pairs z i c) n (pos 0)) ≤ 2 * k
@@ -156,30 +97,17 @@ segments-are z m = ap (λ (n : ℕ). segmentsOf Hermite n) (table-long z) ∙ ha
 module _ (z : List ℤ) (m : 2 ≤ length z) (f : length z ≤ 2048) (s : Small most z) where
   table-passes : Passed ≡ first (turningUses Hermite (tableOf z))
   table-passes =
-      passes Hermite (tableOf z) {l = Passed} (sym (lengths-pass z m f)) refl (small-all turning.most (tableOf z) (knots-within z most (s .each) m (length z) 0 (omega arith)))
+      passes Hermite (tableOf z) {l = Passed} (sym (lengths-pass z m f)) refl
+      (small-all turning.most (tableOf z) (knots-within z most (s .each) m (length z) 0 (omega arith)))
 
   segments-of : segmentsOf Hermite (length (tableOf z)) ≡ length z - 1
   segments-of = segments-are z m
 
   pub never-turns : (t : Bool) → InOrder t z → turnsBackByOf Hermite t (tableOf z) ≡ Never
-  unfolding firstFall turnsBackByOf
   never-turns t o =
-      let k = segmentsOf Hermite (length (tableOf z)) in
-      sym (given (turningOf Hermite t (tableOf z)) table-passes refl (climbs Hermite t (tableOf z) k (sym none) (omega arith)))
-    where
-      each : (i : ℕ) → i < segmentsOf Hermite (length (tableOf z)) → T (segmentNeverFalls Hermite (turnedAll t (tableOf z)) (0 + i))
-      each i l =
-          rw (table-turned t z) (subst (λ (n : ℕ). T (segmentNeverFalls Hermite (tableOf (turnedAll t z)) n)) (same i)
-          (climbing.climbs (turnedAll t z) i (omega (arith, turned-long t z, segments-of)) (turn-pair t z i (suc i) (o .each i (omega (arith, segments-of))))))
-        where
-          same : (i : ℕ) → i ≡ 0 + i
-          same i = omega arith
-
-      none : firstFall Hermite (turnedAll t (tableOf z)) ≡ segmentsOf Hermite (length (tableOf z))
-      none = go (length (turnedAll t (tableOf z))) (turned-long t (tableOf z))
-        where
-          go : (n : ℕ) → n ≡ length (tableOf z) → fallsFrom Hermite (turnedAll t (tableOf z)) 0 (segmentsOf Hermite n) ≡ segmentsOf Hermite (length (tableOf z))
-          go n e = ap (λ (n : ℕ). fallsFrom Hermite (turnedAll t (tableOf z)) 0 (segmentsOf Hermite n)) e ∙ all-pass Hermite (turnedAll t (tableOf z)) (segmentsOf Hermite (length (tableOf z))) 0 each ∙ omega arith
+      none-turns Hermite t (tableOf z) (sym table-passes)
+      (λ i l. rw (table-turned t z) (climbing.climbs (turnedAll t z) i (omega (arith, turned-long t z, segments-of, l))
+      (turn-pair t z i (suc i) (o .each i (omega (arith, segments-of, l))))))
 
 -- ---- of a call that wrote
 told : (v : Verdict) (n k : ℕ) → made v n ≡ Wrote k → v ≡ Passed
@@ -190,7 +118,8 @@ pub wrote-table : (z old : List ℤ) (k : ℕ) → madeOf z (length old) ≡ Wro
 unfolding madeOf leftOf
 wrote-table z old k e = (
   count (first (tableUses z (length old))) (2 * length z) e,
-  ap (λ (v : Verdict). left v (tableOf z) old) (told (first (tableUses z (length old))) (2 * length z) k e) ∙ ap (λ (n : ℕ). tableOf z ++ drop n old) (table-long z),
+  ap (λ (v : Verdict). left v (tableOf z) old) (told (first (tableUses z (length old))) (2 * length z) k e)
+      ∙ ap (λ (n : ℕ). tableOf z ++ drop n old) (table-long z),
 )
   where
     count : (v : Verdict) (n : ℕ) → made v n ≡ Wrote k → k ≡ n

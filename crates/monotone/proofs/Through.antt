@@ -82,7 +82,8 @@ module _ (z : List ℤ) (s : ℕ) (h : suc s < length z) where
   unfolding curveAt coefficient
   starts-at n =
       alike
-      (value-is (up x) (down x) (up (slopeAt z s)) (down (slopeAt z s)) (up y) (down y) (up (slopeAt z (suc s))) (down (slopeAt z (suc s))) four (moved four-0) (moved four-1) (moved four-2) (moved four-3)
+      (value-is (up x) (down x) (up (slopeAt z s)) (down (slopeAt z s)) (up y) (down y) (up (slopeAt z (suc s))) (down (slopeAt z (suc s))) four (moved four-0)
+      (moved four-1) (moved four-2) (moved four-3)
       (wholeOf Hermite) n 0)
       (times (n * n * n) (itself x))
       (omega arith)
@@ -91,7 +92,8 @@ module _ (z : List ℤ) (s : ℕ) (h : suc s < length z) where
   unfolding curveAt coefficient
   ends-at n =
       alike
-      (value-is (up x) (down x) (up (slopeAt z s)) (down (slopeAt z s)) (up y) (down y) (up (slopeAt z (suc s))) (down (slopeAt z (suc s))) four (moved four-0) (moved four-1) (moved four-2) (moved four-3)
+      (value-is (up x) (down x) (up (slopeAt z s)) (down (slopeAt z s)) (up y) (down y) (up (slopeAt z (suc s))) (down (slopeAt z (suc s))) four (moved four-0)
+      (moved four-1) (moved four-2) (moved four-3)
       (wholeOf Hermite) n n)
       (times (n * n * n) (itself y))
       (omega arith)

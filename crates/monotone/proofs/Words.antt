@@ -38,7 +38,10 @@ between-size (negsuc a) (negsuc b) h =
 -- and never against them
 pub between-sign : (a b : ℤ) → (pos 0 ≤ℤ a → pos 0 ≤ℤ between a b) × (a ≤ℤ pos 0 → between a b ≤ℤ pos 0)
 unfolding between
-between-sign (pos a) (pos b) = (λ h. high (limited a b), λ h. let l = of-le (itself (pos a)) (itself (pos 0)) h in let f = limited-first a b in low (limited a b) (omega (arith, l, f)))
+between-sign (pos a) (pos b) = (
+  λ h. high (limited a b),
+  λ h. let l = of-le (itself (pos a)) (itself (pos 0)) h in let f = limited-first a b in low (limited a b) (omega (arith, l, f)),
+)
   where
     high : (n : ℕ) → pos 0 ≤ℤ pos n
     high n = le (itself (pos 0)) (itself (pos n)) (omega arith)

@@ -1,9 +1,9 @@
--- What an answer says of the curve: one that keeps its direction is never on the wrong side at a later place; one that turns in a segment is, at some place in it.
--- Assumes nothing.
+-- What an answer says of the curve: one that keeps its direction is never on the wrong side at a later place; one that turns in a segment is,
+-- at some place in it. Assumes nothing.
 use mathlib.Core.Path.{_≡_, refl, sym, ap, _∙_, subst}
 use mathlib.Core.Logic.{inl, inr, _⊎_, ⊎-elim}
 use mathlib.Core.Bool.{Bool, true, false, cond, _&&_}
-use mathlib.Core.List.{List, [], _∷_}
+use mathlib.Core.List.{List}
 use Prim.Native.Nat.{ℕ, zero, suc, _+_, _-_, _*_, _≤_, _<_}
 use native.Mathlib.Nat.{mul-lt-mul-of-pos-right, eq-or-lt-of-le, mul-pos}
 use native.Mathlib.Omega.{arith}
@@ -20,7 +20,7 @@ use Rattle.error.proofs.First.{never}
 use Rattle.basis.specs.declared.Basis.{Basis}
 use Rattle.basis.specs.Basis.{stepOf, segmentsOf, wholeOf}
 use Rattle.turns_back.specs.Curve.{valueAt, cubicNeverFalls, coefficient, curveAt, startsNoLower, segmentNeverFalls, fallsFrom, firstFall}
-use Rattle.whole.specs.Held.{heldAll, turnedAll}
+use Rattle.whole.specs.Held.{turnedAll}
 use Rattle.turns_back.specs.Call.{turningUses, turning, answered, turningOf, turnsBackByOf}
 use Rattle.turns_back.specs.declared.Turning.the-variants.{Never, At}
 use Rattle.whole.proofs.Differences.{up, down, Is, itself, opposite, equal, times, le, of-le, lt, not-le, of-lt}
@@ -29,25 +29,22 @@ use Rattle.turns_back.proofs.Fall.{Down, falls}
 use Rattle.turns_back.proofs.Seams.{value-is}
 use Rattle.whole.proofs.Held.{turned-long, same-all}
 use Rattle.spline_exact.specs.Cubic.{at, cubic}
-use mir.Syntax.{w64}
-use mir.Val.{SFits}
-use mir.Facts.{toZ-ofZ}
 
--- ---- the first segment that falls
+-- ---- the first segment that falls: those before it do not
 module _ (b : Basis) (z : List ℤ) where
-  all-rise : (k s : ℕ) → s + k ≤ fallsFrom b z s k → (i : ℕ) → i < k → T (segmentNeverFalls b z (s + i))
+  all-before : (k s i : ℕ) → s + i < fallsFrom b z s k → T (segmentNeverFalls b z (s + i))
   unfolding fallsFrom
-  all-rise zero s h i l = absurd (omega arith)
-  all-rise (suc k) s h i l = go (segmentNeverFalls b z s) refl h (all-rise k (suc s))
+  all-before zero s i h = absurd (omega arith)
+  all-before (suc k) s i h = go (segmentNeverFalls b z s) refl h (all-before k (suc s))
     where
-      go : (t : Bool) → segmentNeverFalls b z s ≡ t → s + suc k ≤ cond t (fallsFrom b z (suc s) k) s
-          → (suc s + k ≤ fallsFrom b z (suc s) k → (i : ℕ) → i < k → T (segmentNeverFalls b z (suc s + i)))
+      go : (t : Bool) → segmentNeverFalls b z s ≡ t → s + i < cond t (fallsFrom b z (suc s) k) s
+          → ((i : ℕ) → suc s + i < fallsFrom b z (suc s) k → T (segmentNeverFalls b z (suc s + i)))
           → T (segmentNeverFalls b z (s + i))
       go true e h f =
           ⊎-elim
           (λ (p : 1 ≡ suc i). let q : s ≡ s + i = omega arith in subst (λ (v : ℕ). T (segmentNeverFalls b z v)) q (subst (λ (t : Bool). T t) (sym e) tt))
           (λ (p : 1 < suc i). let q : suc s + (i - 1) ≡ s + i = omega arith in
-          subst (λ (v : ℕ). T (segmentNeverFalls b z v)) q (f (omega arith) (i - 1) (omega arith)))
+          subst (λ (v : ℕ). T (segmentNeverFalls b z v)) q (f (i - 1) (omega arith)))
           (eq-or-lt-of-le (one-le i))
         where
           one-le : (i : ℕ) → 1 ≤ suc i
@@ -60,7 +57,8 @@ module _ (b : Basis) (z : List ℤ) where
   one-falls (suc k) s h = go (segmentNeverFalls b z s) refl h (one-falls k (suc s))
     where
       go : (t : Bool) → segmentNeverFalls b z s ≡ t → cond t (fallsFrom b z (suc s) k) s < s + suc k
-          → (fallsFrom b z (suc s) k < suc s + k → segmentNeverFalls b z (fallsFrom b z (suc s) k) ≡ false) → segmentNeverFalls b z (cond t (fallsFrom b z (suc s) k) s) ≡ false
+          → (fallsFrom b z (suc s) k < suc s + k → segmentNeverFalls b z (fallsFrom b z (suc s) k) ≡ false)
+          → segmentNeverFalls b z (cond t (fallsFrom b z (suc s) k) s) ≡ false
       go true e h f = f (omega arith)
       go false e h f = e
 
@@ -90,13 +88,15 @@ module _ (b : Basis) (z : List ℤ) (s n j : ℕ) where
   turned-place i = getD-drop (s * stepOf b) (turnedAll false z) i (pos 0) ∙ List·getD-map negℤ z (s * stepOf b + i) (pos 0)
 
   plain : (i : ℕ) → Is (at (drop (s * stepOf b) z) i) (up (getD z (s * stepOf b + i) (pos 0))) (down (getD z (s * stepOf b + i) (pos 0)))
-  plain i = subst (λ (v : ℤ). Is v (up (getD z (s * stepOf b + i) (pos 0))) (down (getD z (s * stepOf b + i) (pos 0)))) (sym (at-place i)) (itself (getD z (s * stepOf b + i) (pos 0)))
+  plain i = subst (λ (v : ℤ). Is v (up (getD z (s * stepOf b + i) (pos 0))) (down (getD z (s * stepOf b + i) (pos 0)))) (sym (at-place i))
+      (itself (getD z (s * stepOf b + i) (pos 0)))
 
   turned-is : (i : ℕ) → Is (at (drop (s * stepOf b) (turnedAll false z)) i) (down (getD z (s * stepOf b + i) (pos 0))) (up (getD z (s * stepOf b + i) (pos 0)))
   turned-is i =
-      subst (λ (v : ℤ). Is v (down (getD z (s * stepOf b + i) (pos 0))) (up (getD z (s * stepOf b + i) (pos 0)))) (sym (turned-place i)) (opposite (getD z (s * stepOf b + i) (pos 0)))
+      subst (λ (v : ℤ). Is v (down (getD z (s * stepOf b + i) (pos 0))) (up (getD z (s * stepOf b + i) (pos 0)))) (sym (turned-place i))
+      (opposite (getD z (s * stepOf b + i) (pos 0)))
 
-  curve-turned : curveAt b (turnedAll false z) s n j ≡ negℤ (curveAt b z s n j)
+  pub curve-turned : curveAt b (turnedAll false z) s n j ≡ negℤ (curveAt b z s n j)
   unfolding curveAt coefficient
   curve-turned =
       equal
@@ -143,25 +143,34 @@ against false b z s n j s′ n′ j′ u v h =
     (subst (λ (y : ℤ). (negℤ (curveAt b z s′ n′ j′) *ℤ pos v) <ℤ (y *ℤ pos u)) (curve-turned b z s n j)
     (subst (λ (y : ℤ). (y *ℤ pos v) <ℤ (curveAt b (turnedAll false z) s n j *ℤ pos u)) (curve-turned b z s′ n′ j′) h))
 
+-- ---- segments up to the first that falls
+up-to : (b : Basis) (y : List ℤ) (i : ℕ) → i < firstFall b y → T (segmentNeverFalls b y i)
+unfolding firstFall
+up-to b y i h =
+    let e : 0 + i ≡ i = omega arith in
+    subst (λ (v : ℕ). T (segmentNeverFalls b y v)) e (all-before b y (segmentsOf b (length y)) 0 i (omega (arith, h)))
+
 -- ---- it keeps its direction: of two places the later is never on the wrong side of the earlier
-pub in-order-everywhere : (b : Basis) (t : Bool) (z : List ℤ) → turnsBackByOf b t z ≡ Never → (s n j s′ n′ j′ : ℕ) → s′ < segmentsOf b (length z) → NotAfter s n j s′ n′ j′
+pub in-order-everywhere : (b : Basis) (t : Bool) (z : List ℤ) → turnsBackByOf b t z ≡ Never → (s n j s′ n′ j′ : ℕ) → s′ < segmentsOf b (length z)
+    → NotAfter s n j s′ n′ j′
     → before t (curveAt b z s n j *ℤ pos (n′ * n′ * n′)) (curveAt b z s′ n′ j′ *ℤ pos (n * n * n))
 unfolding turnsBackByOf turningOf firstFall
 in-order-everywhere b t z e s n j s′ n′ j′ l p =
     let k = segmentsOf b (length z) in
     let h = told (first (turningUses b z)) (firstFall b (turnedAll t z)) k e in
-    let q : k ≡ segmentsOf b (length (turnedAll t z)) = ap (λ (m : ℕ). segmentsOf b m) (sym (turned-long t z)) in
     by-direction t b z s n j s′ n′ j′ (n′ * n′ * n′) (n * n * n)
-    (never-lower b (turnedAll t z) k (each b (turnedAll t z) k q h) s n j s′ n′ j′ l p)
-  where
-    each : (b : Basis) (y : List ℤ) (k : ℕ) → k ≡ segmentsOf b (length y) → k ≤ firstFall b y → (s : ℕ) → s < k → T (segmentNeverFalls b y s)
-    each b y k q h s l =
-        let h′ : 0 + k ≤ fallsFrom b y 0 k = subst (λ (m : ℕ). 0 + k ≤ fallsFrom b y 0 m) (sym q) (omega (arith, h)) in
-        let r = all-rise b y k 0 h′ s l in
-        let e : 0 + s ≡ s = omega arith in
-        subst (λ (v : ℕ). T (segmentNeverFalls b y v)) e r
+    (never-lower b (turnedAll t z) k (λ i m. up-to b (turnedAll t z) i (omega (arith, h, m))) s n j s′ n′ j′ l p)
 
--- ---- it turns in segment r: a later place, in r, is on the wrong side of an earlier one
+-- ---- it turns in segment r: in the segments before it, it does not
+pub in-order-before : (b : Basis) (t : Bool) (z : List ℤ) (r : ℕ) → turnsBackByOf b t z ≡ At r → (s n j s′ n′ j′ : ℕ) → s′ < r → NotAfter s n j s′ n′ j′
+    → before t (curveAt b z s n j *ℤ pos (n′ * n′ * n′)) (curveAt b z s′ n′ j′ *ℤ pos (n * n * n))
+unfolding turnsBackByOf turningOf
+in-order-before b t z r e s n j s′ n′ j′ l p =
+    let h = told-down (first (turningUses b z)) (firstFall b (turnedAll t z)) (segmentsOf b (length z)) r e in
+    by-direction t b z s n j s′ n′ j′ (n′ * n′ * n′) (n * n * n)
+    (never-lower b (turnedAll t z) r (λ i m. up-to b (turnedAll t z) i (omega (arith, h, m))) s n j s′ n′ j′ l p)
+
+-- and a later place, in r, is on the wrong side of an earlier one
 pub record Against (b : Basis) (t : Bool) (z : List ℤ) (r : ℕ) : Type 0 where
   pub s : ℕ
   pub n : ℕ

@@ -57,7 +57,8 @@ module _ (b : Basis) (z : List ℤ) where
   unfolding fourAt endOf curveAt coefficient
   last-is m e = ap (λ (n : ℕ). fourAt b (drop n z) 1 1) e
 
-  pub starts-so : (s k0 k1 k2 k3 : ℕ) → FourFrom true z 0 k0 k1 k2 k3 → subℕ s 6000000000000 ≡ fourAt b (four k0 k1 k2 k3) 1 0 → subℕ s 6000000000000 ≡ startOf b z
+  pub starts-so : (s k0 k1 k2 k3 : ℕ) → FourFrom true z 0 k0 k1 k2 k3 → subℕ s 6000000000000 ≡ fourAt b (four k0 k1 k2 k3) 1 0
+      → subℕ s 6000000000000 ≡ startOf b z
   starts-so s k0 k1 k2 k3 f e = e ∙ from-four b z 0 k0 k1 k2 k3 1 0 f ∙ first-is 0 refl
 
   pub ends-so : (e m k0 k1 k2 k3 : ℕ) → m ≡ (segmentsOf b (length z) - 1) * stepOf b → FourFrom true z m k0 k1 k2 k3
@@ -84,7 +85,8 @@ module _ (b : Basis) (z : List ℤ) (s e : ℕ) (p : subℕ s 6000000000000 ≡ 
 
   pub downwards : {t : Turning} → e < s → t ≡ turningOf b false z → t ≡ byEnds (startOf b z) (endOf b z) b z
   downwards h r =
-      r ∙ sym (ap (λ (c : Bool). cond c (turningOf b true z) (cond (ltZ (endOf b z) (startOf b z)) (turningOf b false z) Flat)) (not-lower s e p q (omega (arith, h)))
+      r ∙ sym (ap (λ (c : Bool). cond c (turningOf b true z) (cond (ltZ (endOf b z) (startOf b z)) (turningOf b false z) Flat))
+      (not-lower s e p q (omega (arith, h)))
       ∙ ap (λ (c : Bool). cond c (turningOf b false z) Flat) (lower e s q p h))
 
   pub level : e ≤ s → s ≤ e → Flat ≡ byEnds (startOf b z) (endOf b z) b z

@@ -61,7 +61,8 @@ across x y y′ z s t h k l =
     (mul-le-mul-right (s * t) (of-le (itself y) (itself y′) k))
     (mul-le-mul-right s (of-le (times t (itself y′)) (times 1 (itself z)) l)))
   where
-    sum : (a b c d c′ d′ e f : ℕ) → (a * 1 + d * s) * t ≤ (c * s + b * 1) * t → (c + d′) * (s * t) ≤ (c′ + d) * (s * t) → (c′ * t + f * 1) * s ≤ (e * 1 + d′ * t) * s
+    sum : (a b c d c′ d′ e f : ℕ) → (a * 1 + d * s) * t ≤ (c * s + b * 1) * t → (c + d′) * (s * t) ≤ (c′ + d) * (s * t)
+        → (c′ * t + f * 1) * s ≤ (e * 1 + d′ * t) * s
         → a * t + f * s ≤ e * s + b * t
     sum a b c d c′ d′ e f h k l = omega arith
 
@@ -79,7 +80,8 @@ module _ (b : Basis) (z : List ℤ) (k : ℕ) (each : (s : ℕ) → s < k → T 
   seam : (s : ℕ) → suc s < k → curveAt b z s 1 1 ≤ℤ curveAt b z (suc s) 1 0
   unfolding segmentNeverFalls startsNoLower
   seam s h =
-      leZ-yes (and-l (startsNoLower b z (suc s)) (cubicNeverFalls (coefficient b z (suc s) 0) (coefficient b z (suc s) 1) (coefficient b z (suc s) 2)) (each (suc s) h))
+      leZ-yes (and-l (startsNoLower b z (suc s)) (cubicNeverFalls (coefficient b z (suc s) 0) (coefficient b z (suc s) 1) (coefficient b z (suc s) 2))
+      (each (suc s) h))
 
   one : (s : ℕ) → s < k → (n j n′ j′ : ℕ) → j′ ≤ n′ → j * n′ ≤ j′ * n
       → (curveAt b z s n j *ℤ pos (n′ * n′ * n′)) ≤ℤ (curveAt b z s n′ j′ *ℤ pos (n * n * n))

@@ -8,4 +8,6 @@ pub mod Verdicts
 pub mod Ends
 pub mod Fall
 pub mod Answer
+pub mod Own
+pub mod InOrder
 pub mod Sorted

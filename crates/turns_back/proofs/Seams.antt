@@ -45,10 +45,12 @@ of-rows f m n j = f (getD m 0 []) * (j * j * j) + f (getD m 1 []) * (n * j * j) 
 
 module _ (p0 n0 p1 n1 p2 n2 p3 n3 : ℕ) where
   abbrev pub added : List ℤ → ℕ
-  added r = p0 * up (at r 0) + n0 * down (at r 0) + (p1 * up (at r 1) + n1 * down (at r 1)) + (p2 * up (at r 2) + n2 * down (at r 2)) + (p3 * up (at r 3) + n3 * down (at r 3))
+  added r = p0 * up (at r 0) + n0 * down (at r 0) + (p1 * up (at r 1) + n1 * down (at r 1)) + (p2 * up (at r 2) + n2 * down (at r 2)) +
+      (p3 * up (at r 3) + n3 * down (at r 3))
 
   abbrev pub taken : List ℤ → ℕ
-  taken r = n0 * up (at r 0) + p0 * down (at r 0) + (n1 * up (at r 1) + p1 * down (at r 1)) + (n2 * up (at r 2) + p2 * down (at r 2)) + (n3 * up (at r 3) + p3 * down (at r 3))
+  taken r = n0 * up (at r 0) + p0 * down (at r 0) + (n1 * up (at r 1) + p1 * down (at r 1)) + (n2 * up (at r 2) + p2 * down (at r 2)) +
+      (n3 * up (at r 3) + p3 * down (at r 3))
 
   module _ (z : List ℤ) (u0 : Is (at z 0) p0 n0) (u1 : Is (at z 1) p1 n1) (u2 : Is (at z 2) p2 n2) (u3 : Is (at z 3) p3 n3) where
     pub row-is : (r : List ℤ) → Is (wholeSum z r) (added r) (taken r)
@@ -56,7 +58,8 @@ module _ (p0 n0 p1 n1 p2 n2 p3 n3 : ℕ) where
     row-is r = plus (plus (plus (swapped (at r 0) u0) (swapped (at r 1) u1)) (swapped (at r 2) u2)) (swapped (at r 3) u3)
 
     pub value-is : (m : List (List ℤ)) (n j : ℕ)
-        → Is (valueAt (wholeSum z (getD m 0 [])) (wholeSum z (getD m 1 [])) (wholeSum z (getD m 2 [])) (wholeSum z (getD m 3 [])) n j) (of-rows added m n j) (of-rows taken m n j)
+        → Is (valueAt (wholeSum z (getD m 0 [])) (wholeSum z (getD m 1 [])) (wholeSum z (getD m 2 [])) (wholeSum z (getD m 3 [])) n j) (of-rows added m n j)
+        (of-rows taken m n j)
     unfolding valueAt
     value-is m n j =
         plus (plus (plus (times (j * j * j) (row-is (getD m 0 []))) (times (n * j * j) (row-is (getD m 1 [])))) (times (n * n * j) (row-is (getD m 2 []))))
@@ -90,8 +93,10 @@ unfolding startsNoLower curveAt coefficient
 bspline-starts z zero = refl
 bspline-starts z (suc s) =
     seam-of Bspline z s _ _ _ _
-    (value-is _ _ _ _ _ _ _ _ (drop (s * 1) z) (here-is Bspline z s 0) (here-is Bspline z s 1) (here-is Bspline z s 2) (here-is Bspline z s 3) (wholeOf Bspline) 1 1)
-    (value-is _ _ _ _ _ _ _ _ (drop (suc s * 1) z) (next-is Bspline z s 0) (next-is Bspline z s 1) (next-is Bspline z s 2) (next-is Bspline z s 3) (wholeOf Bspline) 1 0)
+    (value-is _ _ _ _ _ _ _ _ (drop (s * 1) z) (here-is Bspline z s 0) (here-is Bspline z s 1) (here-is Bspline z s 2) (here-is Bspline z s 3)
+    (wholeOf Bspline) 1 1)
+    (value-is _ _ _ _ _ _ _ _ (drop (suc s * 1) z) (next-is Bspline z s 0) (next-is Bspline z s 1) (next-is Bspline z s 2) (next-is Bspline z s 3)
+    (wholeOf Bspline) 1 0)
     (omega arith)
 
 pub bezier-starts : (z : List ℤ) (s : ℕ) → true ≡ startsNoLower Bezier z s
@@ -100,7 +105,8 @@ bezier-starts z zero = refl
 bezier-starts z (suc s) =
     seam-of Bezier z s _ _ _ _
     (value-is _ _ _ _ _ _ _ _ (drop (s * 3) z) (here-is Bezier z s 0) (here-is Bezier z s 1) (here-is Bezier z s 2) (here-is Bezier z s 3) (wholeOf Bezier) 1 1)
-    (value-is _ _ _ _ _ _ _ _ (drop (suc s * 3) z) (next-is Bezier z s 0) (next-is Bezier z s 1) (next-is Bezier z s 2) (next-is Bezier z s 3) (wholeOf Bezier) 1 0)
+    (value-is _ _ _ _ _ _ _ _ (drop (suc s * 3) z) (next-is Bezier z s 0) (next-is Bezier z s 1) (next-is Bezier z s 2) (next-is Bezier z s 3)
+    (wholeOf Bezier) 1 0)
     (omega arith)
 
 pub catmull-rom-starts : (z : List ℤ) (s : ℕ) → true ≡ startsNoLower CatmullRom z s
@@ -108,8 +114,10 @@ unfolding startsNoLower curveAt coefficient
 catmull-rom-starts z zero = refl
 catmull-rom-starts z (suc s) =
     seam-of CatmullRom z s _ _ _ _
-    (value-is _ _ _ _ _ _ _ _ (drop (s * 1) z) (here-is CatmullRom z s 0) (here-is CatmullRom z s 1) (here-is CatmullRom z s 2) (here-is CatmullRom z s 3) (wholeOf CatmullRom) 1 1)
-    (value-is _ _ _ _ _ _ _ _ (drop (suc s * 1) z) (next-is CatmullRom z s 0) (next-is CatmullRom z s 1) (next-is CatmullRom z s 2) (next-is CatmullRom z s 3) (wholeOf CatmullRom) 1 0)
+    (value-is _ _ _ _ _ _ _ _ (drop (s * 1) z) (here-is CatmullRom z s 0) (here-is CatmullRom z s 1) (here-is CatmullRom z s 2) (here-is CatmullRom z s 3)
+    (wholeOf CatmullRom) 1 1)
+    (value-is _ _ _ _ _ _ _ _ (drop (suc s * 1) z) (next-is CatmullRom z s 0) (next-is CatmullRom z s 1) (next-is CatmullRom z s 2) (next-is CatmullRom z s 3)
+    (wholeOf CatmullRom) 1 0)
     (omega arith)
 
 pub hermite-starts : (z : List ℤ) (s : ℕ) → true ≡ startsNoLower Hermite z s
@@ -117,8 +125,10 @@ unfolding startsNoLower curveAt coefficient
 hermite-starts z zero = refl
 hermite-starts z (suc s) =
     seam-of Hermite z s _ _ _ _
-    (value-is _ _ _ _ _ _ _ _ (drop (s * 2) z) (here-is Hermite z s 0) (here-is Hermite z s 1) (here-is Hermite z s 2) (here-is Hermite z s 3) (wholeOf Hermite) 1 1)
-    (value-is _ _ _ _ _ _ _ _ (drop (suc s * 2) z) (next-is Hermite z s 0) (next-is Hermite z s 1) (next-is Hermite z s 2) (next-is Hermite z s 3) (wholeOf Hermite) 1 0)
+    (value-is _ _ _ _ _ _ _ _ (drop (s * 2) z) (here-is Hermite z s 0) (here-is Hermite z s 1) (here-is Hermite z s 2) (here-is Hermite z s 3)
+    (wholeOf Hermite) 1 1)
+    (value-is _ _ _ _ _ _ _ _ (drop (suc s * 2) z) (next-is Hermite z s 0) (next-is Hermite z s 1) (next-is Hermite z s 2) (next-is Hermite z s 3)
+    (wholeOf Hermite) 1 0)
     (omega arith)
 
 pub linear-starts : (z : List ℤ) (s : ℕ) → true ≡ startsNoLower Linear z s
@@ -127,7 +137,8 @@ linear-starts z zero = refl
 linear-starts z (suc s) =
     seam-of Linear z s _ _ _ _
     (value-is _ _ _ _ _ _ _ _ (drop (s * 1) z) (here-is Linear z s 0) (here-is Linear z s 1) (here-is Linear z s 2) (here-is Linear z s 3) (wholeOf Linear) 1 1)
-    (value-is _ _ _ _ _ _ _ _ (drop (suc s * 1) z) (next-is Linear z s 0) (next-is Linear z s 1) (next-is Linear z s 2) (next-is Linear z s 3) (wholeOf Linear) 1 0)
+    (value-is _ _ _ _ _ _ _ _ (drop (suc s * 1) z) (next-is Linear z s 0) (next-is Linear z s 1) (next-is Linear z s 2) (next-is Linear z s 3)
+    (wholeOf Linear) 1 0)
     (omega arith)
 
 -- ---- Power may start elsewhere: its first three numbers and its fourth make the end
@@ -138,7 +149,8 @@ module _ (z : List ℤ) (s a c d e f : ℕ) where
   unfolding startsNoLower curveAt coefficient
   power-starts ia ic id ie if′ =
       tested (a + c + d + e) (f + 3000000000000)
-      (value-is a most c most d most e most (drop (s * 4) z) (is-at 0 a (ia ∙ moved 0 (omega arith))) (is-at 1 c ic) (is-at 2 d id) (is-at 3 e ie) (wholeOf Power) 1 1)
+      (value-is a most c most d most e most (drop (s * 4) z) (is-at 0 a (ia ∙ moved 0 (omega arith))) (is-at 1 c ic) (is-at 2 d id) (is-at 3 e ie)
+      (wholeOf Power) 1 1)
       (value-is _ _ _ _ _ _ f most (drop (suc s * 4) z) (next-is Power z s 0) (next-is Power z s 1) (next-is Power z s 2) next-3 (wholeOf Power) 1 0)
       (omega arith)
     where

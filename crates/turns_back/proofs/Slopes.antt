@@ -103,11 +103,14 @@ module _ (k0 k1 k2 k3 : ℕ) where
   -- ---- the ends, raised by 6 × 10^12
   value-four : (b : Basis) (n j : ℕ)
       → Is (fourAt b four n j)
-      (added (getD (wholeOf b) 0 []) * (j * j * j) + added (getD (wholeOf b) 1 []) * (n * j * j) + added (getD (wholeOf b) 2 []) * (n * n * j) + added (getD (wholeOf b) 3 []) * (n * n * n))
-      (taken (getD (wholeOf b) 0 []) * (j * j * j) + taken (getD (wholeOf b) 1 []) * (n * j * j) + taken (getD (wholeOf b) 2 []) * (n * n * j) + taken (getD (wholeOf b) 3 []) * (n * n * n))
+      (added (getD (wholeOf b) 0 []) * (j * j * j) + added (getD (wholeOf b) 1 []) * (n * j * j) + added (getD (wholeOf b) 2 []) * (n * n * j) + added
+      (getD (wholeOf b) 3 []) * (n * n * n))
+      (taken (getD (wholeOf b) 0 []) * (j * j * j) + taken (getD (wholeOf b) 1 []) * (n * j * j) + taken (getD (wholeOf b) 2 []) * (n * n * j) + taken
+      (getD (wholeOf b) 3 []) * (n * n * n))
   unfolding fourAt valueAt
   value-four b n j =
-      plus (plus (plus (times (j * j * j) (row-is (getD (wholeOf b) 0 []))) (times (n * j * j) (row-is (getD (wholeOf b) 1 [])))) (times (n * n * j) (row-is (getD (wholeOf b) 2 []))))
+      plus (plus (plus (times (j * j * j) (row-is (getD (wholeOf b) 0 []))) (times (n * j * j) (row-is (getD (wholeOf b) 1 []))))
+      (times (n * n * j) (row-is (getD (wholeOf b) 2 []))))
       (times (n * n * n) (row-is (getD (wholeOf b) 3 [])))
 
   pub start-bspline : subℕ (k0 + 4 * k1 + k2) 6000000000000 ≡ fourAt Bspline four 1 0

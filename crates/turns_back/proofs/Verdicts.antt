@@ -49,7 +49,12 @@ pub record Passing (z : List ℤ) : Type 0 where
 pub passed : (b : Basis) (z : List ℤ) → first (turningUses b z) ≡ Passed → Passing z
 passed b z e =
     let c = clear (turningUses b z) e in
-    record { many = ltb-false (length z) 4 (c 1); few = ltb-false 4096 (length z) (c 3); small = all-small most z (ltb-false (firstLarge most z) (length z) (c 4)) }
+    record {
+      many = ltb-false (length z) 4 (c 1);
+      few = ltb-false 4096 (length z) (c 3);
+      small = all-small most z
+          (ltb-false (firstLarge most z) (length z) (c 4));
+    }
 
 -- ---- a segment's own four knots
 pub whole-alike : (z y r : List ℤ) → at z 0 ≡ at y 0 → at z 1 ≡ at y 1 → at z 2 ≡ at y 2 → at z 3 ≡ at y 3 → wholeSum z r ≡ wholeSum y r

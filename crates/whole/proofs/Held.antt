@@ -96,7 +96,8 @@ unfolding firstLarge
 all-small most [] h = record { each = λ i l. absurd (omega arith) }
 all-small most (x ∷ z) h = go (small most x) refl h (all-small most z)
   where
-    go : (t : Bool) → small most x ≡ t → length (x ∷ z) ≤ cond t (suc (firstLarge most z)) 0 → (length z ≤ firstLarge most z → Small most z) → Small most (x ∷ z)
+    go : (t : Bool) → small most x ≡ t → length (x ∷ z) ≤ cond t (suc (firstLarge most z)) 0 → (length z ≤ firstLarge most z → Small most z)
+        → Small most (x ∷ z)
     go true e h f = let s = f (omega arith) in record { each = at s }
       where
         at : Small most z → (i : ℕ) → i < length (x ∷ z) → natAbs (getD (x ∷ z) i (pos 0)) ≤ most

@@ -79,7 +79,8 @@ returns c =
     let x1 = c .before .before .before .before .before .raised2 in
     let y = c .before .before .before .raised3 in
     let y1 = c .before .raised4 in
-    slope-held (x .result) (x1 .result) (y .result) (y1 .result) (x .ensures .1) (x1 .ensures .1) (y .ensures .1) (y1 .ensures .1) (c .slope .result) (c .slope .ensures)
+    slope-held (x .result) (x1 .result) (y .result) (y1 .result) (x .ensures .1) (x1 .ensures .1) (y .ensures .1) (y1 .ensures .1) (c .slope .result)
+    (c .slope .ensures)
     ∙ slope-of (t .args .rows .now) (t .args .i) (w .before .previous .result) (w .within .result) (x .result) (x1 .result) (y .result) (y1 .result)
     (w .before .previous .ensures) (w .within .ensures) (x .ensures .0) (x1 .ensures .0) (y .ensures .0) (y1 .ensures .0)
 

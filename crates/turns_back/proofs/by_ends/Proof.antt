@@ -38,7 +38,8 @@ returns c =
     let s = c .before .before .before .start in
     let e = c .before .before .end in
     let p = starts-so (a .b) z (s .result) (f .result .k0) (f .result .k1) (f .result .k2) (f .result .k3) (f .ensures) (s .ensures) in
-    let q = ends-so (a .b) z (e .result) (m .result) (l .result .k0) (l .result .k1) (l .result .k2) (l .result .k3) (m .ensures .0 ∙ ap (λ (n : ℕ). (segmentsOf (a .b) n - 1) * stepOf (a .b)) (sym (long (a .knots .now)))) (l .ensures) (e .ensures) in
+    let q = ends-so (a .b) z (e .result) (m .result) (l .result .k0) (l .result .k1) (l .result .k2) (l .result .k3)
+    (m .ensures .0 ∙ ap (λ (n : ℕ). (segmentsOf (a .b) n - 1) * stepOf (a .b)) (sym (long (a .knots .now)))) (l .ensures) (e .ensures) in
     upwards (a .b) z (s .result) (e .result) p q (c .before .if1 .taken) (c .in-direction .ensures)
 
 in-direction-requires-2 : tie.Need-in-direction-requires-2
@@ -55,7 +56,8 @@ returns-2 c =
     let s = c .before .before .before .before .start in
     let e = c .before .before .before .end in
     let p = starts-so (a .b) z (s .result) (f .result .k0) (f .result .k1) (f .result .k2) (f .result .k3) (f .ensures) (s .ensures) in
-    let q = ends-so (a .b) z (e .result) (m .result) (l .result .k0) (l .result .k1) (l .result .k2) (l .result .k3) (m .ensures .0 ∙ ap (λ (n : ℕ). (segmentsOf (a .b) n - 1) * stepOf (a .b)) (sym (long (a .knots .now)))) (l .ensures) (e .ensures) in
+    let q = ends-so (a .b) z (e .result) (m .result) (l .result .k0) (l .result .k1) (l .result .k2) (l .result .k3)
+    (m .ensures .0 ∙ ap (λ (n : ℕ). (segmentsOf (a .b) n - 1) * stepOf (a .b)) (sym (long (a .knots .now)))) (l .ensures) (e .ensures) in
     downwards (a .b) z (s .result) (e .result) p q (c .before .if2 .taken) (c .in-direction2 .ensures)
 
 returns-3 : tie.Need-returns-3
@@ -69,7 +71,8 @@ returns-3 c =
     let s = c .before .before .before .start in
     let e = c .before .before .end in
     let p = starts-so (a .b) z (s .result) (f .result .k0) (f .result .k1) (f .result .k2) (f .result .k3) (f .ensures) (s .ensures) in
-    let q = ends-so (a .b) z (e .result) (m .result) (l .result .k0) (l .result .k1) (l .result .k2) (l .result .k3) (m .ensures .0 ∙ ap (λ (n : ℕ). (segmentsOf (a .b) n - 1) * stepOf (a .b)) (sym (long (a .knots .now)))) (l .ensures) (e .ensures) in
+    let q = ends-so (a .b) z (e .result) (m .result) (l .result .k0) (l .result .k1) (l .result .k2) (l .result .k3)
+    (m .ensures .0 ∙ ap (λ (n : ℕ). (segmentsOf (a .b) n - 1) * stepOf (a .b)) (sym (long (a .knots .now)))) (l .ensures) (e .ensures) in
     level (a .b) z (s .result) (e .result) p q (c .before .if1 .left) (c .if2 .left)
 
 pub by-ends-spec : {M : Type 1} → statement M

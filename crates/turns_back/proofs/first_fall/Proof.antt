@@ -24,8 +24,11 @@ segments-requires c κs = c .pre .0
 
 loop-holds : tie.Need-loop-holds Inv-loop μ-loop
 loop-holds c =
-    let a = c .before .args in
-    (omega arith, from-none (a .b) (turnedAll (a .up) (heldAll (a .knots .now))) (c .segments .result) (c .segments .ensures ∙ ap (λ (n : ℕ). segmentsOf (a .b) n) (sym (turned-long (a .up) (heldAll (a .knots .now)) ∙ long (a .knots .now)))))
+    let a = c .before .args in (
+      omega arith,
+      from-none (a .b) (turnedAll (a .up) (heldAll (a .knots .now))) (c .segments .result)
+          (c .segments .ensures ∙ ap (λ (n : ℕ). segmentsOf (a .b) n) (sym (turned-long (a .up) (heldAll (a .knots .now)) ∙ long (a .knots .now)))),
+    )
 
 is-segment-never-falling-requires : tie.Need-is-segment-never-falling-requires Inv-loop μ-loop
 is-segment-never-falling-requires c κs =
@@ -62,8 +65,11 @@ returns-2 : tie.Need-returns-2 Inv-loop μ-loop
 returns-2 c =
     let l = c .before .loop in
     let g = c .before .before in
-    let a = g .before .args in
-    (none-falls (a .b) (turnedAll (a .up) (heldAll (a .knots .now))) (g .segments .result) (l .s) (l .inv .0) (omega arith) (l .inv .1), omega (arith, g .segments .ensures))
+    let a = g .before .args in (
+      none-falls (a .b) (turnedAll (a .up) (heldAll (a .knots .now))) (g .segments .result) (l .s) (l .inv .0) (omega arith) (l .inv .1),
+      omega
+          (arith, g .segments .ensures),
+    )
 
 pub first-fall-spec : {M : Type 1} → statement M
 first-fall-spec =

@@ -18,7 +18,8 @@ returns c =
     let a = c .before .before .args in
     let r = c .before .four-from .result in
     let f = c .before .four-from .ensures in
-    four-at (turnedAll (a .up) (heldAll (a .knots .now))) (a .at) (r .k0) (r .k1) (r .k2) (r .k3) (f .is0) (f .is1) (f .is2) (f .is3) (a .b) (c .is-never-falling .ensures)
+    four-at (turnedAll (a .up) (heldAll (a .knots .now))) (a .at) (r .k0) (r .k1) (r .k2) (r .k3) (f .is0) (f .is1) (f .is2) (f .is3) (a .b)
+    (c .is-never-falling .ensures)
 
 pub is-never-falling-at-spec : {M : Type 1} → statement M
 is-never-falling-at-spec = tie.close (tie.spec four-from-requires is-never-falling-requires returns)

@@ -100,8 +100,11 @@ add-result-4 c = search needs
 returns-2 : tie.Need-returns-2
 returns-2 c =
     let o = c .before .before .before .before .before .before .before .before .before .before .before in
-    power-later (o .args .up) (o .args .knots .now) (o .args .s) (c .before .before .before .before .before .before .before .before .raised .result) (c .before .before .before .before .before .before .raised2 .result) (c .before .before .before .before .raised3 .result)
-    (c .before .before .raised4 .result) (c .raised5 .result) (c .before .before .before .before .before .before .before .before .before .before .if1 .left) (c .before .before .before .before .before .before .before .before .raised .ensures .0) (c .before .before .before .before .before .before .raised2 .ensures .0)
+    power-later (o .args .up) (o .args .knots .now) (o .args .s) (c .before .before .before .before .before .before .before .before .raised .result)
+    (c .before .before .before .before .before .before .raised2 .result) (c .before .before .before .before .raised3 .result)
+    (c .before .before .raised4 .result) (c .raised5 .result) (c .before .before .before .before .before .before .before .before .before .before .if1 .left)
+    (c .before .before .before .before .before .before .before .before .raised .ensures .0)
+    (c .before .before .before .before .before .before .raised2 .ensures .0)
     (c .before .before .before .before .raised3 .ensures .0) (c .before .before .raised4 .ensures .0) (c .raised5 .ensures .0)
 
 pub is-power-start-no-lower-spec : {M : Type 1} → statement M

@@ -17,7 +17,8 @@ step-requires c κs = search needs
 mul-result : tie.Need-mul-result
 mul-result c =
     let o = c .before .before in
-    let h = inside-last (o .args .b) (o .args .n) (c .before .segments .result) (c .step .result) (o .pre .0) (c .before .segments .ensures) (c .step .ensures .0) in
+    let h = inside-last (o .args .b) (o .args .n) (c .before .segments .result) (c .step .result) (o .pre .0) (c .before .segments .ensures)
+    (c .step .ensures .0) in
     omega (arith, h, o .pre .1)
 
 returns : tie.Need-returns

@@ -36,7 +36,8 @@ unfolding turnsBackOf
 returns-2 c =
     let a = c .before .before .before .before .args in
     let z = heldAll (a .knots .now) in
-    given (byEnds (startOf (a .b) z) (endOf (a .b) z) (a .b) z) (c .before .before .before .verdict .ensures) (c .before .enum-told .given .1) (c .by-ends .ensures)
+    given (byEnds (startOf (a .b) z) (endOf (a .b) z) (a .b) z) (c .before .before .before .verdict .ensures) (c .before .enum-told .given .1)
+    (c .by-ends .ensures)
 
 pub turns-back-spec : {M : Type 1} → statement M
 turns-back-spec =

@@ -26,7 +26,8 @@ returns : tie.Need-returns
 returns c =
     let a = c .before .before .before .args in
     let ks = a .knots .now in
-    short (a .b) (heldAll ks) (c .before .before .curve-length .ensures ∙ ap (λ (n : ℕ). first (curveLength (a .b) n)) (sym (long ks))) (c .enum-told2 .given .1)
+    short (a .b) (heldAll ks) (c .before .before .curve-length .ensures ∙ ap (λ (n : ℕ). first (curveLength (a .b) n)) (sym (long ks)))
+    (c .enum-told2 .given .1)
 
 first-large-requires : tie.Need-first-large-requires
 first-large-requires c κs = search needs
@@ -34,7 +35,8 @@ first-large-requires c κs = search needs
 cast-t7 : tie.Need-cast-t7
 cast-t7 c =
     let l = c .before .before .before .before in
-    let h = length-passed (l .before .args .b) (length (l .before .args .knots .now)) (sym (l .curve-length .ensures) ∙ c .before .before .enum-told .given .1) in
+    let h = length-passed (l .before .args .b) (length (l .before .args .knots .now))
+    (sym (l .curve-length .ensures) ∙ c .before .before .enum-told .given .1) in
     omega (arith, h)
 
 returns-2 : tie.Need-returns-2
@@ -42,7 +44,8 @@ returns-2 c =
     let l = c .before .before .before .before in
     let a = l .before .args in
     let ks = a .knots .now in
-    too-large (a .b) (heldAll ks) (l .curve-length .ensures ∙ ap (λ (n : ℕ). first (curveLength (a .b) n)) (sym (long ks))) (c .before .before .enum-told .given .1)
+    too-large (a .b) (heldAll ks) (l .curve-length .ensures ∙ ap (λ (n : ℕ). first (curveLength (a .b) n)) (sym (long ks)))
+    (c .before .before .enum-told .given .1)
     (c .before .first-large .result) (c .before .first-large .ensures .0) (omega (arith, long ks))
 
 returns-3 : tie.Need-returns-3
@@ -50,7 +53,8 @@ returns-3 c =
     let l = c .before .before .before .before in
     let a = l .before .args in
     let ks = a .knots .now in
-    passes (a .b) (heldAll ks) (l .curve-length .ensures ∙ ap (λ (n : ℕ). first (curveLength (a .b) n)) (sym (long ks))) (c .before .before .enum-told .given .1)
+    passes (a .b) (heldAll ks) (l .curve-length .ensures ∙ ap (λ (n : ℕ). first (curveLength (a .b) n)) (sym (long ks)))
+    (c .before .before .enum-told .given .1)
     (omega (arith, long ks, c .before .first-large .ensures .0))
 
 pub verdict-spec : {M : Type 1} → statement M

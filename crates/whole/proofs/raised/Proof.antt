@@ -17,7 +17,8 @@ add-result c =
 returns : tie.Need-returns
 returns c =
     let o = c .before .before .before in
-    up-raised (o .args .most) (c .before .before .size .result) (o .args .k) (o .fits .k) (c .before .before .size .ensures) (o .pre .0) (o .args .up) (c .before .if1 .taken) (c .if2 .taken)
+    up-raised (o .args .most) (c .before .before .size .result) (o .args .k) (o .fits .k) (c .before .before .size .ensures) (o .pre .0) (o .args .up)
+    (c .before .if1 .taken) (c .if2 .taken)
 
 sub-result : tie.Need-sub-result
 sub-result c =
@@ -27,7 +28,8 @@ sub-result c =
 returns-2 : tie.Need-returns-2
 returns-2 c =
     let o = c .before .before .before in
-    up-lowered (o .args .most) (c .before .before .size .result) (o .args .k) (o .fits .k) (c .before .before .size .ensures) (o .pre .0) (o .args .up) (c .before .if1 .taken) (c .if2 .left)
+    up-lowered (o .args .most) (c .before .before .size .result) (o .args .k) (o .fits .k) (c .before .before .size .ensures) (o .pre .0) (o .args .up)
+    (c .before .if1 .taken) (c .if2 .left)
 
 sub-result-2 : tie.Need-sub-result-2
 sub-result-2 c =
@@ -37,7 +39,8 @@ sub-result-2 c =
 returns-3 : tie.Need-returns-3
 returns-3 c =
     let o = c .before .before .before in
-    down-lowered (o .args .most) (c .before .before .size .result) (o .args .k) (o .fits .k) (c .before .before .size .ensures) (o .pre .0) (o .args .up) (c .before .if1 .left) (c .if3 .taken)
+    down-lowered (o .args .most) (c .before .before .size .result) (o .args .k) (o .fits .k) (c .before .before .size .ensures) (o .pre .0) (o .args .up)
+    (c .before .if1 .left) (c .if3 .taken)
 
 add-result-2 : tie.Need-add-result-2
 add-result-2 c =
@@ -48,7 +51,8 @@ add-result-2 c =
 returns-4 : tie.Need-returns-4
 returns-4 c =
     let o = c .before .before .before in
-    down-raised (o .args .most) (c .before .before .size .result) (o .args .k) (o .fits .k) (c .before .before .size .ensures) (o .pre .0) (o .args .up) (c .before .if1 .left) (c .if3 .left)
+    down-raised (o .args .most) (c .before .before .size .result) (o .args .k) (o .fits .k) (c .before .before .size .ensures) (o .pre .0) (o .args .up)
+    (c .before .if1 .left) (c .if3 .left)
 
 pub raised-spec : {M : Type 1} → statement M
 raised-spec =

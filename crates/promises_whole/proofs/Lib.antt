@@ -1,0 +1,4 @@
+pub mod Larger
+pub mod Turning
+pub mod Monotone
+pub mod Exports
