@@ -1,7 +1,7 @@
 // The exports of a curve's inversion: each function has the contract of the export that calls it.
 ghost use mathlib.Core.Path.{_≡_};
 ghost use Rattle.inverse_segment.specs.Answer.{defaultLimit, defaultPrecision};
-ghost use Rattle.inverse.specs.Inverse.{inverseOf, inverseBy, steadyOf};
+ghost use Rattle.inverse.specs.Inverse.{inverseOf, inverseBy, steadyOf, mostOf};
 ghost use Rattle.exports_reply.specs.Replies.{chosenOf, noBasis, chosen, invertedReply, placeLeft, wholeLeft};
 ghost use Rattle.exports_reply.specs.Options.{chosenBy};
 use exports_reply::BasisChoice;
@@ -122,4 +122,28 @@ pub fn spline_inverse_steady(
         place,
         whole,
     )
+}
+
+// The most evaluations that a curve's inversion makes of n knots.
+pub fn most_evaluations(
+    basis: u8,
+    n: usize,
+    limit: u16,
+    ends: u8,
+    method: u8,
+    most: &mut usize,
+) -> u32
+    ensures answer { λ r. ⌜ r ≡ chosenBy basis ends method noBasis (λ b e m. 0) ⌝ }
+    ensures most { λ _. ⌜ now (most .exit) ≡ chosenBy basis ends method (now (most .entry)) (λ b e m. mostOf e m b n limit) ⌝ }
+{
+    let c = exports_reply::basis_of(basis);
+    let BasisChoice::Known(b) = c else {
+        return exports_reply::UNKNOWN;
+    };
+    let w = exports_reply::options::way_of(ends, method);
+    let Way::Known(e, m) = w else {
+        return exports_reply::UNKNOWN;
+    };
+    *most = inverse::most_evaluations(b, n, limit, e, m) as usize;
+    0
 }

@@ -10,3 +10,4 @@ pub mod Pace
 pub mod Timely
 pub mod InOrder
 pub mod Fewer
+pub mod Most

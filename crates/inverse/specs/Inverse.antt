@@ -1,7 +1,7 @@
 -- The call that inverts a curve: what it refuses, and what it answers. Definitions only.
 use mathlib.Core.List.{List, [], _∷_, _++_}
 use mathlib.Core.Bool.{Bool}
-use Prim.Native.Nat.{ℕ}
+use Prim.Native.Nat.{ℕ, _+_}
 use lib.ListN.{length}
 use lib.Ieee.{Float}
 use Rattle.error.specs.Refusals.{Uses, first}
@@ -18,7 +18,8 @@ use Rattle.inverse_segment.specs.Method.{ruleOf, steadyLimit}
 use Rattle.inverse_order.specs.declared.EndsBy.{EndsBy}
 use Rattle.inverse_order.specs.declared.EndsBy.the-variants.{Knots}
 use Rattle.inverse_order.specs.Order.{turnBack}
-use Rattle.inverse.specs.EndRule.{endRuleOf}
+use Rattle.inverse_search.specs.Bound.{boundOf}
+use Rattle.inverse.specs.EndRule.{endRuleOf, own}
 use Rattle.inverse.specs.Curve.{located, evaluations}
 
 abbrev pub inverseUses : Basis → Float → List Float → Bool → ℕ → Float → Uses
@@ -47,3 +48,7 @@ inverseEvaluations = evaluationsBy Knots AsCrate
 -- by the knots and by the steady method, with its defaults
 abbrev pub steadyOf : Basis → Float → List Float → Bool → Inversion
 steadyOf b y ks check = inverseBy Knots Steady b y ks check steadyLimit defaultPrecision
+
+-- at most so many evaluations of n knots, by the end rule, the method and the limit that are asked for: the rule's own, and the bound of the search
+abbrev pub mostOf : EndsBy → Method → Basis → ℕ → ℕ → ℕ
+mostOf m how b n limit = own m + boundOf (segmentsOf b n) limit

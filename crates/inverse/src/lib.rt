@@ -11,7 +11,7 @@ ghost use Rattle.inverse_segment.specs.Answer.{defaultLimit, defaultPrecision};
 ghost use Rattle.inverse_segment.specs.Method.{ruleOf};
 ghost use Rattle.inverse.specs.EndRule.{atLow, atHigh, knotEnds, curveRule, endRuleOf, own};
 ghost use Rattle.inverse.specs.Curve.{parameterOf, located};
-ghost use Rattle.inverse.specs.Inverse.{inverseBy, inverseOf, steadyOf};
+ghost use Rattle.inverse.specs.Inverse.{inverseBy, inverseOf, steadyOf, mostOf};
 ghost use Rattle.inverse.specs.Contract.{EndedIs, SearchedIs, LocatedIs};
 use basis::Basis;
 use error::Verdict;
@@ -280,4 +280,22 @@ pub fn spline_inverse_steady(b: Basis, y: f64, knots: &[f64], check: bool) -> In
         method: Method::Steady,
     };
     spline_inverse_by(o, b, y, knots)
+}
+
+// How many segments n knots make; fewer than 4 count as 4.
+pub fn segments(b: Basis, n: usize) -> usize
+    ensures { λ r. ⌜ r ≡ segmentsOf b n ⌝ }
+{
+    if n < 4 {
+        return basis::segments(b, 4);
+    }
+    basis::segments(b, n)
+}
+
+// The most evaluations that an inversion of n knots makes by such options, whatever the knots, the target and the precision are: so a task
+// can set its time aside before the call. No method makes more rounds than the limit, and without the precision none is known to make fewer.
+pub fn most_evaluations(b: Basis, n: usize, limit: u16, ends: EndsBy, how: Method) -> u32
+    ensures { λ r. ⌜ r ≡ mostOf ends how b n limit ⌝ }
+{
+    evaluations(ends) + inverse_search::most_evaluations(segments(b, n), limit)
 }

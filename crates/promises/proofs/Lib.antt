@@ -30,3 +30,4 @@ pub mod OneCount
 pub mod ClaimsBeyond
 pub mod Printing
 pub mod Listings
+pub mod Most

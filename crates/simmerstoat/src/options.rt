@@ -2,7 +2,7 @@
 ghost use mathlib.Core.Path.{_≡_};
 ghost use Rattle.inverse_segment.specs.Answer.{inverseSegmentBy};
 ghost use Rattle.inverse_segment.specs.Method.{ruleOf};
-ghost use Rattle.inverse.specs.Inverse.{inverseBy};
+ghost use Rattle.inverse.specs.Inverse.{inverseBy, mostOf};
 ghost use Rattle.exports_reply.specs.Replies.{noBasis, invertedReply, placeLeft, wholeLeft};
 ghost use Rattle.exports_reply.specs.Options.{chosenBy};
 
@@ -70,4 +70,20 @@ pub extern "C" fn simmerstoat_spline_inverse_segment_by(
         place,
         whole,
     )
+}
+
+// The most evaluations that a curve's inversion makes of n knots.
+#[no_mangle]
+pub extern "C" fn simmerstoat_most_evaluations(
+    basis: u8,
+    n: usize,
+    limit: u16,
+    ends: u8,
+    method: u8,
+    most: &mut usize,
+) -> u32
+    ensures answer { λ r. ⌜ r ≡ chosenBy basis ends method noBasis (λ b e m. 0) ⌝ }
+    ensures most { λ _. ⌜ now (most .exit) ≡ chosenBy basis ends method (now (most .entry)) (λ b e m. mostOf e m b n limit) ⌝ }
+{
+    exports_inverse::most_evaluations(basis, n, limit, ends, method, most)
 }

@@ -71,16 +71,3 @@ pub fn curve_value(b: Basis, x: f64, knots: &[f64]) -> f64
     let start = s * basis::step(b);
     value_in(b, &knots[start..], z.t)
 }
-
-// For a caller that has tested the knots itself. By the function that other callers share: so `curve_value` keeps its one caller.
-pub fn value_at(b: Basis, x: f64, knots: &[f64]) -> f64
-    requires enough { ⌜ 4 ≤ length (now knots) ⌝ }
-    requires most { ⌜ length (now knots) ≤ 4096 ⌝ }
-    ensures { λ r. ⌜ r ≡ curveValue b x (now (knots .entry)) ⌝ }
-{
-    let k = basis::segments(b, knots.len());
-    let z = place(k, x);
-    let s = z.s;
-    let start = s * basis::step(b);
-    crate::segment::segment_value(b, &knots[start..], z.t)
-}

@@ -36,6 +36,7 @@ use Rattle.uneven.specs.declared.DepthAnswer.{DepthAnswer}
 use Rattle.uneven.specs.declared.DepthAnswer.the-variants.{Refused, OffCurve, At}
 use Rattle.uneven.specs.declared.WhichTable.the-variants.{Times, Depths}
 use Rattle.uneven.specs.Uneven.{depthUses, depthAt, suited, sounded, depthOf}
+use Rattle.uneven.specs.Contract.{askedAt}
 
 -- the evaluations told: of both tables for a depth, of the times for 11; 0 for the other refusals
 abbrev pub countOf : DepthAnswer → ℕ
@@ -48,6 +49,16 @@ unfolding le lt eq isNan
 number-of nan h = absurd (h .low)
 number-of (inf s) h = refl
 number-of (fin s m e) h = refl
+
+-- the depths are evaluated at a number, wherever the inversion came to
+pub asked-number : (b : Basis) (ts : List Float) (y : Float) (limit : ℕ) (ε : Float) (a : Inversion) → a ≡ inverseOf b y ts true limit ε
+    → isNan (askedAt a) ≡ false
+unfolding isNan
+asked-number b ts y limit ε (NotInverted r) e = refl
+asked-number b ts y limit ε (Off n) e = refl
+asked-number b ts y limit ε (Found p) e =
+    let proper : Proper p = subst (AtPlace Proper) (sym e) (inverse-proper Knots AsCrate b y ts true limit ε) in
+    number-of (p .parameter) (proper .parameter)
 
 -- ---- an answer, by the depths' verdict, the inversion and the evaluation
 by-times : (v : Verdict) (a : Inversion) (f : Float → Evaluation) (r : Refusal) → sounded v a f ≡ Refused Times r → a ≡ NotInverted r
@@ -137,12 +148,6 @@ module _ (tb : Basis) (ts : List Float) (db : Basis) (ds : List Float) (y : Floa
   depth-told e p f =
       let proper : Proper p = subst (AtPlace Proper) f (inverse-proper Knots AsCrate tb y ts true limit ε) in
       ap (λ (v : Verdict). evaluated v (curveValue db (p .parameter) ds)) (passes e (p .parameter) (number-of (p .parameter) (proper .parameter)))
-
-  -- so the depths need no second test: their value stands for the evaluation's answer
-  pub untested : verdict ≡ Passed → (a : Inversion) → a ≡ place → suited a (λ x. Value (curveValue db x ds)) ≡ suited a (λ x. splineOf db x ds)
-  untested e (NotInverted r) f = refl
-  untested e (Off n) f = refl
-  untested e (Found p) f = ap (depthAt p) (sym (depth-told e p (sym f)))
 
   -- ---- a table that refuses
   no-row : timesPass → (q : Refusal) → place ≡ NotInverted q → ⊥

@@ -1,101 +1,81 @@
 -- The answers, by the tests as the code makes them. The count has room for one more, since the inversion's is bounded. Assumes nothing.
-use mathlib.Core.Path.{_≡_, sym, ap, _∙_}
-use mathlib.Core.Bool.{Bool, true, false, cond}
-use mathlib.Core.List.{List, [], _∷_}
-use Prim.Native.Nat.{ℕ, _+_, _-_, _*_, _/_, _≤_, _<_}
+use mathlib.Core.Path.{_≡_, refl, sym, ap, _∙_, subst}
+use mathlib.Core.Bool.{Bool, true, false, not}
+use mathlib.Core.List.{List}
+use Prim.Native.Nat.{ℕ, _+_, _<_}
 use native.Mathlib.Omega.{arith}
-use borrow.Author.Tests.{eq-eqb, ne-eqb, ltb-false}
-use lib.Dec.{eqb, leb}
+use lib.Dec.{ltb, eqb}
 use lib.ListN.{length}
-use lib.Ieee.{Float}
-use Rattle.error.specs.declared.Refusal.{Refusal}
-use Rattle.error.specs.declared.Refusal.the-variants.{UnequalSegments}
+use lib.Ieee.{Float, isNan}
 use Rattle.error.specs.declared.Verdict.{Verdict}
 use Rattle.error.specs.declared.Verdict.the-variants.{Passed, Failed}
-use Rattle.error.specs.Refusals.{firstOf, first}
-use Rattle.error.proofs.First.{through, after, otherRows, stops-in, goes-past, stops, goes-on, clear}
+use Rattle.error.specs.Refusals.{first}
 use Rattle.basis.specs.declared.Basis.{Basis}
-use Rattle.basis.specs.Basis.{stepOf, segmentsOf}
-use Rattle.checks.specs.Checks.{curveLength, badKnot}
-use Rattle.spline.specs.declared.Evaluation.the-variants.{Value}
+use Rattle.basis.specs.Basis.{regular, segmentsOf}
+use Rattle.checks.specs.Checks.{allInRange}
+use Rattle.spline.specs.declared.Evaluation.{Evaluation}
 use Rattle.spline.specs.Evaluation.{splineOf}
-use Rattle.inverse_segment.specs.declared.Place.{Place}
 use Rattle.inverse_segment.specs.declared.Inversion.{Inversion}
-use Rattle.inverse_segment.specs.declared.Inversion.the-variants.{At as Found}
+use Rattle.inverse_segment.specs.declared.Inversion.the-variants.{Refused as NotInverted, OffCurve as Off, At as Found}
 use Rattle.inverse_segment.specs.Answer.{countTold}
 use Rattle.inverse_segment.specs.declared.Method.the-variants.{AsCrate}
-use Rattle.inverse_search.specs.Bound.{bitsOf, boundOf}
 use Rattle.inverse_order.specs.declared.EndsBy.the-variants.{Knots}
 use Rattle.inverse.specs.Inverse.{inverseOf}
+use Rattle.inverse.proofs.Most.{bound-small}
 use Rattle.inverse.proofs.Promises.{inverse-bounded}
 use Rattle.uneven.specs.declared.DepthAnswer.{DepthAnswer}
-use Rattle.uneven.specs.Uneven.{depthUses, depthAt, suited, sounded, depthOf}
+use Rattle.uneven.specs.Uneven.{depthUses, suited, sounded, depthOf}
+use Rattle.uneven.specs.Contract.{askedAt, verdictOf}
+use Rattle.uneven.proofs.Call.{asked-number}
 
--- ---- the depths' rows
--- those past the lengths: up to that of the knots, and behind it
-abbrev knotRows : List ℕ
-knotRows = through 4 otherRows
+-- ---- the depths' rows: those of an evaluation at a number, and then whether the segments are as many
+module _ (tb : Basis) (n : ℕ) (db : Basis) (ds : List Float) (x : Float) (number : isNan x ≡ false) where
+  abbrev as-many : Bool
+  as-many = eqb (segmentsOf tb n) (segmentsOf db (length ds))
 
-abbrev lastRows : List ℕ
-lastRows = after 4 otherRows
+  pub depths-verdict : verdictOf (splineOf db x ds) as-many ≡ first (depthUses tb n db ds)
+  unfolding splineOf
+  depths-verdict = go (ltb (length ds) 4) (not (regular db (length ds))) (ltb 4096 (length ds)) (not (allInRange ds)) as-many refl refl refl refl refl
+    where
+      go : (a b c d e : Bool) → ltb (length ds) 4 ≡ a → not (regular db (length ds)) ≡ b → ltb 4096 (length ds) ≡ c → not (allInRange ds) ≡ d
+          → as-many ≡ e → verdictOf (splineOf db x ds) as-many ≡ first (depthUses tb n db ds)
+      go true b c d e p q r s u = simp p
+      go false true c d e p q r s u = simp (p, q)
+      go false false true d e p q r s u = simp (p, q, r)
+      go false false false true e p q r s u = simp (p, q, r, s, number)
+      go false false false false true p q r s u = simp (p, q, r, s, number, u)
+      go false false false false false p q r s u = simp (p, q, r, s, number, u)
 
-module _ (tb : Basis) (n : ℕ) (db : Basis) (ds : List Float) {l : Verdict} (e : l ≡ first (curveLength db (length ds))) where
-  pub depths-stop : {r : Refusal} → l ≡ Failed r → l ≡ first (depthUses tb n db ds)
-  depths-stop k = stops (depthUses tb n db ds) e k
-
-  module _ (k : l ≡ Passed) {w : Verdict} (f : w ≡ first (badKnot ds ∷ [])) where
-    pub depths-knot : {r : Refusal} → w ≡ Failed r → w ≡ first (depthUses tb n db ds)
-    depths-knot d = goes-on (depthUses tb n db ds) e k (stops-in knotRows lastRows (depthUses tb n db ds) f d)
-
-    module _ (d : w ≡ Passed) {x y : ℕ} (p : x ≡ segmentsOf tb n) (q : y ≡ segmentsOf db (length ds)) where
-      behind : {v : Verdict} → v ≡ firstOf lastRows (depthUses tb n db ds) → v ≡ first (depthUses tb n db ds)
-      behind h = goes-on (depthUses tb n db ds) e k (goes-past knotRows lastRows (depthUses tb n db ds) f d h)
-
-      pub depths-pass : x ≡ y → Passed ≡ first (depthUses tb n db ds)
-      depths-pass s =
-          let t : eqb (segmentsOf tb n) (segmentsOf db (length ds)) ≡ true = eq-eqb _ _ (sym p ∙ s ∙ q) in
-          behind (simp t)
-
-      pub depths-differ : (x ≡ y → ⊥) → Failed UnequalSegments ≡ first (depthUses tb n db ds)
-      depths-differ s =
-          let t : eqb (segmentsOf tb n) (segmentsOf db (length ds)) ≡ false = ne-eqb _ _ (λ h. s (p ∙ h ∙ sym q)) in
-          behind (simp t)
-
--- where none applies, the depths are as many as a curve may have
-pub long-enough : (tb : Basis) (n : ℕ) (db : Basis) (ds : List Float) → first (depthUses tb n db ds) ≡ Passed → (4 ≤ length ds) × (length ds ≤ 4096)
-long-enough tb n db ds e = let c = clear (depthUses tb n db ds) e in (ltb-false (length ds) 4 (c 1), ltb-false 4096 (length ds) (c 3))
-
--- ---- the counts
-pub short-count : (b : Basis) (n : ℕ) → n < 4 → segmentsOf b 4 ≡ segmentsOf b n
-short-count b n h = let q : 0 ≡ n - 4 = omega arith in ap (λ (m : ℕ). m / stepOf b + 1) q
-
-few-bits : (k : ℕ) → bitsOf k ≤ 64
-unfolding bitsOf
-few-bits k = omega arith
-
-bound-small : (k limit : ℕ) → boundOf k limit ≤ limit + 132
-bound-small k limit = go (leb k 12)
-  where
-    go : (t : Bool) → cond t (limit + 24) (limit + 2 * bitsOf k + 4) ≤ limit + 132
-    go true = omega arith
-    go false = omega (arith, few-bits k)
-
+-- ---- the count
 pub room : (b : Basis) (y : Float) (ks : List Float) (limit : ℕ) (ε : Float) {a : Inversion} → limit < 65536 → a ≡ inverseOf b y ks true limit ε →
     countTold a < 4294967295
 room b y ks limit ε {a} l e =
     omega (arith, ap countTold e, inverse-bounded Knots AsCrate b y ks true limit ε, bound-small (segmentsOf b (length ks)) limit)
 
 -- ---- the answer
--- at a place, from the value there
-pub value-told : {a : Inversion} {p : Place} {d : Float} (f : Float → Float) → a ≡ Found p → d ≡ f (p .parameter)
-    → depthAt p (Value d) ≡ suited a (λ x. Value (f x))
-value-told {p = p} f e h = ap (λ (v : Float). depthAt p (Value v)) h ∙ sym (ap (λ (i : Inversion). suited i (λ x. Value (f x))) e)
+-- what is looked at is the evaluation at the place alone
+at-place : (v : Verdict) (a : Inversion) (f : Float → Evaluation) → sounded v a (λ _. f (askedAt a)) ≡ sounded v a f
+at-place Passed (NotInverted r) f = refl
+at-place Passed (Off n) f = refl
+at-place Passed (Found p) f = refl
+at-place (Failed q) (NotInverted r) f = refl
+at-place (Failed q) (Off n) f = refl
+at-place (Failed q) (Found p) f = refl
 
-pub answered : (tb db : Basis) (ts ds : List Float) (y : Float) (limit : ℕ) (ε : Float) {a : Inversion} {v w : Verdict} {r : DepthAnswer} → a ≡ inverseOf
-    tb y ts true limit ε → v ≡ first (depthUses tb (length ts) db ds) → v ≡ w
-    → r ≡ sounded w a (λ x. splineOf db x ds) → r ≡ depthOf tb ts db ds y limit ε
-unfolding depthOf
-answered tb db ts ds y limit ε {a} {v} {w} e f g h =
-    h
-    ∙ ap (λ (u : Verdict). sounded u a (λ x. splineOf db x ds)) (sym g ∙ f)
-    ∙ ap (λ (u : Inversion). sounded (first (depthUses tb (length ts) db ds)) u (λ x. splineOf db x ds)) e
+module _ (tb db : Basis) (ts ds : List Float) (y : Float) (limit : ℕ) (ε : Float) {a : Inversion} {e : Evaluation} {k j : ℕ} {v w : Verdict}
+    (inverted : a ≡ inverseOf tb y ts true limit ε) (evaluated : e ≡ splineOf db (askedAt a) ds) (times : k ≡ segmentsOf tb (length ts))
+    (depths : j ≡ segmentsOf db (length ds)) (judged : v ≡ verdictOf e (eqb k j)) (case : v ≡ w) where
+  verdict-is : w ≡ first (depthUses tb (length ts) db ds)
+  verdict-is =
+      sym case ∙ judged ∙ ap (λ (x : Evaluation). verdictOf x (eqb k j)) evaluated ∙ ap (λ (n : ℕ). verdictOf (splineOf db (askedAt a) ds) (eqb n j)) times
+      ∙ ap (λ (n : ℕ). verdictOf (splineOf db (askedAt a) ds) (eqb (segmentsOf tb (length ts)) n)) depths
+      ∙ depths-verdict tb (length ts) db ds (askedAt a) (asked-number tb ts y limit ε a inverted)
+
+  pub answered : {r : DepthAnswer} → r ≡ sounded w a (λ _. e) → r ≡ depthOf tb ts db ds y limit ε
+  unfolding depthOf
+  answered h =
+      h
+      ∙ ap (λ (x : Evaluation). sounded w a (λ _. x)) evaluated
+      ∙ at-place w a (λ x. splineOf db x ds)
+      ∙ ap (λ (u : Verdict). sounded u a (λ x. splineOf db x ds)) verdict-is
+      ∙ ap (λ (u : Inversion). sounded (first (depthUses tb (length ts) db ds)) u (λ x. splineOf db x ds)) inverted

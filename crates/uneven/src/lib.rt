@@ -1,18 +1,15 @@
 // A curve over uneven times: a table of times is inverted, and a table of depths evaluated there. Rust: the example of src/lib.rs.
 ghost use mathlib.Core.Path.{_≡_};
-ghost use Prim.Native.Nat.{_≤_, _<_};
-ghost use lib.ListN.{length};
-ghost use Rattle.spline.specs.declared.Evaluation.the-variants.{Value};
-ghost use Rattle.spline.specs.Curve.{curveValue};
+ghost use Prim.Native.Nat.{_<_};
 ghost use Rattle.inverse_segment.specs.Answer.{countTold};
-ghost use Rattle.uneven.specs.Uneven.{suited, unsuited, depthOf};
+ghost use Rattle.uneven.specs.Uneven.{depthAt, suited, unsuited, depthOf};
+ghost use Rattle.uneven.specs.Contract.{askedAt, verdictOf};
 use basis::Basis;
 use error::Refusal;
 use error::Verdict;
 use inverse_segment::Inversion;
 use inverse_segment::Place;
-
-pub mod refusals;
+use spline::Evaluation;
 
 // Which of the two tables a refusal is about.
 pub enum WhichTable {
@@ -34,21 +31,56 @@ pub enum DepthAnswer {
     At(Depth),
 }
 
-// Where no row of the depths applies: so they are not tested a second time.
-fn suited(a: Inversion, db: Basis, depths: &[f64]) -> DepthAnswer
-    requires count { ⌜ countTold a < 4294967295 ⌝ }
-    requires enough { ⌜ 4 ≤ length (now depths) ⌝ }
-    requires most { ⌜ length (now depths) ≤ 4096 ⌝ }
-    ensures { λ r. ⌜ r ≡ suited a (λ x. Value (curveValue db x (now (depths .entry)))) ⌝ }
+// Where the depths are evaluated: at the parameter of the place, and at 0 where there is none, for what they are refused with.
+fn asked_at(a: Inversion) -> f64
+    ensures { λ r. ⌜ r ≡ askedAt a ⌝ }
+{
+    match a {
+        Inversion::Refused(_) => 0.0,
+        Inversion::OffCurve(_) => 0.0,
+        Inversion::At(p) => p.parameter,
+    }
+}
+
+// The rows of the depths: those of their evaluation, then 18.
+fn depths_verdict(e: Evaluation, equal: bool) -> Verdict
+    ensures { λ r. ⌜ r ≡ verdictOf e equal ⌝ }
+{
+    match e {
+        Evaluation::Refused(r) => Verdict::Failed(r),
+        Evaluation::Value(_) => {
+            if equal {
+                return Verdict::Passed;
+            }
+            Verdict::Failed(Refusal::UnequalSegments)
+        }
+    }
+}
+
+// The depth at a place, and one evaluation more.
+fn depth_of(p: Place, e: Evaluation) -> DepthAnswer
+    requires { ⌜ p .count < 4294967295 ⌝ }
+    ensures { λ r. ⌜ r ≡ depthAt p e ⌝ }
+{
+    match e {
+        Evaluation::Value(d) => DepthAnswer::At(Depth {
+            depth: d,
+            place: p,
+            count: p.count + 1,
+        }),
+        Evaluation::Refused(r) => DepthAnswer::Refused(WhichTable::Depths, r),
+    }
+}
+
+// Where no row of the depths applies.
+fn suited(a: Inversion, e: Evaluation) -> DepthAnswer
+    requires { ⌜ countTold a < 4294967295 ⌝ }
+    ensures { λ r. ⌜ r ≡ suited a (λ _. e) ⌝ }
 {
     match a {
         Inversion::Refused(r) => DepthAnswer::Refused(WhichTable::Times, r),
         Inversion::OffCurve(n) => DepthAnswer::OffCurve(n),
-        Inversion::At(p) => DepthAnswer::At(Depth {
-            depth: spline::curve::value_at(db, p.parameter, depths),
-            place: p,
-            count: p.count + 1,
-        }),
+        Inversion::At(p) => depth_of(p, e),
     }
 }
 
@@ -63,7 +95,7 @@ fn unsuited(a: Inversion, r: Refusal) -> DepthAnswer
     }
 }
 
-// The depth at y of the times, which must not turn back.
+// The depth at y of the times, which must not turn back: the library's inversion, then its evaluation.
 pub fn depth_at(
     tb: Basis,
     times: &[f64],
@@ -76,9 +108,11 @@ pub fn depth_at(
     ensures { λ r. ⌜ r ≡ depthOf tb (now (times .entry)) db (now (depths .entry)) y limit precision ⌝ }
 {
     let a = inverse::spline_inverse_with(tb, y, times, true, limit, precision);
-    let v = refusals::depths_verdict(tb, times.len(), db, depths);
+    let e = spline::spline(db, asked_at(a), depths);
+    let equal = inverse::segments(tb, times.len()) == inverse::segments(db, depths.len());
+    let v = depths_verdict(e, equal);
     match v {
         Verdict::Failed(r) => unsuited(a, r),
-        Verdict::Passed => suited(a, db, depths),
+        Verdict::Passed => suited(a, e),
     }
 }

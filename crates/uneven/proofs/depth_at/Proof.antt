@@ -1,14 +1,26 @@
--- By the depths' verdict; where it passed, their value is what their evaluation answers (`untested`). Assumes nothing.
-use mathlib.Core.Path.{sym, _∙_}
-use lib.ListN.{length}
-use Rattle.uneven.proofs.Cases.{long-enough, room, answered}
-use Rattle.uneven.proofs.Call.{untested}
+-- The inversion, the evaluation at its place and both counts of segments are the library's; by what they say the answer is the definition's (`answered`).
+use mathlib.Core.Path.{ap, _∙_}
+use lib.Ieee.{Float}
+use Rattle.spline.specs.Evaluation.{splineOf}
+use Rattle.uneven.proofs.Cases.{room, answered}
 use borrow.Author.Needs.{needs}
 use Rattle.uneven.proofs.depth_at.Statement.{statement}
 use Rattle.uneven.proofs.depth_at.Tie as tie
 
 spline-inverse-with-requires : tie.Need-spline-inverse-with-requires
 spline-inverse-with-requires c κs = search needs
+
+asked-at-requires : tie.Need-asked-at-requires
+asked-at-requires c κs = search needs
+
+spline-requires : tie.Need-spline-requires
+spline-requires c κs = search needs
+
+segments-requires : tie.Need-segments-requires
+segments-requires c κs = search needs
+
+segments-requires-2 : tie.Need-segments-requires-2
+segments-requires-2 c κs = search needs
 
 depths-verdict-requires : tie.Need-depths-verdict-requires
 depths-verdict-requires c κs = search needs
@@ -24,37 +36,46 @@ enum-told c = search needs
 
 suited-requires : tie.Need-suited-requires
 suited-requires c κs =
-    let o = c .before .before .before .before .before .before in
+    let inv = c .before .before .before .before .before .before .before in
+    let o = inv .before .before .before in
     let a = o .args in
-    let h =
-    long-enough (a .tb) (length (a .times .now)) (a .db) (a .depths .now)
-    (sym (c .before .before .depths-verdict .ensures) ∙ c .enum-told .given .1) in (
-      room (a .tb) (a .y) (a .times .now) (a .limit) (a .precision) (o .fits
-          .limit .fits) (c .before .before .before .spline-inverse-with .ensures),
-      (h .0, h .1),
-    )
+    room (a .tb) (a .y) (a .times .now) (a .limit) (a .precision) (o .fits .limit .fits) (inv .spline-inverse-with .ensures)
 
 returns : tie.Need-returns
 returns c =
-    let a = c .before .before .before .before .before .before .before .before .args in
-    answered (a .tb) (a .db) (a .times .now) (a .depths .now) (a .y) (a .limit) (a .precision)
-    (c .before .before .before .before .before .spline-inverse-with .ensures) (c .before .before .before .before .depths-verdict .ensures)
-    (c .before .before .v .given .1) (c .unsuited .ensures)
+    let d = c .before .before .before .before in
+    let s2 = d .before in
+    let s1 = s2 .before in
+    let sp = s1 .before in
+    let at = sp .before in
+    let inv = at .before in
+    let a = inv .before .before .before .args in
+    answered (a .tb) (a .db) (a .times .now) (a .depths .now) (a .y) (a .limit) (a .precision) (inv .spline-inverse-with .ensures)
+    (sp .spline .ensures ∙ ap (λ (x : Float). splineOf (a .db) x (a .depths .now)) (at .asked-at .ensures)) (s1 .segments .ensures) (s2 .segments2 .ensures)
+    (d .depths-verdict .ensures) (c .before .before .v .given .1) (c .unsuited .ensures)
 
 returns-2 : tie.Need-returns-2
 returns-2 c =
-    let a = c .before .before .before .before .before .before .before .args in
-    let i = c .before .before .before .before .spline-inverse-with .ensures in
-    let v = c .before .before .before .depths-verdict .ensures in
-    let t = c .before .enum-told .given .1 in
-    answered (a .tb) (a .db) (a .times .now) (a .depths .now) (a .y) (a .limit) (a .precision) i v t
-    (c .suited .ensures ∙ untested (a .tb) (a .times .now) (a .db) (a .depths .now) (a .y) (a .limit) (a .precision) (sym v ∙ t) _ i)
+    let d = c .before .before .before in
+    let s2 = d .before in
+    let s1 = s2 .before in
+    let sp = s1 .before in
+    let at = sp .before in
+    let inv = at .before in
+    let a = inv .before .before .before .args in
+    answered (a .tb) (a .db) (a .times .now) (a .depths .now) (a .y) (a .limit) (a .precision) (inv .spline-inverse-with .ensures)
+    (sp .spline .ensures ∙ ap (λ (x : Float). splineOf (a .db) x (a .depths .now)) (at .asked-at .ensures)) (s1 .segments .ensures) (s2 .segments2 .ensures)
+    (d .depths-verdict .ensures) (c .before .enum-told .given .1) (c .suited .ensures)
 
 pub depth-at-spec : {M : Type 1} → statement M
 depth-at-spec =
     tie.close
     (tie.spec
     spline-inverse-with-requires
+    asked-at-requires
+    spline-requires
+    segments-requires
+    segments-requires-2
     depths-verdict-requires
     enum-known-v
     unsuited-requires

@@ -1,9 +1,9 @@
 -- Fewer than 4 knots count as 4 do. Assumes nothing.
 use mathlib.Core.Path.{_∙_}
-use Rattle.uneven.proofs.Cases.{short-count}
+use Rattle.inverse.proofs.Most.{short-count}
 use borrow.Author.Needs.{needs}
-use Rattle.uneven.proofs.refusals.segments_of.Statement.{statement}
-use Rattle.uneven.proofs.refusals.segments_of.Tie as tie
+use Rattle.inverse.proofs.segments.Statement.{statement}
+use Rattle.inverse.proofs.segments.Tie as tie
 
 segments-requires : tie.Need-segments-requires
 segments-requires c κs = search needs
@@ -17,8 +17,8 @@ segments-requires-2 c κs = search needs
 returns-2 : tie.Need-returns-2
 returns-2 c = search needs
 
-pub segments-of-spec : {M : Type 1} → statement M
-segments-of-spec =
+pub segments-spec : {M : Type 1} → statement M
+segments-spec =
     tie.close
     (tie.spec
     segments-requires
