@@ -158,6 +158,11 @@ uint32_t simmerstoat_spline_inverse_with(uint8_t basis, double y, const double *
 uint32_t simmerstoat_spline_inverse_by(uint8_t basis, double y, const double *knots, uint64_t n, bool check, uint16_t limit,
                                        double precision, uint8_t ends, uint8_t method, double place[4], uint64_t whole[3]);
 
+/* The most evaluations that simmerstoat_spline_inverse_by makes of n knots with that limit, rule of the ends and method, whatever
+ * the knots, the target and the precision are; its count is never greater, with a place or with 11. So time can be set aside
+ * before the call. It looks at no knots, and n may be any number. Refusals: 255, which writes nothing. */
+uint32_t simmerstoat_most_evaluations(uint8_t basis, uint64_t n, uint16_t limit, uint8_t ends, uint8_t method, uint64_t *most);
+
 /* By the steady method: limit 64, precision 1e-10, the ends by the knots. It never gives SIMMERSTOAT_SPENT, and makes at most
  * 63 evaluations on up to 12 segments and 43 + 2 b above, whatever the curve. Refusals: 255, 1, 2, 3, 5, 4, 10, 11. */
 uint32_t simmerstoat_spline_inverse_steady(uint8_t basis, double y, const double *knots, uint64_t n, bool check,

@@ -54,6 +54,9 @@ static void spline_inverse_steady(void) {
 static void spline_inverse_segment_steady(void) {
     reply = simmerstoat_spline_inverse_segment_steady(basis, 0.991 + at * 0.02, knots + 99, 4, place, whole);
 }
+static void most_evaluations(void) {
+    reply = simmerstoat_most_evaluations(basis, length, 32, other % 2, other / 2, &written);
+}
 static void convert_segment(void) { reply = simmerstoat_convert_segment(basis, other, knots, 4, out, 4); }
 static void convert_spline(void) {
     reply = simmerstoat_convert_spline(basis, other, knots, length, out, 4 * KNOTS, &written);
@@ -120,6 +123,7 @@ int main(void) {
                  {"spline_inverse_segment_by", spline_inverse_segment_by, INVERSION},
                  {"spline_inverse_steady", spline_inverse_steady, INVERSION},
                  {"spline_inverse_segment_steady", spline_inverse_segment_steady, INVERSION},
+                 {"most_evaluations", most_evaluations, EVALUATION},
                  {"convert_segment", convert_segment, CONVERSION},
                  {"convert_spline", convert_spline, CONVERSION},
                  {"convert_spline_strict", convert_spline_strict, STRICT},

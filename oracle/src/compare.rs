@@ -5,7 +5,7 @@ use std::fmt::Debug;
 use std::process;
 
 use crate::crates;
-use crate::model::{self, Ends, Fate, Inversion, Method, Options, RefusalNumber};
+use crate::model::{self, Ends, Fate, Inversion, Method, Options, RefusalNumber, STEP};
 use crate::port::{self, ConversionReply, InversionReply, ValueReply, UNTOUCHED, UNTOUCHED_WHOLE};
 use crate::promised;
 use crate::tally::{of_ground, of_reply, Call, Tally, PLAIN};
@@ -114,6 +114,9 @@ pub fn spline_inverse(t: &mut Tally, b: usize, y: f64, knots: &[f64], o: &Option
     let ours = port::spline_inverse_by(b as u8, y, knots, o);
     hold("the model", &input, inverted(&expected), ours);
     hold("a broken promise", &input, promised::broken_by_curve(b, y, knots, o, &ours, expected.rounds), None);
+    let segments = knots.len().saturating_sub(4) / STEP[b] + 1;
+    let most = Some(promised::most_evaluations(segments, o) as u64);
+    hold("the most evaluations", &input, most, port::most_evaluations(b as u8, knots.len(), o));
     let comparable = o.is_the_crates() && matches!(ours.reply & 255, 0 | 1 | 2 | 10 | 11);
     if counted(t, input.call, &expected, comparable) {
         hold("the crate", &input, crates::spline_inverse(b, y, knots, o).map(f64::to_bits), parameter(&ours));

@@ -79,6 +79,13 @@ pub fn spline_inverse_by(b: u8, y: f64, knots: &[f64], o: &Options) -> Inversion
     spline_inverse_numbered(b, y, knots, o.check, o.limit, o.precision, o.ends as u8, o.method as u8)
 }
 
+/// The most evaluations of an inversion of `n` knots by these options, if the reply is 0.
+pub fn most_evaluations(b: u8, n: usize, o: &Options) -> Option<u64> {
+    let mut most = 0;
+    let reply = unsafe { raw::simmerstoat_most_evaluations(b, n as u64, o.limit, o.ends as u8, o.method as u8, &mut most) };
+    (reply == 0).then_some(most)
+}
+
 /// By the crate's rule of the ends and its method.
 pub fn spline_inverse_with(b: u8, y: f64, knots: &[f64], o: &Options) -> InversionReply {
     inverted(|place, whole| unsafe {

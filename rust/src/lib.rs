@@ -206,6 +206,35 @@ pub fn spline_inverse_with<B: Basis, T: Double>(
     found(reply, place, whole)
 }
 
+/// The most evaluations that [`spline_inverse_with`] makes of `n` knots by these options, whatever the knots, the target and the
+/// precision are: its count is never greater, with a place or with `OffCurve`. So a task can set its time aside before the call.
+///
+/// ```
+/// use simmerstoat::prelude::*;
+///
+/// let knots = [0.0, 0.0, 0.5, 0.5];
+/// let most = most_evaluations::<Linear, f64>(knots.len(), &SplineInverseOptions::default());
+/// assert_eq!(most, 32 + 24);
+/// assert!(u64::from(spline_inverse::<Linear, _>(0.25, &knots)?.count) <= most);
+/// # Ok::<(), Refusal>(())
+/// ```
+pub fn most_evaluations<B: Basis, T: Double>(n: usize, options: &SplineInverseOptions<T>) -> u64 {
+    let mut most = 0;
+    // SAFETY: the number is a local.
+    let reply = unsafe {
+        raw::simmerstoat_most_evaluations(
+            B::NUMBER,
+            n as u64,
+            options.limit(),
+            options.ends.number(),
+            options.method.number(),
+            &mut most,
+        )
+    };
+    debug_assert_eq!(reply, 0, "every basis, rule and method of this package has a number");
+    most
+}
+
 /// The place in one segment of four knots where it is at `y`, with the defaults.
 ///
 /// Refusals: `TooFew`, `BadPattern`, `NotANumber`, `BadKnot`, `OffCurve`.

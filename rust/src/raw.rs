@@ -55,6 +55,8 @@ extern "C" {
         whole: *mut [u64; 3],
     ) -> u32;
 
+    pub fn simmerstoat_most_evaluations(basis: u8, n: u64, limit: u16, ends: u8, method: u8, most: *mut u64) -> u32;
+
     pub fn simmerstoat_spline_inverse_segment(
         basis: u8,
         y: f64,
