@@ -50,40 +50,32 @@ pub c-most-evaluations-one-reply : OneReply c_most_evaluations.Learnt
 c-most-evaluations-one-reply κs a z z′ e e′ p q = (one (p .0) (q .0), one (p .1) (q .1))
 
 -- ---- no inversion makes more
-module _ (m : EndsBy) (how : Method) (b : Basis) (y : Float) (ks : List Float) (check : Bool) (limit : ℕ) (ε : Float) where
-  within : (r : Inversion) (most : ℕ) → r ≡ inverseBy m how b y ks check limit ε → most ≡ mostOf m how b (length ks) limit → countTold r ≤ most
-  within r most e f =
+module _ (m : EndsBy) (how : Method) (b : Basis) (ks : List Float) (limit : ℕ) where
+  -- whatever `most_evaluations` replies, asked for that basis, as many knots, the limit, the rule of the ends and the method: r tells no greater count
+  abbrev pub Within : Inversion → Type 0
+  Within r = Keeps most_evaluations.Learnt (λ κs q most e. q ≡ (b, (length ks, (limit, (m, (how, tt))))) → countTold r ≤ most)
+
+  within : (y : Float) (check : Bool) (ε : Float) (r : Inversion) → r ≡ inverseBy m how b y ks check limit ε → Within r
+  within y check ε r e κs q most e′ p same =
+      let f : most ≡ mostOf m how b (length ks) limit =
+      p ∙ ap (λ t. mostOf (t .1 .1 .1 .0) (t .1 .1 .1 .1 .0) (t .0) (t .1 .0) (t .1 .1 .0)) same in
       subst (λ (n : ℕ). countTold r ≤ n) (sym f)
       (subst (λ (z : Inversion). countTold z ≤ mostOf m how b (length ks) limit) (sym e) (inverse-bounded m how b y ks check limit ε))
 
--- q is what `most_evaluations` was asked: the basis, the number of knots, the limit, the rule of the ends and the method
 pub spline-inverse-by-most : Keeps spline_inverse_by.Learnt
-    (λ κs a z e. Keeps most_evaluations.Learnt
-    (λ κs′ q most e′. q ≡ (a .1 .0, (length (now (a .1 .1 .1 .0)), (a .0 .limit, (a .0 .ends, (a .0 .method, tt))))) → countTold z ≤ most))
-spline-inverse-by-most κs a z e p κs′ q most e′ p′ same =
-    within (a .0 .ends) (a .0 .method) (a .1 .0) (a .1 .1 .0) (now (a .1 .1 .1 .0)) (a .0 .check) (a .0 .limit) (a .0 .precision) z most p
-    (p′ ∙ ap (λ t. mostOf (t .1 .1 .1 .0) (t .1 .1 .1 .1 .0) (t .0) (t .1 .0) (t .1 .1 .0)) same)
+    (λ κs a z e. Within (a .0 .ends) (a .0 .method) (a .1 .0) (now (a .1 .1 .1 .0)) (a .0 .limit) z)
+spline-inverse-by-most κs a z e p =
+    within (a .0 .ends) (a .0 .method) (a .1 .0) (now (a .1 .1 .1 .0)) (a .0 .limit) (a .1 .1 .0) (a .0 .check) (a .0 .precision) z p
 
-pub spline-inverse-with-most : Keeps spline_inverse_with.Learnt
-    (λ κs a z e. Keeps most_evaluations.Learnt
-    (λ κs′ q most e′. q ≡ (a .0, (length (now (a .1 .1 .0)), (a .1 .1 .1 .1 .0, (Knots, (AsCrate, tt))))) → countTold z ≤ most))
-spline-inverse-with-most κs a z e p κs′ q most e′ p′ same =
-    within Knots AsCrate (a .0) (a .1 .0) (now (a .1 .1 .0)) (a .1 .1 .1 .0) (a .1 .1 .1 .1 .0) (a .1 .1 .1 .1 .1 .0) z most p
-    (p′ ∙ ap (λ t. mostOf (t .1 .1 .1 .0) (t .1 .1 .1 .1 .0) (t .0) (t .1 .0) (t .1 .1 .0)) same)
+pub spline-inverse-with-most : Keeps spline_inverse_with.Learnt (λ κs a z e. Within Knots AsCrate (a .0) (now (a .1 .1 .0)) (a .1 .1 .1 .1 .0) z)
+spline-inverse-with-most κs a z e p =
+    within Knots AsCrate (a .0) (now (a .1 .1 .0)) (a .1 .1 .1 .1 .0) (a .1 .0) (a .1 .1 .1 .0) (a .1 .1 .1 .1 .1 .0) z p
 
-pub spline-inverse-most : Keeps spline_inverse.Learnt
-    (λ κs a z e. Keeps most_evaluations.Learnt
-    (λ κs′ q most e′. q ≡ (a .0, (length (now (a .1 .1 .0)), (defaultLimit, (Knots, (AsCrate, tt))))) → countTold z ≤ most))
-spline-inverse-most κs a z e p κs′ q most e′ p′ same =
-    within Knots AsCrate (a .0) (a .1 .0) (now (a .1 .1 .0)) (a .1 .1 .1 .0) defaultLimit defaultPrecision z most p
-    (p′ ∙ ap (λ t. mostOf (t .1 .1 .1 .0) (t .1 .1 .1 .1 .0) (t .0) (t .1 .0) (t .1 .1 .0)) same)
+pub spline-inverse-most : Keeps spline_inverse.Learnt (λ κs a z e. Within Knots AsCrate (a .0) (now (a .1 .1 .0)) defaultLimit z)
+spline-inverse-most κs a z e p = within Knots AsCrate (a .0) (now (a .1 .1 .0)) defaultLimit (a .1 .0) (a .1 .1 .1 .0) defaultPrecision z p
 
-pub spline-inverse-steady-most : Keeps spline_inverse_steady.Learnt
-    (λ κs a z e. Keeps most_evaluations.Learnt
-    (λ κs′ q most e′. q ≡ (a .0, (length (now (a .1 .1 .0)), (steadyLimit, (Knots, (Steady, tt))))) → countTold z ≤ most))
-spline-inverse-steady-most κs a z e p κs′ q most e′ p′ same =
-    within Knots Steady (a .0) (a .1 .0) (now (a .1 .1 .0)) (a .1 .1 .1 .0) steadyLimit defaultPrecision z most p
-    (p′ ∙ ap (λ t. mostOf (t .1 .1 .1 .0) (t .1 .1 .1 .1 .0) (t .0) (t .1 .0) (t .1 .1 .0)) same)
+pub spline-inverse-steady-most : Keeps spline_inverse_steady.Learnt (λ κs a z e. Within Knots Steady (a .0) (now (a .1 .1 .0)) steadyLimit z)
+spline-inverse-steady-most κs a z e p = within Knots Steady (a .0) (now (a .1 .1 .0)) steadyLimit (a .1 .0) (a .1 .1 .1 .0) defaultPrecision z p
 
 -- ---- what others link: where it does not return 0 it writes nothing
 kept : (c : BasisChoice) (w : Way) (f : Basis → EndsBy → Method → ℕ) (old : ℕ) → NotZero (chosen c noBasis (λ b. way w noBasis (λ e m. 0)))
