@@ -15,5 +15,6 @@ pub mod strict;
 pub mod table;
 pub mod tally;
 pub mod uneven;
+pub mod valve;
 pub mod whole;
 pub mod wrapped;

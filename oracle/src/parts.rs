@@ -14,4 +14,4 @@ pub struct Part {
 }
 
 pub const PARTS: &[Part] =
-    &[crate::modes::PART, crate::strict::PART, crate::uneven::PART, crate::table::PART, crate::claims::PART, crate::stopped::PART];
+    &[crate::modes::PART, crate::strict::PART, crate::uneven::PART, crate::table::PART, crate::claims::PART, crate::stopped::PART, crate::valve::PART];

@@ -37,6 +37,7 @@ calls! {
     CheckClaim "check_claim",
     TableConvertSplineStrict "table_convert_spline_strict",
     Stopped "stopped",
+    Valve "valve",
 }
 
 impl Call {

@@ -1,11 +1,12 @@
 -- Nothing is listed exactly where the two tables are the same: basis, span and each knot's bits. Assumes nothing.
-use mathlib.Core.Path.{_≡_, refl, ap}
+use mathlib.Core.Path.{_≡_, refl, ap, _∙_}
 use mathlib.Core.Bool.{Bool, true, false, cond}
 use mathlib.Core.List.{List, [], _∷_, _++_}
 use Prim.Native.Nat.{ℕ, suc}
 use native.Mathlib.Omega.{arith}
 use borrow.Author.Tests.{eq-eqb, eqb-true}
 use lib.Dec.{eqb}
+use lib.ListN.{length}
 use Rattle.table_span.specs.declared.Table.{Table}
 use Rattle.compare.specs.Differences.{Difference, basis, span, knot, rankOf, basisDifference, spanDifference, knotsFrom, differencesOf, placesIn}
 use Rattle.compare.proofs.Listed.{rank-one}
@@ -63,3 +64,20 @@ module _ (t : Table) (ks : List ℕ) (u : Table) (ls : List ℕ) where
       go true false = refl
       go false true = refl
       go false false = refl
+
+-- each place that is not the same in both is one `knot` or one `only`, and each of these is counted
+knots-counted : (k : ℕ) (ks ls : List ℕ) → placesIn (knotsFrom k ks ls) ≡ length (knotsFrom k ks ls)
+unfolding knotsFrom placesIn
+knots-counted k [] [] = refl
+knots-counted k [] (b ∷ ls) = ap suc (knots-counted (suc k) [] ls)
+knots-counted k (a ∷ ks) [] = ap suc (knots-counted (suc k) ks [])
+knots-counted k (a ∷ ks) (b ∷ ls) = go (eqb a b)
+  where
+    go : (t : Bool) → placesIn (cond t (knotsFrom (suc k) ks ls) (knot k a b ∷ knotsFrom (suc k) ks ls))
+        ≡ length (cond t (knotsFrom (suc k) ks ls) (knot k a b ∷ knotsFrom (suc k) ks ls))
+    go true = knots-counted (suc k) ks ls
+    go false = ap suc (knots-counted (suc k) ks ls)
+
+-- so the number told is how many lines begin with `knot` or `only`
+pub lines-counted : (t : Table) (ks : List ℕ) (u : Table) (ls : List ℕ) → placesIn (differencesOf t ks u ls) ≡ length (knotsFrom 0 ks ls)
+lines-counted t ks u ls = places-counted t ks u ls ∙ knots-counted 0 ks ls

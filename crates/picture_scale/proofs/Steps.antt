@@ -53,9 +53,9 @@ module _ (k r : ℕ) (some : k ≡ 0 → ⊥) where
       z ∙ ap (λ x. stepOf x r) (sym before)
 
 -- ---- nothing stands outside the frame
-pub column-within : (i m : ℕ) → columnOf i m ≤ 9600
+pub column-within : (i m : ℕ) → (1000 ≤ columnOf i m) × (columnOf i m ≤ 9600)
 unfolding columnOf
-column-within i m = omega arith
+column-within i m = (omega arith, omega arith)
 
 pub row-within : (e : Extent) (h : ℕ) → rowOf e h ≤ 5400
 unfolding rowOf
