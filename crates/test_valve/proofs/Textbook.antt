@@ -150,16 +150,19 @@ of-all (suc n) t j h =
 all-four : (a b c d p q r s : ℕ) → T (eqb a p && (eqb b q && (eqb c r && eqb d s))) → (a ≡ p) × (b ≡ q) × (c ≡ r) × (d ≡ s)
 all-four a b c d p q r s t =
     let u = and-r (eqb a p) (eqb b q && (eqb c r && eqb d s)) t in
-    let v = and-r (eqb b q) (eqb c r && eqb d s) u in
-    (eqb→eq a p (and-l (eqb a p) (eqb b q && (eqb c r && eqb d s)) t), eqb→eq b q (and-l (eqb b q) (eqb c r && eqb d s) u),
-    eqb→eq c r (and-l (eqb c r) (eqb d s) v), eqb→eq d s (and-r (eqb c r) (eqb d s) v))
+    let v = and-r (eqb b q) (eqb c r && eqb d s) u in (
+      eqb→eq a p (and-l (eqb a p) (eqb b q && (eqb c r && eqb d s)) t),
+      eqb→eq b q (and-l (eqb b q) (eqb c r && eqb d s) u),
+      eqb→eq c r (and-l (eqb c r) (eqb d s) v),
+      eqb→eq d s (and-r (eqb c r) (eqb d s) v),
+    )
 
 of-step : (j : ℕ) → j ≤ 256 → Weighs (256 * 256 * 256) (256 * 256 * j) (256 * j * j) (j * j * j) (weightOf j 0) (weightOf j 1) (weightOf j 2) (weightOf j 3)
 unfolding weighs
 of-step j h =
     let t = all-four (weightOf j 0 + (3 * (256 * 256 * j) + j * j * j)) (weightOf j 1 + 6 * (256 * j * j)) (weightOf j 2 + 3 * (j * j * j)) (weightOf j 3)
-        (256 * 256 * 256 + 3 * (256 * j * j)) (4 * (256 * 256 * 256) + 3 * (j * j * j)) (256 * 256 * 256 + 3 * (256 * 256 * j) + 3 * (256 * j * j)) (j * j * j)
-        (of-all 256 tested j h) in
+    (256 * 256 * 256 + 3 * (256 * j * j)) (4 * (256 * 256 * 256) + 3 * (j * j * j)) (256 * 256 * 256 + 3 * (256 * 256 * j) + 3 * (256 * j * j)) (j * j * j)
+    (of-all 256 tested j h) in
     record { e0 = t .0; e1 = t .1; e2 = t .2; e3 = t .3 }
 
 -- ---- the sum
