@@ -29,16 +29,16 @@ use Rattle.promises_programs.proofs.There.{stateAfter, printedBy, print
 pub data ClaimsSoFar : LineReader → List ℕ → List Float → List ℕ → List ℕ → Type 0 where
   begun : (κs : _) (a : _) (z : _) (e : _) → begin.Learnt κs a z e → (line : List ℕ) (table : List Float) → ClaimsSoFar z line table [] []
   fed : (κs : _) (a : _) (z : _) (e : _) → feed.Learnt κs a z e → (x w : List ℕ) → ClaimsSoFar (a .0) (now (a .1 .1 .1 .0)) (now (a .1 .1 .1 .1 .0)) x w
-      → ClaimsSoFar (z .st) (now (e .1 .1 .1 .0)) (now (e .1 .1 .1 .1 .0)) (x ++ slice (a .1 .1 .0) (z .next) (now (a .1 .0))) (w ++ take (z .at) (now
-      (e .1 .1 .1 .1 .1 .1 .0)))
+      → ClaimsSoFar (z .st) (now (e .1 .1 .1 .0)) (now (e .1 .1 .1 .1 .0)) (x ++ slice (a .1 .1 .0) (z .next) (now (a .1 .0)))
+      (w ++ take (z .at) (now (e .1 .1 .1 .1 .1 .1 .0)))
 
 -- a whole run: the input is x, and all that the calls wrote, once the last has returned, is y
 pub data ClaimsRun : List ℕ → List ℕ → Type 0 where
   ended : (κs : _) (a : _) (z : _) (e : _) → finish.Learnt κs a z e → (x w : List ℕ) → ClaimsSoFar (a .0) (now (a .1 .0)) (now (a .1 .1 .0)) x w
       → ClaimsRun x (w ++ take z (now (e .1 .1 .1 .1 .0)))
 
-so-far : (st : LineReader) (line : List ℕ) (table : List Float) (x w : List ℕ) → ClaimsSoFar st line table x w → So claimsProgram none
-    (stateOf st line table) x w
+so-far : (st : LineReader) (line : List ℕ) (table : List Float) (x w : List ℕ) → ClaimsSoFar st line table x w
+    → So claimsProgram none (stateOf st line table) x w
 so-far st line table x w (begun κs a z e p line₀ table₀) = rw (p .0 line₀ table₀) (so-none claimsProgram none)
 so-far st line table x w (fed κs a z e p y v r) = so-fed claimsProgram (so-far _ _ _ y v r) (p .0)
 
@@ -50,8 +50,8 @@ claims-writes x y (ended κs a z e p v w r) = so-ended claimsProgram (so-far _ _
 -- where two runs take as many bytes of the chunk; how many that are is left to the room in `out`
 pub claims-feed-one-reply : OneReply feed.Learnt
     (λ κs z e z′ e′. z .next ≡ z′ .next
-    → (z .at ≡ z′ .at) × (now (e .1 .1 .1 .1 .1 .1 .0) ≡ now (e′ .1 .1 .1 .1 .1 .1 .0)) × (stateOf (z .st) (now (e .1 .1 .1 .0)) (now
-    (e .1 .1 .1 .1 .0)) ≡ stateOf (z′ .st) (now (e′ .1 .1 .1 .0)) (now (e′ .1 .1 .1 .1 .0))))
+    → (z .at ≡ z′ .at) × (now (e .1 .1 .1 .1 .1 .1 .0) ≡ now (e′ .1 .1 .1 .1 .1 .1 .0))
+    × (stateOf (z .st) (now (e .1 .1 .1 .0)) (now (e .1 .1 .1 .1 .0)) ≡ stateOf (z′ .st) (now (e′ .1 .1 .1 .0)) (now (e′ .1 .1 .1 .1 .0))))
 claims-feed-one-reply κs a z z′ e e′ p q n = fed-one claimsProgram (ap (λ (i : ℕ). slice (a .1 .1 .0) i (now (a .1 .0))) n) (p .0) (q .0)
 
 pub claims-finish-one-reply : OneReply finish.Learnt (λ κs z e z′ e′. (z ≡ z′) × (now (e .1 .1 .1 .1 .0) ≡ now (e′ .1 .1 .1 .1 .0)))

@@ -27,19 +27,19 @@ use Rattle.promises_programs.proofs.There.{one, wrote-one, fed-one}
 -- its calls one after another, each as its contract tells: of the input the bytes x were taken, and the bytes w written
 pub data CompareSoFar : CompareReader → List ℕ → List ℕ → List ℕ → List ℕ → List ℕ → Type 0 where
   begun : (κs : _) (a : _) (z : _) (e : _) → begin.Learnt κs a z e → (line old new : List ℕ) → CompareSoFar z line old new [] []
-  fed : (κs : _) (a : _) (z : _) (e : _) → feed.Learnt κs a z e → (x w : List ℕ) → CompareSoFar (a .0) (now (a .1 .1 .1 .0)) (now (a .1 .1 .1 .1 .0))
-      (now (a .1 .1 .1 .1 .1 .0)) x w
-      → CompareSoFar (z .st) (now (e .1 .1 .1 .0)) (now (e .1 .1 .1 .1 .0)) (now (e .1 .1 .1 .1 .1 .0)) (x ++ slice (a .1 .1 .0) (z .next) (now
-      (a .1 .0))) (w ++ take (z .at) (now (e .1 .1 .1 .1 .1 .1 .0)))
+  fed : (κs : _) (a : _) (z : _) (e : _) → feed.Learnt κs a z e → (x w : List ℕ)
+      → CompareSoFar (a .0) (now (a .1 .1 .1 .0)) (now (a .1 .1 .1 .1 .0)) (now (a .1 .1 .1 .1 .1 .0)) x w
+      → CompareSoFar (z .st) (now (e .1 .1 .1 .0)) (now (e .1 .1 .1 .1 .0)) (now (e .1 .1 .1 .1 .1 .0)) (x ++ slice (a .1 .1 .0) (z .next) (now (a .1 .0)))
+      (w ++ take (z .at) (now (e .1 .1 .1 .1 .1 .1 .0)))
 
 -- a whole run: the input is x, and all that the calls wrote, once the last has returned, is y
 pub data CompareRun : List ℕ → List ℕ → Type 0 where
-  ended : (κs : _) (a : _) (z : _) (e : _) → finish.Learnt κs a z e → (x w : List ℕ) → CompareSoFar (a .0) (now (a .1 .0)) (now (a .1 .1 .0)) (now
-      (a .1 .1 .1 .0)) x w
+  ended : (κs : _) (a : _) (z : _) (e : _) → finish.Learnt κs a z e → (x w : List ℕ)
+      → CompareSoFar (a .0) (now (a .1 .0)) (now (a .1 .1 .0)) (now (a .1 .1 .1 .0)) x w
       → CompareRun x (w ++ take z (now (e .1 .1 .1 .1 .0)))
 
-so-far : (st : CompareReader) (line old new : List ℕ) (x w : List ℕ) → CompareSoFar st line old new x w → So compareProgram (before none)
-    (stateOf st line old new) x w
+so-far : (st : CompareReader) (line old new : List ℕ) (x w : List ℕ) → CompareSoFar st line old new x w
+    → So compareProgram (before none) (stateOf st line old new) x w
 so-far st line old new x w (begun κs a z e p line₀ old₀ new₀) = rw (p .0 line₀ old₀ new₀) (so-none compareProgram (before none))
 so-far st line old new x w (fed κs a z e p y v r) = so-fed compareProgram (so-far _ _ _ _ y v r) (p .0)
 
@@ -54,8 +54,9 @@ compare-begin-one-reply κs a z z′ e e′ p q line old new = one (p .0 line ol
 -- where two runs take as many bytes of the chunk; how many that are is left to the room in `out`
 pub compare-feed-one-reply : OneReply feed.Learnt
     (λ κs z e z′ e′. z .next ≡ z′ .next
-    → (z .at ≡ z′ .at) × (now (e .1 .1 .1 .1 .1 .1 .0) ≡ now (e′ .1 .1 .1 .1 .1 .1 .0)) × (stateOf (z .st) (now (e .1 .1 .1 .0)) (now
-    (e .1 .1 .1 .1 .0)) (now (e .1 .1 .1 .1 .1 .0)) ≡ stateOf (z′ .st) (now (e′ .1 .1 .1 .0)) (now (e′ .1 .1 .1 .1 .0)) (now (e′ .1 .1 .1 .1 .1 .0))))
+    → (z .at ≡ z′ .at) × (now (e .1 .1 .1 .1 .1 .1 .0) ≡ now (e′ .1 .1 .1 .1 .1 .1 .0))
+    × (stateOf (z .st) (now (e .1 .1 .1 .0)) (now (e .1 .1 .1 .1 .0)) (now (e .1 .1 .1 .1 .1 .0))
+    ≡ stateOf (z′ .st) (now (e′ .1 .1 .1 .0)) (now (e′ .1 .1 .1 .1 .0)) (now (e′ .1 .1 .1 .1 .1 .0))))
 compare-feed-one-reply κs a z z′ e e′ p q n = fed-one compareProgram (ap (λ (i : ℕ). slice (a .1 .1 .0) i (now (a .1 .0))) n) (p .0) (q .0)
 
 pub compare-finish-one-reply : OneReply finish.Learnt (λ κs z e z′ e′. (z ≡ z′) × (now (e .1 .1 .1 .1 .0) ≡ now (e′ .1 .1 .1 .1 .0)))

@@ -42,8 +42,8 @@ decimals-begin-one-reply κs a z z′ e e′ p q line = one (p line) (q line)
 -- where two runs take as many bytes of the chunk; how many that are is left to the room in `out`
 pub decimals-feed-one-reply : OneReply feed.Learnt
     (λ κs z e z′ e′. z .next ≡ z′ .next
-    → (z .at ≡ z′ .at) × (now (e .1 .1 .1 .1 .0) ≡ now (e′ .1 .1 .1 .1 .0)) × (stateOf (z .len) (now (e .1 .1 .1 .0)) ≡ stateOf (z′ .len) (now
-    (e′ .1 .1 .1 .0))))
+    → (z .at ≡ z′ .at) × (now (e .1 .1 .1 .1 .0) ≡ now (e′ .1 .1 .1 .1 .0))
+    × (stateOf (z .len) (now (e .1 .1 .1 .0)) ≡ stateOf (z′ .len) (now (e′ .1 .1 .1 .0))))
 decimals-feed-one-reply κs a z z′ e e′ p q n = fed-one decimalsProgram (ap (λ (i : ℕ). slice (a .1 .1 .0) i (now (a .1 .0))) n) (p .0) (q .0)
 
 pub decimals-finish-one-reply : OneReply finish.Learnt (λ κs z e z′ e′. (z ≡ z′) × (now (e .1 .1 .0) ≡ now (e′ .1 .1 .0)))

@@ -23,16 +23,16 @@ use Rattle.promises_programs.proofs.There.{stateAfter, printedBy, print
 pub data LinesSoFar : LineReader → List ℕ → List Float → List ℕ → List ℕ → Type 0 where
   begun : (κs : _) (a : _) (z : _) (e : _) → begin.Learnt κs a z e → (line : List ℕ) (table : List Float) → LinesSoFar z line table [] []
   fed : (κs : _) (a : _) (z : _) (e : _) → feed.Learnt κs a z e → (x w : List ℕ) → LinesSoFar (a .0) (now (a .1 .1 .1 .0)) (now (a .1 .1 .1 .1 .0)) x w
-      → LinesSoFar (z .st) (now (e .1 .1 .1 .0)) (now (e .1 .1 .1 .1 .0)) (x ++ slice (a .1 .1 .0) (z .next) (now (a .1 .0))) (w ++ take (z .at) (now
-      (e .1 .1 .1 .1 .1 .1 .0)))
+      → LinesSoFar (z .st) (now (e .1 .1 .1 .0)) (now (e .1 .1 .1 .1 .0)) (x ++ slice (a .1 .1 .0) (z .next) (now (a .1 .0)))
+      (w ++ take (z .at) (now (e .1 .1 .1 .1 .1 .1 .0)))
 
 -- a whole run: the input is x, and all that the calls wrote, once the last has returned, is y
 pub data LinesRun : List ℕ → List ℕ → Type 0 where
   ended : (κs : _) (a : _) (z : _) (e : _) → finish.Learnt κs a z e → (x w : List ℕ) → LinesSoFar (a .0) (now (a .1 .0)) (now (a .1 .1 .0)) x w
       → LinesRun x (w ++ take z (now (e .1 .1 .1 .1 .0)))
 
-so-far : (st : LineReader) (line : List ℕ) (table : List Float) (x w : List ℕ) → LinesSoFar st line table x w → So lineProgram none
-    (stateOf st line table) x w
+so-far : (st : LineReader) (line : List ℕ) (table : List Float) (x w : List ℕ) → LinesSoFar st line table x w
+    → So lineProgram none (stateOf st line table) x w
 so-far st line table x w (begun κs a z e p line₀ table₀) = rw (p .0 line₀ table₀) (so-none lineProgram none)
 so-far st line table x w (fed κs a z e p y v r) = so-fed lineProgram (so-far _ _ _ y v r) (p .0)
 
@@ -47,8 +47,8 @@ lines-begin-one-reply κs a z z′ e e′ p q line table = one (p .0 line table)
 -- where two runs take as many bytes of the chunk; how many that are is left to the room in `out`
 pub lines-feed-one-reply : OneReply feed.Learnt
     (λ κs z e z′ e′. z .next ≡ z′ .next
-    → (z .at ≡ z′ .at) × (now (e .1 .1 .1 .1 .1 .1 .0) ≡ now (e′ .1 .1 .1 .1 .1 .1 .0)) × (stateOf (z .st) (now (e .1 .1 .1 .0)) (now
-    (e .1 .1 .1 .1 .0)) ≡ stateOf (z′ .st) (now (e′ .1 .1 .1 .0)) (now (e′ .1 .1 .1 .1 .0))))
+    → (z .at ≡ z′ .at) × (now (e .1 .1 .1 .1 .1 .1 .0) ≡ now (e′ .1 .1 .1 .1 .1 .1 .0))
+    × (stateOf (z .st) (now (e .1 .1 .1 .0)) (now (e .1 .1 .1 .1 .0)) ≡ stateOf (z′ .st) (now (e′ .1 .1 .1 .0)) (now (e′ .1 .1 .1 .1 .0))))
 lines-feed-one-reply κs a z z′ e e′ p q n = fed-one lineProgram (ap (λ (i : ℕ). slice (a .1 .1 .0) i (now (a .1 .0))) n) (p .0) (q .0)
 
 pub lines-finish-one-reply : OneReply finish.Learnt (λ κs z e z′ e′. (z ≡ z′) × (now (e .1 .1 .1 .1 .0) ≡ now (e′ .1 .1 .1 .1 .0)))

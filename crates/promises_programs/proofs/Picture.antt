@@ -28,8 +28,8 @@ pub data PictureRun : List ℕ → List ℕ → Type 0 where
   ended : (κs : _) (a : _) (z : _) (e : _) → finish.Learnt κs a z e → (x w : List ℕ) → PictureSoFar (a .0) (now (a .1 .0)) (now (a .1 .1 .0)) x w
       → PictureRun x (w ++ take z (now (e .1 .1 .1 .1 .0)))
 
-so-far : (st : PictureReader) (line : List ℕ) (table : List Float) (x w : List ℕ) → PictureSoFar st line table x w → So pictureProgram nothingDrawn
-    (stateOf st line table) x w
+so-far : (st : PictureReader) (line : List ℕ) (table : List Float) (x w : List ℕ) → PictureSoFar st line table x w
+    → So pictureProgram nothingDrawn (stateOf st line table) x w
 so-far st line table x w (begun κs a z e p line₀ table₀) = rw (p .0 line₀ table₀) (so-none pictureProgram nothingDrawn)
 so-far st line table x w (fed κs a z e p y v r) = so-fed pictureProgram (so-far _ _ _ y v r) (p .0)
 

@@ -36,8 +36,8 @@ pub data SheetRun : List ℕ → List ℕ → Type 0 where
   ended : (κs : _) (a : _) (z : _) (e : _) → finish.Learnt κs a z e → (x w : List ℕ) → SheetSoFar (a .0) (now (a .1 .0)) (now (a .1 .1 .0)) x w
       → SheetRun x (w ++ take z (now (e .1 .1 .1 .0)))
 
-so-far : (st : SheetReader) (line : List ℕ) (table : List Float) (x w : List ℕ) → SheetSoFar st line table x w → So sheetProgram unbegun
-    (stateOf st line table) x w
+so-far : (st : SheetReader) (line : List ℕ) (table : List Float) (x w : List ℕ) → SheetSoFar st line table x w
+    → So sheetProgram unbegun (stateOf st line table) x w
 so-far st line table x w (begun κs a z e p line₀ table₀) = rw (p .0 line₀ table₀) (so-none sheetProgram unbegun)
 so-far st line table x w (fed κs a z e p y v r) = so-fed sheetProgram (so-far _ _ _ y v r) (p .0)
 
