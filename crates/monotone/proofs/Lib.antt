@@ -7,6 +7,7 @@ pub mod Through
 pub mod Mirror
 pub mod Climbing
 pub mod Kept
+pub mod Back
 pub mod Agrees
 pub mod Words
 pub mod Doubles

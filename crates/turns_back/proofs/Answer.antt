@@ -243,14 +243,26 @@ lower-in b z r e = go (startsNoLower b z r) refl e
     go true p q = within b z r (falls (coefficient b z r 0) (coefficient b z r 1) (coefficient b z r 2) (coefficient b z r 3) q)
     go false p q = over-seam b z r p
 
-pub turns-somewhere : (b : Basis) (t : Bool) (z : List ℤ) (r : ℕ) → turnsBackByOf b t z ≡ At r → Against b t z r
+-- the segment that is told does not pass the test
+pub falls-at : (b : Basis) (t : Bool) (z : List ℤ) (r : ℕ) → turnsBackByOf b t z ≡ At r → segmentNeverFalls b (turnedAll t z) r ≡ false
 unfolding turnsBackByOf turningOf firstFall
-turns-somewhere b t z r e =
+falls-at b t z r e =
     let k = segmentsOf b (length z) in
     let y = turnedAll t z in
     let h = told-down (first (turningUses b z)) (firstFall b y) k r e in
-    let q : k ≡ segmentsOf b (length y) = ap (λ (m : ℕ). segmentsOf b m) (sym (turned-long t z)) in
-    let w = lower-in b y r (one b y k q (h .1) r (h .0)) in
+    one b y k (ap (λ (m : ℕ). segmentsOf b m) (sym (turned-long t z))) (h .1) r (h .0)
+  where
+    one : (b : Basis) (y : List ℤ) (k : ℕ) → k ≡ segmentsOf b (length y) → firstFall b y < k → (r : ℕ) → firstFall b y ≡ r → segmentNeverFalls b y r ≡ false
+    one b y k q h r p =
+        let h′ : fallsFrom b y 0 k < 0 + k = subst (λ (m : ℕ). fallsFrom b y 0 m < 0 + k) (sym q) (omega (arith, h)) in
+        let f = one-falls b y k 0 h′ in
+        subst (λ (v : ℕ). segmentNeverFalls b y v ≡ false) (ap (λ (m : ℕ). fallsFrom b y 0 m) q ∙ p) f
+
+pub turns-somewhere : (b : Basis) (t : Bool) (z : List ℤ) (r : ℕ) → turnsBackByOf b t z ≡ At r → Against b t z r
+unfolding turnsBackByOf turningOf
+turns-somewhere b t z r e =
+    let h = told-down (first (turningUses b z)) (firstFall b (turnedAll t z)) (segmentsOf b (length z)) r e in
+    let w = lower-in b (turnedAll t z) r (falls-at b t z r e) in
     record {
       s = w .s;
       n = w .n;
@@ -263,12 +275,6 @@ turns-somewhere b t z r e =
       order = w .order;
       wrong = against t b z (w .s) (w .n) (w .j) r (w .n′) (w .j′) (w .n′ * w .n′ * w .n′) (w .n * w .n * w .n) (w .lower);
     }
-  where
-    one : (b : Basis) (y : List ℤ) (k : ℕ) → k ≡ segmentsOf b (length y) → firstFall b y < k → (r : ℕ) → firstFall b y ≡ r → segmentNeverFalls b y r ≡ false
-    one b y k q h r p =
-        let h′ : fallsFrom b y 0 k < 0 + k = subst (λ (m : ℕ). fallsFrom b y 0 m < 0 + k) (sym q) (omega (arith, h)) in
-        let f = one-falls b y k 0 h′ in
-        subst (λ (v : ℕ). segmentNeverFalls b y v ≡ false) (ap (λ (m : ℕ). fallsFrom b y 0 m) q ∙ p) f
 
 -- ---- the numbers of the statements
 -- 256 parts: the cubic that evaluation comes to without rounding on whole knots
