@@ -1,5 +1,5 @@
 /* The stored answers of crates/test_replay, on standard input, through the archive and this header: every reply, every bit of every double, every
- * whole number. README.md of that crate says what a line holds. The lines m and n go through the header's two structs. Exits with 1 where one
+ * whole number. README.md of that crate says what a line holds. The lines m, n and q go through the header's structs. Exits with 1 where one
  * differs. */
 #include "simmerstoat.h"
 
@@ -15,6 +15,7 @@ IS(DONE, 0); IS(TOO_FEW, 1); IS(BAD_PATTERN, 2); IS(TOO_MANY, 3); IS(BAD_KNOT, 4
 IS(NO_ROUNDS, 7); IS(LINEAR_OUTPUT, 8); IS(SHORT_BUFFER, 9); IS(TURNS_BACK, 10); IS(OFF_CURVE, 11); IS(BAD_LINE, 12); IS(BAD_SHEET, 13);
 IS(BAD_SPAN, 14); IS(LOST_SEAM, 15); IS(BAD_STEP, 16); IS(BAD_ALLOWANCE, 17); IS(UNEQUAL_SEGMENTS, 18); IS(NO_SEGMENT, 19);
 IS(NO_COMPARISON, 20); IS(NO_BASIS, 255);
+IS(JOB_FLAT, 1); IS(JOB_BEFORE, 2); IS(JOB_NOT_BEGUN, 3); IS(JOB_UNDER_WAY, 4); IS(JOB_DONE, 5); IS(JOB_BEYOND, 6);
 
 enum { WORDS = 64, TABLE = 4200, LINE = 70 * 17 };
 
@@ -102,6 +103,15 @@ static bool same_place(bool fourth) {
            whole[SIMMERSTOAT_COUNT] == w[12] && (!fourth || whole[3] == w[16]);
 }
 
+/* a stopped job goes through the header's struct, whose job is 0 on a refusal */
+static bool same_job(void) {
+    struct simmerstoat_job j;
+    memset(&j, 0, sizeof j);
+    reply = simmerstoat_job_at((uint8_t)w[0], (uint32_t)w[15], of(w[1]), table, knots, w[2] == 1, &j);
+    told(j.place), whole[SIMMERSTOAT_SECOND] = j.second;
+    return same_place(true) && j.job == w[13];
+}
+
 static bool is_equal(char letter) {
     const uint8_t b = (uint8_t)w[0];
     reply = 12345, value = 0, holds = false, written = 0, handed = 0;
@@ -118,6 +128,7 @@ static bool is_equal(char letter) {
     case 'f': case 'g': convert(letter); return same_output(w + 4) && (reply != 0 || handed == (uint32_t)w[3]);
     case 'h': invert(letter); return same_place(true) && (reply != 0 || bits(value) == w[15]);
     case 'w': case 'x': case 'y': invert(letter); return same_place(true);
+    case 'q': return same_job();
     default: invert(letter); return same_place(false);
     }
     return reply == w[2] && (reply != 0 || bits(value) == w[3]);

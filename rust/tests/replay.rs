@@ -4,6 +4,7 @@
 
 use core::num::NonZeroU16;
 use simmerstoat::claim::check_claim;
+use simmerstoat::job::Job;
 use simmerstoat::prelude::*;
 use simmerstoat::table::Table;
 use simmerstoat::uneven::{depth_at_with, WhichTable};
@@ -133,6 +134,21 @@ fn timed(letter: char, w: &[u64], knots: &[f64]) -> Option<bool> {
     Some(same_place(&of_place(told.map(|t| t.place)), w) && told.map_or(true, |t| t.second as u64 == w[16]))
 }
 
+/// What is said of a stopped job, 0 for a refusal; where it is under way, its place and second.
+fn job(w: &[u64], knots: &[f64]) -> Option<bool> {
+    let told = over!(w[0], B, Table::<B>::new(w[15] as u32).stopped(f64::from_bits(w[1]), knots, w[2] == 1))?;
+    let (said, same) = match told {
+        Err(refusal) => (0, same_place(&of_place(Err(refusal)), w)),
+        Ok(Job::Flat) => (1, w[5] == 0),
+        Ok(Job::Before) => (2, w[5] == 0),
+        Ok(Job::NotBegun) => (3, w[5] == 0),
+        Ok(Job::UnderWay { second, place }) => (4, same_place(&of_place(Ok(place)), w) && second as u64 == w[16]),
+        Ok(Job::Done) => (5, w[5] == 0),
+        Ok(Job::Beyond) => (6, w[5] == 0),
+    };
+    Some(said == w[13] && same)
+}
+
 /// The depths' refusals have the highest bit set.
 fn depth(w: &[u64], knots: &[f64]) -> Option<bool> {
     let y = f64::from_bits(w[1]);
@@ -180,6 +196,7 @@ fn equal(letter: char, w: &[u64], knots: &[f64]) -> Option<bool> {
         }
         'c' | 'd' | 'e' | 'f' | 'g' => conversion(letter, w, knots),
         'h' => depth(w, knots),
+        'q' => job(w, knots),
         'w' | 'x' | 'y' => timed(letter, w, knots),
         _ => inversion(letter, w, knots),
     }

@@ -1,4 +1,4 @@
--- A depth that is at neither end and outside neither is one of which the end rule is silent: so what is said of it is what the search answers.
+-- Equal doubles either way round; a depth that is at neither end and outside neither is one of which the end rule is silent; the code's tests one by one.
 -- Assumes nothing.
 use mathlib.Core.Path.{_≡_, refl, sym, ap, _∙_, subst}
 use mathlib.Core.Bool.{Bool, true, false, cond, _||_, _&&_, Bool·beq}
@@ -13,20 +13,11 @@ use Rattle.basis.specs.declared.Basis.{Basis}
 use Rattle.basis.specs.Basis.{segmentsOf}
 use Rattle.doubles.proofs.Tests.{fails}
 use Rattle.inverse.specs.declared.Ends.{Ends}
-use Rattle.inverse.specs.Contract.{SearchedIs}
-use Rattle.inverse.specs.Curve.{located}
 use Rattle.inverse.specs.EndRule.{atLow, atHigh, curveRule}
-use Rattle.inverse.proofs.Glue.{located-searched}
-use Rattle.inverse_segment.specs.declared.Method.the-variants.{Steady}
-use Rattle.inverse_segment.specs.Method.{steadyLimit}
-use Rattle.inverse_segment.specs.Steady.{steady}
-use Rattle.inverse_segment.specs.declared.Inversion.{Inversion}
-use Rattle.inverse_segment.specs.Answer.{defaultPrecision}
 use Rattle.spline.specs.Segment.{segmentOf}
 use Rattle.stopped.specs.declared.Job.{Job}
 use Rattle.stopped.specs.declared.Job.the-variants.{Flat, Before, Start, End, Beyond}
 use Rattle.stopped.specs.Stopped.{endsOf, isBefore, isBeyond, between, saidOf}
-use Rattle.table.specs.Calls.{timedOf}
 use Rattle.table.specs.declared.TableInversion.{TableInversion}
 
 -- ---- equal doubles, either way round
@@ -80,49 +71,30 @@ not-high e y a b = go (e .rising) b
     go true b = not-at-most (e .high) y (unequal y (e .high) a) b
     go false b = not-at-most y (e .high) a b
 
--- ---- the code's tests are those of the definition; e is what `curve_ends` answers of the k segments
-module _ (b : Basis) (ks : List Float) (y : Float) (span : ℕ) {k : ℕ} (q : k ≡ segmentsOf b (length ks)) {e : Ends}
+-- ---- the code's tests are those of the definition; e is what `curve_ends` answers of the k segments, x what the inversion found
+module _ (b : Basis) (ks : List Float) (y : Float) (x : TableInversion) {k : ℕ} (q : k ≡ segmentsOf b (length ks)) {e : Ends}
     (h : e ≡ curveRule (segmentOf b ks) k .ends) where
-  abbrev found : TableInversion
-  found =
-      timedOf span
-      (located steady (endsOf b ks) (curveRule (segmentOf b ks) (segmentsOf b (length ks)) .made) (segmentOf b ks) (segmentsOf b (length ks)) y
-      defaultPrecision steadyLimit)
+  by-ends : {j : Job} → j ≡ saidOf e y x → j ≡ saidOf (endsOf b ks) y x
+  by-ends p = p ∙ ap (λ (z : Ends). saidOf z y x) (h ∙ ap (λ (z : ℕ). curveRule (segmentOf b ks) z .ends) q)
 
-  ends-are : e ≡ endsOf b ks
-  ends-are = h ∙ ap (λ (z : ℕ). curveRule (segmentOf b ks) z .ends) q
-
-  by-ends : {j : Job} → j ≡ saidOf e y found → j ≡ saidOf (endsOf b ks) y found
-  by-ends p = p ∙ ap (λ (z : Ends). saidOf z y found) ends-are
-
-  pub said-flat : eq (e .low) (e .high) ≡ true → Flat ≡ saidOf (endsOf b ks) y found
+  pub said-flat : eq (e .low) (e .high) ≡ true → Flat ≡ saidOf (endsOf b ks) y x
   said-flat a = by-ends (simp a)
 
   module _ (a : eq (e .low) (e .high) ≡ false) where
-    pub said-start : eq y (e .low) ≡ true → Start ≡ saidOf (endsOf b ks) y found
+    pub said-start : eq y (e .low) ≡ true → Start ≡ saidOf (endsOf b ks) y x
     said-start c = by-ends (simp (a, c))
 
     module _ (c : eq y (e .low) ≡ false) where
-      pub said-end : eq y (e .high) ≡ true → End ≡ saidOf (endsOf b ks) y found
+      pub said-end : eq y (e .high) ≡ true → End ≡ saidOf (endsOf b ks) y x
       said-end d = by-ends (simp (a, c, d))
 
       module _ (d : eq y (e .high) ≡ false) where
-        pub said-before : isBefore e y ≡ true → Before ≡ saidOf (endsOf b ks) y found
+        pub said-before : isBefore e y ≡ true → Before ≡ saidOf (endsOf b ks) y x
         said-before f = by-ends (simp (a, c, d, f))
 
         module _ (f : isBefore e y ≡ false) where
-          pub said-beyond : isBeyond e y ≡ true → Beyond ≡ saidOf (endsOf b ks) y found
+          pub said-beyond : isBeyond e y ≡ true → Beyond ≡ saidOf (endsOf b ks) y x
           said-beyond g = by-ends (simp (a, c, d, f, g))
 
-          pub said-between : isBeyond e y ≡ false → {i : Inversion} {j : Job}
-              → SearchedIs Steady b y ks steadyLimit defaultPrecision (e .rising) k 2 i → j ≡ between (timedOf span i)
-              → j ≡ saidOf (endsOf b ks) y found
-          said-between g {i} {j} s r =
-              let G = segmentOf b ks in
-              let ev = curveRule G k .made in
-              let p : i ≡ located steady (endsOf b ks) (curveRule G (segmentsOf b (length ks)) .made) G (segmentsOf b (length ks)) y defaultPrecision
-              steadyLimit =
-              located-searched steady e ev G k y defaultPrecision steadyLimit (not-low e y c f) (not-high e y d g) (s ev refl)
-              ∙ ap (λ (z : Ends). located steady z ev G k y defaultPrecision steadyLimit) ends-are
-              ∙ ap (λ (z : ℕ). located steady (endsOf b ks) (curveRule G z .made) G z y defaultPrecision steadyLimit) q in
-              by-ends (r ∙ ap (λ (z : Inversion). between (timedOf span z)) p ∙ simp (a, c, d, f, g))
+          pub said-between : isBeyond e y ≡ false → {j : Job} → j ≡ between x → j ≡ saidOf (endsOf b ks) y x
+          said-between g r = by-ends (r ∙ simp (a, c, d, f, g))

@@ -3,3 +3,4 @@ pub mod Call
 pub mod Between
 pub mod Which
 pub mod Stops
+pub mod Decides

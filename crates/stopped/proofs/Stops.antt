@@ -1,6 +1,6 @@
 -- What is promised of a job that is under way: its place is the inversion's, which keeps all that an inversion keeps, and since the depth is at neither end a
--- segment was entered. And the evaluations: the call makes those of that inversion, which are the curve's two ends alone wherever nothing is searched; so two
--- tables that agree there get one answer. Assumes nothing.
+-- segment was entered. And the evaluations: those of that inversion, which are the curve's two ends alone wherever nothing is searched; so two tables that
+-- agree there get one answer. Assumes nothing.
 use mathlib.Core.Path.{_≡_, refl, sym, ap, _∙_, subst}
 use mathlib.Core.Logic.{inl, inr}
 use mathlib.Core.Bool.{Bool, true, false, not, cond}
@@ -81,7 +81,7 @@ module _ (t : Table) (y : Float) (ks : List Float) (check : Bool) where
   timed : Passes t y ks check → inversion t y ks check ≡ timedOf (t .span) answer
   timed e = inverse-base Curve Steady t y ks check steadyLimit defaultPrecision (span-good t y ks check e)
 
-  -- the evaluations that the call makes
+  -- the evaluations of the inversion that the call makes; where it answers by its end rule the call makes them once more
   abbrev pub listed : Evaluations
   listed = evaluationsBy Curve Steady b y ks check steadyLimit defaultPrecision
 

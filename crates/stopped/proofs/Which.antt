@@ -115,7 +115,7 @@ module _ (t : Table) (y : Float) (ks : List Float) (check : Bool) where
   depth-number e = fails (admits e .number)
 
   -- ---- the answer past the rows
-  abbrev past : Job
+  abbrev pub past : Job
   past = saidOf ends y inversion
 
   abbrev Tests : Job → Type 0
@@ -173,7 +173,7 @@ module _ (t : Table) (y : Float) (ks : List Float) (check : Bool) where
       go (Failed r) e = subst Says (sym (q ∙ failed r e)) (first-sound rows (badSpan (t .span) ∷ stoppedUses t y ks check) r e)
 
   -- ---- and everywhere there
-  quiet : T (isBetween ends y) → past ≡ between inversion
+  pub quiet : T (isBetween ends y) → past ≡ between inversion
   quiet h = let w = between-alone ends y h in simp (w .0, w .1, w .2, w .3, w .4)
 
   beyond-past : (eq y (ends .low) ≡ false) × (eq y (ends .high) ≡ false) × (isBefore ends y ≡ false) → flat ≡ false → isBeyond ends y ≡ true → past ≡ Beyond

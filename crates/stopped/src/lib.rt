@@ -3,23 +3,17 @@ ghost use mathlib.Core.Path.{_≡_};
 ghost use mathlib.Core.Bool.{true, false};
 ghost use Prim.Native.Nat.{_≤_};
 ghost use lib.ListN.{length};
-ghost use lib.Ieee.{isNan};
-ghost use Rattle.basis.specs.Basis.{segmentsOf};
-ghost use Rattle.checks.specs.Checks.{allInRange};
-ghost use Rattle.inverse.specs.Curve.{located};
-ghost use Rattle.inverse.specs.EndRule.{curveRule};
-ghost use Rattle.inverse_segment.specs.Method.{steadyLimit};
-ghost use Rattle.inverse_segment.specs.Steady.{steady};
-ghost use Rattle.inverse_segment.specs.Answer.{defaultPrecision};
-ghost use Rattle.spline.specs.Segment.{segmentOf};
+ghost use Rattle.stopped.specs.Contract.{isEnd, byEnd};
 ghost use Rattle.stopped.specs.Stopped.{endsOf, isBefore, isBeyond, between, saidOf, stoppedOf};
 ghost use Rattle.table.specs.Calls.{timedOf};
 ghost use Rattle.table_span.specs.Second.{goodSpan};
 use basis::Basis;
 use error::Refusal;
-use error::Verdict;
 use inverse::Ends;
+use inverse::Options;
+use inverse_order::EndsBy;
 use inverse_segment::DEFAULT_PRECISION;
+use inverse_segment::Ground;
 use inverse_segment::Inversion;
 use inverse_segment::Method;
 use inverse_segment::Place;
@@ -63,16 +57,38 @@ fn found(span: u32, i: Inversion) -> Job
     }
 }
 
-// Where no row refuses: the ends are evaluated once, for what they say by themselves and for the search between them.
-fn said(b: Basis, span: u32, y: f64, knots: &[f64]) -> Job
+fn is_end(g: Ground) -> bool
+    ensures { λ r. ⌜ r ≡ isEnd g ⌝ }
+{
+    match g {
+        Ground::End => true,
+        Ground::Edge => false,
+        Ground::Value => false,
+        Ground::Width => false,
+        Ground::Spent => false,
+    }
+}
+
+// Whether the inversion answered by its end rule, and so did not search.
+fn is_by_end(i: Inversion) -> bool
+    ensures { λ r. ⌜ r ≡ byEnd i ⌝ }
+{
+    match i {
+        Inversion::Refused(_) => false,
+        Inversion::OffCurve(_) => false,
+        Inversion::At(p) => {
+            let g = p.ground;
+            is_end(g)
+        }
+    }
+}
+
+// Where the end rule answered: which of its cases it was, by the ends, which are evaluated again.
+fn said(b: Basis, span: u32, y: f64, knots: &[f64], i: Inversion) -> Job
     requires span { ⌜ goodSpan span ≡ true ⌝ }
     requires enough { ⌜ 4 ≤ length (now knots) ⌝ }
     requires most { ⌜ length (now knots) ≤ 4096 ⌝ }
-    requires number { ⌜ isNan y ≡ false ⌝ }
-    requires range { ⌜ allInRange (now knots) ≡ true ⌝ }
-    ensures { λ r. ⌜ r ≡ saidOf (endsOf b (now (knots .entry))) y (timedOf span (located steady (endsOf b (now (knots .entry)))
-        (curveRule (segmentOf b (now (knots .entry))) (segmentsOf b (length (now (knots .entry)))) .made)
-        (segmentOf b (now (knots .entry))) (segmentsOf b (length (now (knots .entry)))) y defaultPrecision steadyLimit)) ⌝ }
+    ensures { λ r. ⌜ r ≡ saidOf (endsOf b (now (knots .entry))) y (timedOf span i) ⌝ }
 {
     let k = basis::segments(b, knots.len());
     let e = inverse::curve_ends(b, knots, k);
@@ -91,33 +107,30 @@ fn said(b: Basis, span: u32, y: f64, knots: &[f64]) -> Job
     if is_beyond(e, y) {
         return Job::Beyond;
     }
-    let i = inverse::searched(
-        Method::Steady,
-        b,
-        y,
-        knots,
-        STEADY_LIMIT,
-        DEFAULT_PRECISION,
-        e.rising,
-        k,
-        2,
-    );
     found(span, i)
 }
 
 // How far a job had come that stopped at the depth y, by the curve's own ends and the steady method with limit 64 and precision 1e-10;
-// with `check`, knots that turn back are refused.
+// with `check`, knots that turn back are refused. The search is that of `spline_inverse_by` and stands in no second place: the stack of
+// every inversion would grow by it.
 pub fn stopped(t: Table, y: f64, knots: &[f64], check: bool) -> Job
     ensures { λ r. ⌜ r ≡ stoppedOf t y (now (knots .entry)) check ⌝ }
 {
     let b = t.basis;
     let span = t.span;
     if table_span::is_span(span) {
-        let v = inverse::refusals::verdict(b, y, knots, check, STEADY_LIMIT, DEFAULT_PRECISION);
-        return match v {
-            Verdict::Failed(r) => Job::Refused(r),
-            Verdict::Passed => said(b, span, y, knots),
+        let o = Options {
+            check: check,
+            limit: STEADY_LIMIT,
+            precision: DEFAULT_PRECISION,
+            ends: EndsBy::Curve,
+            method: Method::Steady,
         };
+        let i = inverse::spline_inverse_by(o, b, y, knots);
+        if is_by_end(i) {
+            return said(b, span, y, knots, i);
+        }
+        return found(span, i);
     }
     Job::Refused(table_span::without_span(b, knots.len()))
 }

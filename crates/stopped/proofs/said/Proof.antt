@@ -1,6 +1,7 @@
--- The ends are evaluated once. Each way out is a case of the definition by the tests before it; behind them all the end rule is silent.
+-- The ends are evaluated once. Each way out is a case of the definition by the tests before it; behind them all it is what the inversion found.
 use mathlib.Core.Path.{sym, _∙_}
 use Rattle.stopped.proofs.Ends.{said-flat, said-start, said-end, said-before, said-beyond, said-between}
+use Rattle.table.specs.Calls.{timedOf}
 use borrow.Author.Needs.{needs}
 use Rattle.stopped.proofs.said.Statement.{statement}
 use Rattle.stopped.proofs.said.Tie as tie
@@ -14,23 +15,26 @@ curve-ends-requires c κs = search needs
 returns : tie.Need-returns
 returns c =
     let a = c .before .before .before .before .before .args in
+    let x = timedOf (a .span) (a .i) in
     let q = c .before .before .before .segments .ensures in
     let h = c .before .before .curve-ends .ensures in
-    said-flat (a .b) (a .knots .now) (a .y) (a .span) q h (c .if1 .taken)
+    said-flat (a .b) (a .knots .now) (a .y) x q h (c .if1 .taken)
 
 returns-2 : tie.Need-returns-2
 returns-2 c =
     let a = c .before .before .before .before .before .before .before .args in
+    let x = timedOf (a .span) (a .i) in
     let q = c .before .before .before .before .before .segments .ensures in
     let h = c .before .before .before .before .curve-ends .ensures in
-    said-start (a .b) (a .knots .now) (a .y) (a .span) q h (c .before .before .if1 .left) (c .if2 .taken)
+    said-start (a .b) (a .knots .now) (a .y) x q h (c .before .before .if1 .left) (c .if2 .taken)
 
 returns-3 : tie.Need-returns-3
 returns-3 c =
     let a = c .before .before .before .before .before .before .before .before .before .args in
+    let x = timedOf (a .span) (a .i) in
     let q = c .before .before .before .before .before .before .before .segments .ensures in
     let h = c .before .before .before .before .before .before .curve-ends .ensures in
-    said-end (a .b) (a .knots .now) (a .y) (a .span) q h (c .before .before .before .before .if1 .left) (c .before .before .if2 .left) (c .if3 .taken)
+    said-end (a .b) (a .knots .now) (a .y) x q h (c .before .before .before .before .if1 .left) (c .before .before .if2 .left) (c .if3 .taken)
 
 is-before-requires : tie.Need-is-before-requires
 is-before-requires c κs = search needs
@@ -38,11 +42,11 @@ is-before-requires c κs = search needs
 returns-4 : tie.Need-returns-4
 returns-4 c =
     let a = c .before .before .before .before .before .before .before .before .before .before .before .args in
+    let x = timedOf (a .span) (a .i) in
     let q = c .before .before .before .before .before .before .before .before .before .segments .ensures in
     let h = c .before .before .before .before .before .before .before .before .curve-ends .ensures in
-    said-before (a .b) (a .knots .now) (a .y) (a .span) q h (c .before .before .before .before .before .before .if1 .left)
-    (c .before .before .before .before .if2 .left) (c .before .before .if3 .left)
-    (sym (c .before .is-before .ensures) ∙ c .if4 .taken)
+    said-before (a .b) (a .knots .now) (a .y) x q h (c .before .before .before .before .before .before .if1 .left)
+    (c .before .before .before .before .if2 .left) (c .before .before .if3 .left) (sym (c .before .is-before .ensures) ∙ c .if4 .taken)
 
 is-beyond-requires : tie.Need-is-beyond-requires
 is-beyond-requires c κs = search needs
@@ -50,32 +54,26 @@ is-beyond-requires c κs = search needs
 returns-5 : tie.Need-returns-5
 returns-5 c =
     let a = c .before .before .before .before .before .before .before .before .before .before .before .before .before .args in
+    let x = timedOf (a .span) (a .i) in
     let q = c .before .before .before .before .before .before .before .before .before .before .before .segments .ensures in
     let h = c .before .before .before .before .before .before .before .before .before .before .curve-ends .ensures in
-    said-beyond (a .b) (a .knots .now) (a .y) (a .span) q h (c .before .before .before .before .before .before .before .before .if1 .left)
+    said-beyond (a .b) (a .knots .now) (a .y) x q h (c .before .before .before .before .before .before .before .before .if1 .left)
     (c .before .before .before .before .before .before .if2 .left) (c .before .before .before .before .if3 .left)
     (sym (c .before .before .before .is-before .ensures) ∙ c .before .before .if4 .left) (sym (c .before .is-beyond .ensures) ∙ c .if5 .taken)
-
-searched-requires : tie.Need-searched-requires
-searched-requires c κs =
-    let p = c .before .before .before .before .before .before .before .before .before .before .before .before .before .pre in
-    let q = c .before .before .before .before .before .before .before .before .before .before .before .segments .ensures in
-    (q, (p .1 .0, (p .1 .1 .0, (p .1 .1 .1 .0, (p .1 .1 .1 .1, search needs)))))
 
 found-requires : tie.Need-found-requires
 found-requires c κs = search needs
 
 returns-6 : tie.Need-returns-6
 returns-6 c =
-    let a = c .before .before .before .before .before .before .before .before .before .before .before .before .before .before .before .args in
-    let q = c .before .before .before .before .before .before .before .before .before .before .before .before .before .segments .ensures in
-    let h = c .before .before .before .before .before .before .before .before .before .before .before .before .curve-ends .ensures in
-    said-between (a .b) (a .knots .now) (a .y) (a .span) q h
-    (c .before .before .before .before .before .before .before .before .before .before .if1 .left)
-    (c .before .before .before .before .before .before .before .before .if2 .left) (c .before .before .before .before .before .before .if3 .left)
-    (sym (c .before .before .before .before .before .is-before .ensures) ∙ c .before .before .before .before .if4 .left)
-    (sym (c .before .before .before .is-beyond .ensures) ∙ c .before .before .if5 .left)
-    (c .before .searched .ensures) (c .found .ensures)
+    let a = c .before .before .before .before .before .before .before .before .before .before .before .before .before .before .args in
+    let x = timedOf (a .span) (a .i) in
+    let q = c .before .before .before .before .before .before .before .before .before .before .before .before .segments .ensures in
+    let h = c .before .before .before .before .before .before .before .before .before .before .before .curve-ends .ensures in
+    said-between (a .b) (a .knots .now) (a .y) x q h (c .before .before .before .before .before .before .before .before .before .if1 .left)
+    (c .before .before .before .before .before .before .before .if2 .left) (c .before .before .before .before .before .if3 .left)
+    (sym (c .before .before .before .before .is-before .ensures) ∙ c .before .before .before .if4 .left) (sym (c .before .before .is-beyond .ensures) ∙ c .before .if5 .left)
+    (c .found .ensures)
 
 pub said-spec : {M : Type 1} → statement M
 said-spec =
@@ -90,6 +88,5 @@ said-spec =
     returns-4
     is-beyond-requires
     returns-5
-    searched-requires
     found-requires
     returns-6)

@@ -1,10 +1,11 @@
--- With a good span the verdict is the inversion's, and where it passed it tells what `said` asks for; without one the length's row, or 14, is the
--- first that applies.
+-- With a good span what the inversion answers decides: by its end rule the ends say which case it was, else what was found is told; without a span the
+-- length's row, or 14, is the first that applies.
 use mathlib.Core.Path.{sym, _∙_}
 use Rattle.inverse.proofs.Verdicts.{admitted}
-use Rattle.inverse_segment.specs.Method.{steadyLimit}
 use Rattle.inverse_segment.specs.Answer.{defaultPrecision}
-use Rattle.stopped.proofs.Call.{by-row, without-span, by-ends}
+use Rattle.inverse_segment.specs.Method.{steadyLimit}
+use Rattle.stopped.proofs.Call.{without-span}
+use Rattle.stopped.proofs.Decides.{no-row-applies, at-ends, elsewhere}
 use borrow.Author.Needs.{needs}
 use Rattle.stopped.proofs.stopped.Statement.{statement}
 use Rattle.stopped.proofs.stopped.Tie as tie
@@ -12,36 +13,35 @@ use Rattle.stopped.proofs.stopped.Tie as tie
 is-span-requires : tie.Need-is-span-requires
 is-span-requires c κs = search needs
 
-verdict-requires : tie.Need-verdict-requires
-verdict-requires c κs = search needs
+spline-inverse-by-requires : tie.Need-spline-inverse-by-requires
+spline-inverse-by-requires c κs = search needs
 
-enum-known-v : tie.Need-enum-known-v
-enum-known-v c = search needs
-
-enum-told : tie.Need-enum-told
-enum-told c = search needs
+is-by-end-requires : tie.Need-is-by-end-requires
+is-by-end-requires c κs = search needs
 
 said-requires : tie.Need-said-requires
 said-requires c κs =
     let a = c .before .before .before .before .before .before .args in
+    let good = (sym (c .before .before .before .before .is-span .ensures) ∙ c .before .before .before .if1 .taken) in
+    let ended = sym (c .before .is-by-end .ensures) ∙ c .if2 .taken in
     let p =
     admitted (a .t .basis) (a .y) (a .knots .now) (a .check) steadyLimit defaultPrecision
-    (sym (c .before .before .verdict .ensures) ∙ c .enum-told .given .1) in (
-      sym (c .before .before .before .before .is-span .ensures) ∙ c .before .before .before .if1 .taken,
-      (p .long, (p .short, (p .number, p .in-range))),
-    )
+    (no-row-applies (a .t) (a .y) (a .knots .now) (a .check) good (c .before .before .spline-inverse-by .ensures) ended) in (good, (p .long, p .short))
 
 returns : tie.Need-returns
-returns c = let a = c .before .before .before .before .before .before .before .args
-    in by-row (a .t) (a .y) (a .knots .now) (a .check)
-    (sym (c .before .before .before .before .before .is-span .ensures) ∙ c .before .before .before .before .if1 .taken)
-    (sym (c .before .before .before .verdict .ensures) ∙ c .before .v .given .1)
+returns c =
+    let a = c .before .before .before .before .before .before .before .args in
+    let ended = sym (c .before .before .is-by-end .ensures) ∙ c .before .if2 .taken in
+    at-ends (a .t) (a .y) (a .knots .now) (a .check) (sym (c .before .before .before .before .before .is-span .ensures) ∙ c .before .before .before .before .if1 .taken) (c .before .before .before .spline-inverse-by .ensures) ended (c .said .ensures)
+
+found-requires : tie.Need-found-requires
+found-requires c κs = (sym (c .before .before .before .before .is-span .ensures) ∙ c .before .before .before .if1 .taken)
 
 returns-2 : tie.Need-returns-2
-returns-2 c = let a = c .before .before .before .before .before .before .before .args
-    in by-ends (a .t) (a .y) (a .knots .now) (a .check)
-    (sym (c .before .before .before .before .before .is-span .ensures) ∙ c .before .before .before .before .if1 .taken)
-    (sym (c .before .before .before .verdict .ensures) ∙ c .before .enum-told .given .1) (c .said .ensures)
+returns-2 c =
+    let a = c .before .before .before .before .before .before .before .args in
+    let searched = sym (c .before .before .is-by-end .ensures) ∙ c .before .if2 .left in
+    elsewhere (a .t) (a .y) (a .knots .now) (a .check) (sym (c .before .before .before .before .before .is-span .ensures) ∙ c .before .before .before .before .if1 .taken) (c .before .before .before .spline-inverse-by .ensures) searched (c .found .ensures)
 
 without-span-requires : tie.Need-without-span-requires
 without-span-requires c κs = search needs
@@ -55,11 +55,11 @@ stopped-spec =
     tie.close
     (tie.spec
     is-span-requires
-    verdict-requires
-    enum-known-v
-    enum-told
+    spline-inverse-by-requires
+    is-by-end-requires
     said-requires
     returns
+    found-requires
     returns-2
     without-span-requires
     returns-3)
