@@ -1,5 +1,5 @@
 /* Many more calls than the list of stored answers has, by a generator that is the same on every machine, and one number of all that
- * they reply and write: 20,000 rounds of eleven calls. What the archive for x86-64 prints is digest.out; bin/link compares, and bin/box
+ * they reply and write: 20,000 rounds of twelve calls. What the archive for x86-64 prints is digest.out; bin/link compares, and bin/box
  * compares every target's with it. */
 #include "simmerstoat.h"
 #include "simmerstoat_valve.h"
@@ -42,6 +42,7 @@ enum { KNOTS = 64 };
 static double knots[KNOTS], place[4], out[4 * KNOTS], value;
 static uint64_t whole[4], written;
 static uint32_t handed;
+static uint8_t job;
 static bool holds;
 
 static void sort(uint64_t n) { /* rising */
@@ -80,7 +81,8 @@ static void took_sum(uint16_t step) {
 int main(void) {
     static const uint8_t STEP[] = {1, 3, 1, 2, 1, 4};
     for (uint32_t round = 0; round < ROUNDS; round++) {
-        const uint8_t basis = (uint8_t)(draw() % 6), to = (uint8_t)(draw() % 6), ends = (uint8_t)(draw() % 2), method = (uint8_t)(draw() % 3);
+        const uint8_t basis = (uint8_t)(draw() % 6), to = (uint8_t)(draw() % 6);
+        const uint8_t ends = (uint8_t)(draw() % 2), method = (uint8_t)(draw() % 3);
         uint64_t n = 4 + draw() % 13 * STEP[basis];
         if (draw() % 32 == 0) n = draw() % KNOTS;
         for (uint64_t i = 0; i < n; i++) knots[i] = number();
@@ -95,6 +97,8 @@ int main(void) {
         took(simmerstoat_spline_inverse_by(basis, y, knots, n, check, limit % 512, precision, ends, method, place, whole), 4, 3);
         took(simmerstoat_spline_inverse_segment_by(basis, y, knots, 4, limit % 512, precision, method, place, whole), 4, 3);
         took(simmerstoat_table_spline_inverse_steady(basis, span, y, knots, n, check, place, whole), 4, 4);
+        took(simmerstoat_stopped(basis, span, y, knots, n, check, &job, place, whole), 4, 4);
+        take(job);
         took_output(simmerstoat_convert_spline(basis, to, knots, n, out, sizeof out / 8, &written));
         took_output(simmerstoat_table_convert_spline_strict(basis, span, to, knots, n, x, out, sizeof out / 8, &handed, &written));
         const uint32_t reply = simmerstoat_check_claim(basis, y, draw() % 13, x, precision, knots, n, &holds);

@@ -42,7 +42,8 @@ static void work(uint32_t at, struct work *w) {
     w->inversion.reply = simmerstoat_spline_inverse_by(SIMMERSTOAT_BSPLINE, 3.3 + 2.9 * at, knots, KNOTS, false, 300, 1e-12, at % 2, at % 3,
                                                        w->inversion.place, w->inversion.whole);
     w->replies[0] = simmerstoat_spline(SIMMERSTOAT_BEZIER, 0.11 * at, knots, KNOTS, &w->value);
-    w->replies[1] = simmerstoat_convert_spline_strict(SIMMERSTOAT_BEZIER, SIMMERSTOAT_HERMITE, knots, KNOTS, 1e9, w->converted, 4 * KNOTS, &w->written);
+    w->replies[1] = simmerstoat_convert_spline_strict(SIMMERSTOAT_BEZIER, SIMMERSTOAT_HERMITE, knots, KNOTS, 1e9, w->converted, 4 * KNOTS,
+                                                      &w->written);
     w->replies[2] = simmerstoat_convert_segment(SIMMERSTOAT_CATMULL_ROM, SIMMERSTOAT_BSPLINE, knots + at, 4, w->converted, 4);
 }
 

@@ -21,6 +21,7 @@ static uint64_t w[WORDS], words, knots;
 static double table[TABLE], value, place[4], out[WORDS];
 static uint64_t whole[4], written;
 static uint32_t reply, handed;
+static uint8_t job;
 static bool holds;
 static uint32_t stack[STACK] __attribute__((aligned(16)));
 
@@ -55,14 +56,24 @@ static void n(void) { reply = simmerstoat_spline_inverse_segment_by(BASIS, Y, ta
 static void o(void) { reply = simmerstoat_spline_inverse_steady(BASIS, Y, table, knots, CHECK, place, whole); }
 static void p(void) { reply = simmerstoat_spline_inverse_segment_steady(BASIS, Y, table, knots, place, whole); }
 static void tw(void) { reply = simmerstoat_table_spline_inverse(BASIS, SPAN, Y, table, knots, CHECK, place, whole); }
-static void x(void) { reply = simmerstoat_table_spline_inverse_by(BASIS, SPAN, Y, table, knots, CHECK, LIMIT, PRECISION, ENDS, METHOD, place, whole); }
+static void x(void) {
+    reply = simmerstoat_table_spline_inverse_by(BASIS, SPAN, Y, table, knots, CHECK, LIMIT, PRECISION, ENDS, METHOD, place, whole);
+}
 static void y(void) { reply = simmerstoat_table_spline_inverse_steady(BASIS, SPAN, Y, table, knots, CHECK, place, whole); }
-static void h(void) { reply = simmerstoat_depth_at(BASIS, table, w[14], ENDS, table + w[14], knots - w[14], Y, LIMIT, PRECISION, &value, place, whole); }
+static void q(void) { reply = simmerstoat_stopped(BASIS, SPAN, Y, table, knots, CHECK, &job, place, whole); }
+static void h(void) {
+    reply = simmerstoat_depth_at(BASIS, table, w[14], ENDS, table + w[14], knots - w[14], Y, LIMIT, PRECISION, &value, place, whole);
+}
 static void c(void) { reply = simmerstoat_convert_spline(BASIS, (uint8_t)w[1], table, knots, out, WORDS, &written); }
 static void d(void) { written = 4, reply = simmerstoat_convert_segment(BASIS, (uint8_t)w[1], table, knots, out, WORDS); }
 static void e(void) { reply = simmerstoat_convert_spline_strict(BASIS, (uint8_t)w[1], table, knots, of(w[2]), out, WORDS, &written); }
-static void f(void) { reply = simmerstoat_table_convert_spline(BASIS, (uint32_t)w[3], (uint8_t)w[1], table, knots, out, WORDS, &handed, &written); }
-static void g(void) { reply = simmerstoat_table_convert_spline_strict(BASIS, (uint32_t)w[3], (uint8_t)w[1], table, knots, of(w[2]), out, WORDS, &handed, &written); }
+static void f(void) {
+    reply = simmerstoat_table_convert_spline(BASIS, (uint32_t)w[3], (uint8_t)w[1], table, knots, out, WORDS, &handed, &written);
+}
+static void g(void) {
+    reply = simmerstoat_table_convert_spline_strict(BASIS, (uint32_t)w[3], (uint8_t)w[1], table, knots, of(w[2]), out, WORDS, &handed,
+                                                    &written);
+}
 
 static void valve(void) {
     static const int64_t z[4] = {-1000000, 1000000, 7, -8};
@@ -75,11 +86,26 @@ static const struct {
     void (*call)(void);
     const char *name;
 } CALLS[] = {
-    {'v', v, "spline"}, {'s', s, "spline_segment"}, {'t', t, "table_spline"}, {'a', a, "check_claim"}, {'i', i, "spline_inverse_with"},
-    {'j', j, "spline_inverse_segment_with"}, {'m', m, "spline_inverse_by"}, {'n', n, "spline_inverse_segment_by"},
-    {'o', o, "spline_inverse_steady"}, {'p', p, "spline_inverse_segment_steady"}, {'w', tw, "table_spline_inverse"},
-    {'x', x, "table_spline_inverse_by"}, {'y', y, "table_spline_inverse_steady"}, {'h', h, "depth_at"}, {'c', c, "convert_spline"},
-    {'d', d, "convert_segment"}, {'e', e, "convert_spline_strict"}, {'f', f, "table_convert_spline"}, {'g', g, "table_convert_spline_strict"},
+    {'v', v, "spline"},
+    {'s', s, "spline_segment"},
+    {'t', t, "table_spline"},
+    {'a', a, "check_claim"},
+    {'i', i, "spline_inverse_with"},
+    {'j', j, "spline_inverse_segment_with"},
+    {'m', m, "spline_inverse_by"},
+    {'n', n, "spline_inverse_segment_by"},
+    {'o', o, "spline_inverse_steady"},
+    {'p', p, "spline_inverse_segment_steady"},
+    {'w', tw, "table_spline_inverse"},
+    {'x', x, "table_spline_inverse_by"},
+    {'y', y, "table_spline_inverse_steady"},
+    {'q', q, "stopped"},
+    {'h', h, "depth_at"},
+    {'c', c, "convert_spline"},
+    {'d', d, "convert_segment"},
+    {'e', e, "convert_spline_strict"},
+    {'f', f, "table_convert_spline"},
+    {'g', g, "table_convert_spline_strict"},
 };
 enum { LETTERS = sizeof CALLS / sizeof *CALLS };
 
@@ -112,6 +138,7 @@ static bool is_equal(char letter) {
     case 'e': return same_output(w + 4);
     case 'f': case 'g': return same_output(w + 4) && (reply != 0 || handed == (uint32_t)w[3]);
     case 'h': return same_place(true) && (reply != 0 || bits(value) == w[15]);
+    case 'q': return same_place(true) && job == w[13];
     case 'w': case 'x': case 'y': return same_place(true);
     default: return same_place(false);
     }
@@ -132,7 +159,7 @@ static void measured(void (*call)(void)) {
 
 /* what a call is to write is not there before it */
 static void forget(void) {
-    reply = 12345, value = 0, holds = false, written = 0, handed = 0;
+    reply = 12345, value = 0, holds = false, written = 0, handed = 0, job = 0;
     for (int at = 0; at < 4; at++) place[at] = 0, whole[at] = 0;
     for (int at = 0; at < WORDS; at++) out[at] = 0;
 }

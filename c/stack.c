@@ -1,7 +1,7 @@
 /* How deep each call goes: it runs on a painted stack of its own, and the lowest word that lost its paint is told.
  * What the switch of stacks takes is measured with a call that takes nothing and taken off; the return address is the
- * call's own. Exits with 1 where a call goes deeper than it should; c/simmerstoat.h says how deep it goes at most. With FEWER the tables are of 4, 28 and 4,096 knots
- * alone, and the places three: for emulators. Compiled with box/machine.c. */
+ * call's own. Exits with 1 where a call goes deeper than it should; c/simmerstoat.h says how deep it goes at most. With
+ * FEWER the tables are of 4, 28 and 4,096 knots alone, and the places three: for emulators. Compiled with box/machine.c. */
 #include "machine.h"
 #include "simmerstoat.h"
 #include "simmerstoat_valve.h"
