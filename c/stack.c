@@ -15,9 +15,11 @@ static const uint32_t PAINT = 0xA5C3A5C3;
  * time is an inversion that holds a second table, with four. Elsewhere the helpers for doubles, which the linker adds,
  * are within. */
 #if defined(__x86_64__)
-enum { EVALUATION = 96, INVERSION = 512, CONVERSION = 400, STRICT = 512, TABLE = 416, DEPTH = 520, VALVE = 256, RETURN_ADDRESS = 8 };
+enum { EVALUATION = 96, INVERSION = 512, CONVERSION = 400, STRICT = 512, TABLE = 416, DEPTH = 520, JOB = 512, VALVE = 256,
+       RETURN_ADDRESS = 8 };
 #else
-enum { EVALUATION = 400, INVERSION = 800, CONVERSION = 1024, STRICT = 1024, TABLE = 1024, DEPTH = 900, VALVE = 256, RETURN_ADDRESS = 0 };
+enum { EVALUATION = 400, INVERSION = 800, CONVERSION = 1024, STRICT = 1024, TABLE = 1024, DEPTH = 900, JOB = 960, VALVE = 256,
+       RETURN_ADDRESS = 0 };
 #endif
 
 static uint32_t stack[WORDS] __attribute__((aligned(16)));
@@ -156,7 +158,7 @@ int main(void) {
                  {"table_spline_inverse", table_spline_inverse, INVERSION},
                  {"table_spline_inverse_by", table_spline_inverse_by, INVERSION},
                  {"table_spline_inverse_steady", table_spline_inverse_steady, INVERSION},
-                 {"stopped", stopped, INVERSION},
+                 {"stopped", stopped, JOB},
                  {"table_convert_spline", table_convert_spline, TABLE},
                  {"table_convert_spline_strict", table_convert_spline_strict, STRICT},
                  {"check_claim", check_claim, EVALUATION},
