@@ -12,7 +12,7 @@ enum { SIZE = 1 << 15, PAINT = 0xA5, KNOTS = 4096 };
 
 /* The most that a call may take, in bytes. A table's conversion has three arguments on the stack besides; the depth at a
  * time is an inversion that holds a second table, with four. */
-enum { EVALUATION = 96, INVERSION = 512, CONVERSION = 400, STRICT = 512, TABLE = 416, DEPTH = 520 };
+enum { EVALUATION = 96, INVERSION = 512, CONVERSION = 400, STRICT = 512, TABLE = 416, DEPTH = 576 };
 
 static unsigned char *stack;
 static ucontext_t back, there;
