@@ -22,7 +22,7 @@
  *   - One object for x86-64 Linux. Beside code it has constants alone: no state, no heap, and no symbol undefined, so that
  *     it calls nothing of anybody's. So every call is re-entrant, and may run in any thread or signal handler.
  *   - Stack: at most 96 bytes for an evaluation or a claim, 512 for an inversion, 400 for a conversion (416 of a table with
- *     a span), 512 for a strict one, 520 for the depth at a time (c/stack.c measures them).
+ *     a span), 512 for a strict one, 520 for the depth at a time, 576 for a stopped job (c/stack.c measures them).
  *   - An inversion makes at most limit + 24 evaluations on up to 12 segments and at most limit + 2 b + 4 above, where b
  *     is the number of binary digits of the segment count: 12 at most. In SIMMERSTOAT_ENDS_CURVE there are 2 more.
  */

@@ -12,7 +12,7 @@ enum { SIZE = 1 << 15, PAINT = 0xA5, KNOTS = 4096 };
 
 /* The most that a call may take, in bytes. A table's conversion has three arguments on the stack besides; the depth at a
  * time is an inversion that holds a second table, with four. */
-enum { EVALUATION = 96, INVERSION = 512, CONVERSION = 400, STRICT = 512, TABLE = 416, DEPTH = 520 };
+enum { EVALUATION = 96, INVERSION = 512, CONVERSION = 400, STRICT = 512, TABLE = 416, DEPTH = 520, STOPPED = 576 };
 
 static unsigned char *stack;
 static ucontext_t back, there;
@@ -131,7 +131,7 @@ int main(void) {
                  {"table_spline_inverse", table_spline_inverse, INVERSION},
                  {"table_spline_inverse_by", table_spline_inverse_by, INVERSION},
                  {"table_spline_inverse_steady", table_spline_inverse_steady, INVERSION},
-                 {"stopped", stopped, INVERSION},
+                 {"stopped", stopped, STOPPED},
                  {"table_convert_spline", table_convert_spline, TABLE},
                  {"table_convert_spline_strict", table_convert_spline_strict, STRICT},
                  {"check_claim", check_claim, EVALUATION},
