@@ -36,7 +36,7 @@
  *         conversion                400   1,024   (of a table with a span 416, 1,024)
  *         strict conversion         512   1,024
  *         depth at a time           576   900
- *         stopped job               512   960
+ *         stopped job               576   960
  *   - An inversion makes at most limit + 24 evaluations on up to 12 segments and at most limit + 2 b + 4 above, where b
  *     is the number of binary digits of the segment count: 12 at most. In SIMMERSTOAT_ENDS_CURVE there are 2 more.
  */

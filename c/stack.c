@@ -15,7 +15,7 @@ static const uint32_t PAINT = 0xA5C3A5C3;
  * time is an inversion that holds a second table, with four. Elsewhere the helpers for doubles, which the linker adds,
  * are within. */
 #if defined(__x86_64__)
-enum { EVALUATION = 96, INVERSION = 512, CONVERSION = 400, STRICT = 512, TABLE = 416, DEPTH = 576, JOB = 512, VALVE = 256,
+enum { EVALUATION = 96, INVERSION = 512, CONVERSION = 400, STRICT = 512, TABLE = 416, DEPTH = 576, JOB = 576, VALVE = 256,
        RETURN_ADDRESS = 8 };
 #else
 enum { EVALUATION = 400, INVERSION = 800, CONVERSION = 1024, STRICT = 1024, TABLE = 1024, DEPTH = 900, JOB = 960, VALVE = 256,
