@@ -1,16 +1,22 @@
-/* Uniform cubic splines over doubles, proved. Link with libsimmerstoat.a, which `rt staticlib simmerstoat` writes.
+/* Uniform cubic splines over doubles, proved. Link with libsimmerstoat.a: for x86-64 Linux `rt staticlib simmerstoat` writes it,
+ * for the processors of small boxes `bin/box TARGET` (docs/BOX.md).
  *
  * Every call answers every input: no argument makes one panic, loop or read outside what is lent.
  *
  * What a caller owes
  *   - A pointer with a length is good for that many doubles; it may be null where the length is 0. Each other pointer
  *     is good for what it points to. The knots may be anything, NaN too.
- *   - Every length, whole number and count is 64 bits wide on every processor, where a size_t is 32 bits too.
- *   - What is written overlaps nothing else that the call is lent: not the knots, and no other output. Two pointers
- *     that are only read may be the same.
+ *   - Each pointer is aligned as its type is. A Cortex-M stops in a HardFault at a table of doubles that begins at an odd
+ *     address; copy a table that stands in a packet before you lend it.
+ *   - Every length, whole number and count is 64 bits wide on every processor, where a size_t is 32 bits too. Where printf
+ *     knows no 64-bit format, as newlib's often does not, print them cast to `unsigned`.
+ *   - What is written overlaps nothing else that the call is lent: not the knots, and no other output. So no conversion in
+ *     place: IT REPLIES 0 AND WRITES OTHER NUMBERS. Two pointers that are only read may be the same.
  *   - The caller's floating-point state: round to nearest, no flush to zero, no denormals taken as zero. It is a premise
- *     of every value, bound and place below; with another rounding mode a parameter above 1 has come out. Code that
- *     was built with -ffast-math, or linked against it, may set such a state before main.
+ *     of every value, bound and place below; with another rounding mode a parameter above 1 has come out. It is MXCSR on
+ *     x86-64, FPCR on aarch64, fcsr on RISC-V with doubles, and on a Cortex-M7 FPSCR and FPDSCR, with which every new task
+ *     and interrupt begins. gcc's crtfastmath.o, which -ffast-math at the link adds, sets it before main. The other
+ *     targets of bin/box work with doubles in whole numbers and have no such state.
  *
  * What comes back
  *   - The reply is 0 when the call did its work. Otherwise its lowest eight bits are the number of a refusal and the bits
@@ -19,10 +25,18 @@
  *     the count of SIMMERSTOAT_OFF_CURVE.
  *
  * What the archive is
- *   - One object for x86-64 Linux. Beside code it has constants alone: no state, no heap, and no symbol undefined, so that
- *     it calls nothing of anybody's. So every call is re-entrant, and may run in any thread or signal handler.
- *   - Stack: at most 96 bytes for an evaluation or a claim, 512 for an inversion, 400 for a conversion (416 of a table with
- *     a span), 512 for a strict one, 520 for the depth at a time (c/stack.c measures them).
+ *   - One object. Beside code it has constants alone: no state and no heap. For x86-64 no symbol is undefined, so that it
+ *     calls nothing of anybody's; elsewhere it may call what docs/BOX.md lists: helpers of the compiler's own library, which
+ *     have no state either, and memcpy, memmove and memset. So every call is re-entrant, and may run in any thread, signal
+ *     handler or interrupt.
+ *   - Stack in bytes, at most (c/stack.c measures it, up to 4,096 knots, helpers included):
+ *                                x86-64   targets of bin/box
+ *         evaluation, claim          96   400
+ *         inversion                 512   800
+ *         conversion                400   1,024   (of a table with a span 416, 1,024)
+ *         strict conversion         512   1,024
+ *         depth at a time           576   900
+ *         stopped job               576   960
  *   - An inversion makes at most limit + 24 evaluations on up to 12 segments and at most limit + 2 b + 4 above, where b
  *     is the number of binary digits of the segment count: 12 at most. In SIMMERSTOAT_ENDS_CURVE there are 2 more.
  */

@@ -1,21 +1,28 @@
-/* How deep each call goes: it runs on a painted stack of its own, and the lowest byte that lost its paint is told.
- * What the switch of stacks itself takes is measured with an empty call and taken off. Exits with 1 where a call goes
- * deeper than it should; c/simmerstoat.h says how deep it goes today. */
+/* How deep each call goes: it runs on a painted stack of its own, and the lowest word that lost its paint is told.
+ * What the switch of stacks takes is measured with a call that takes nothing and taken off; the return address is the
+ * call's own. Exits with 1 where a call goes deeper than it should; c/simmerstoat.h says how deep it goes at most. With
+ * FEWER the tables are of 4, 28 and 4,096 knots alone, and the places three: for emulators. Compiled with box/machine.c. */
+#include "machine.h"
 #include "simmerstoat.h"
+#include "simmerstoat_valve.h"
 
 #include <stdio.h>
-#include <stdlib.h>
-#include <string.h>
-#include <ucontext.h>
 
-enum { SIZE = 1 << 15, PAINT = 0xA5, KNOTS = 4096 };
+enum { WORDS = 1 << 12, KNOTS = 4096 };
+static const uint32_t PAINT = 0xA5C3A5C3;
 
 /* The most that a call may take, in bytes. A table's conversion has three arguments on the stack besides; the depth at a
- * time is an inversion that holds a second table, with four. */
-enum { EVALUATION = 96, INVERSION = 512, CONVERSION = 400, STRICT = 512, TABLE = 416, DEPTH = 520 };
+ * time is an inversion that holds a second table, with four. Elsewhere the helpers for doubles, which the linker adds,
+ * are within. */
+#if defined(__x86_64__)
+enum { EVALUATION = 96, INVERSION = 512, CONVERSION = 400, STRICT = 512, TABLE = 416, DEPTH = 576, JOB = 576, VALVE = 256,
+       RETURN_ADDRESS = 8 };
+#else
+enum { EVALUATION = 400, INVERSION = 800, CONVERSION = 1024, STRICT = 1024, TABLE = 1024, DEPTH = 900, JOB = 960, VALVE = 256,
+       RETURN_ADDRESS = 0 };
+#endif
 
-static unsigned char *stack;
-static ucontext_t back, there;
+static uint32_t stack[WORDS] __attribute__((aligned(16)));
 static double knots[KNOTS], out[4 * KNOTS], value, place[4];
 static uint64_t whole[4], written;
 static uint32_t handed;
@@ -24,9 +31,11 @@ static uint8_t job;
 static int basis, other;
 static uint64_t length;
 static double at;
-static volatile int reply;
+static const int64_t whole_knots[4] = {-1000000, 1000000, 7, -8};
+static int64_t sum;
+static volatile uint32_t reply;
 
-static void nothing(void) { reply = 0; }
+static void version(void) { reply = simmerstoat_version(); }
 static void is_len_ok(void) { reply = simmerstoat_is_len_ok(basis, length); }
 static void spline(void) { reply = simmerstoat_spline(basis, at, knots, length, &value); }
 static void spline_segment(void) { reply = simmerstoat_spline_segment(basis, at, knots + 100, 4, &value); }
@@ -94,24 +103,42 @@ static void depth_at(void) {
     reply = simmerstoat_depth_at(basis, knots, length, basis, knots, length, at * 40, 300, 1e-300, &value, place, whole);
 }
 
-static size_t depth(void (*call)(void)) {
-    memset(stack, PAINT, SIZE);
-    getcontext(&there);
-    there.uc_stack.ss_sp = stack;
-    there.uc_stack.ss_size = SIZE;
-    there.uc_link = &back;
-    makecontext(&there, call, 0);
-    swapcontext(&back, &there);
-    size_t i = 0;
-    while (i < SIZE && stack[i] == PAINT) i++;
-    return SIZE - i;
+static void valve(void) { reply = simmerstoat_valve((uint16_t)(at * 256), whole_knots, 4, &sum); }
+
+static uint32_t depth(void (*call)(void)) {
+    for (int i = 0; i < WORDS; i++) stack[i] = PAINT;
+    on_stack(call, stack + WORDS);
+    uint32_t i = 0;
+    while (i < WORDS && stack[i] == PAINT) i++;
+    return (WORDS - i) * 4;
+}
+
+static uint32_t deepest(void (*call)(void)) {
+#ifdef FEWER
+    static const uint64_t lengths[] = {4, 28, 4096};
+    enum { STRIDE = 10 };
+#else
+    static const uint64_t lengths[] = {4, 16, 28, 100, 1024, 4096};
+    enum { STRIDE = 1 };
+#endif
+    uint32_t most = 0;
+    for (basis = 0; basis < 7; basis++)
+        for (other = 0; other < 6; other++)
+            for (unsigned l = 0; l < sizeof lengths / sizeof *lengths; l++)
+                for (int i = 0; i <= 20; i += STRIDE) {
+                    length = lengths[l];
+                    at = (i + 0.37) / 20.0;
+                    const uint32_t d = depth(call);
+                    if (d > most) most = d;
+                }
+    return most;
 }
 
 int main(void) {
     static const struct {
         const char *name;
         void (*call)(void);
-        size_t most;
+        uint32_t most;
     } calls[] = {{"is_len_ok", is_len_ok, EVALUATION},
                  {"spline", spline, EVALUATION},
                  {"spline_segment", spline_segment, EVALUATION},
@@ -131,31 +158,20 @@ int main(void) {
                  {"table_spline_inverse", table_spline_inverse, INVERSION},
                  {"table_spline_inverse_by", table_spline_inverse_by, INVERSION},
                  {"table_spline_inverse_steady", table_spline_inverse_steady, INVERSION},
-                 {"stopped", stopped, INVERSION},
+                 {"stopped", stopped, JOB},
                  {"table_convert_spline", table_convert_spline, TABLE},
                  {"table_convert_spline_strict", table_convert_spline_strict, STRICT},
                  {"check_claim", check_claim, EVALUATION},
-                 {"depth_at", depth_at, DEPTH}};
-    static const uint64_t lengths[] = {4, 16, 28, 100, 1024, 4096};
-    stack = malloc(SIZE);
+                 {"depth_at", depth_at, DEPTH},
+                 {"valve", valve, VALVE}};
     for (int i = 0; i < KNOTS; i++) knots[i] = 0.01 * i;
-    size_t empty = depth(nothing);
+    const uint32_t empty = depth(version) - RETURN_ADDRESS;
     int deep = 0;
     printf("| call | bytes of stack | at most |\n|---|---:|---:|\n");
-    for (size_t c = 0; c < sizeof calls / sizeof *calls; c++) {
-        size_t deepest = 0;
-        for (basis = 0; basis < 7; basis++)
-            for (other = 0; other < 6; other++)
-                for (size_t l = 0; l < 6; l++)
-                    for (int i = 0; i <= 20; i++) {
-                        length = lengths[l];
-                        at = (i + 0.37) / 20.0;
-                        size_t d = depth(calls[c].call);
-                        if (d > deepest) deepest = d;
-                    }
-        /* the caller's own return address is the call's, so nothing is taken off for it */
-        printf("| simmerstoat_%s | %u | %u |\n", calls[c].name, (unsigned)(deepest - empty), (unsigned)calls[c].most);
-        if (deepest - empty > calls[c].most) deep++;
+    for (unsigned c = 0; c < sizeof calls / sizeof *calls; c++) {
+        const uint32_t most = deepest(calls[c].call) - empty;
+        printf("| simmerstoat_%s | %u | %u |\n", calls[c].name, (unsigned)most, (unsigned)calls[c].most);
+        if (most > calls[c].most) deep++;
     }
     if (deep) printf("%d calls go deeper than they may\n", deep);
     return deep != 0;

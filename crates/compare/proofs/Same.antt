@@ -71,12 +71,13 @@ unfolding knotsFrom placesIn
 knots-counted k [] [] = refl
 knots-counted k [] (b ∷ ls) = ap suc (knots-counted (suc k) [] ls)
 knots-counted k (a ∷ ks) [] = ap suc (knots-counted (suc k) ks [])
-knots-counted k (a ∷ ks) (b ∷ ls) = go (eqb a b)
+knots-counted k (a ∷ ks) (b ∷ ls) = go (eqb a b) (knots-counted (suc k) ks ls)
   where
-    go : (t : Bool) → placesIn (cond t (knotsFrom (suc k) ks ls) (knot k a b ∷ knotsFrom (suc k) ks ls))
+    go : (t : Bool) → placesIn (knotsFrom (suc k) ks ls) ≡ length (knotsFrom (suc k) ks ls)
+        → placesIn (cond t (knotsFrom (suc k) ks ls) (knot k a b ∷ knotsFrom (suc k) ks ls))
         ≡ length (cond t (knotsFrom (suc k) ks ls) (knot k a b ∷ knotsFrom (suc k) ks ls))
-    go true = knots-counted (suc k) ks ls
-    go false = ap suc (knots-counted (suc k) ks ls)
+    go true e = e
+    go false e = ap suc e
 
 -- so the number told is how many lines begin with `knot` or `only`
 pub lines-counted : (t : Table) (ks : List ℕ) (u : Table) (ls : List ℕ) → placesIn (differencesOf t ks u ls) ≡ length (knotsFrom 0 ks ls)

@@ -70,6 +70,14 @@ kept (Refused r) old h = refl
 pub valve-writes-nothing : Keeps c_valve.Learnt (λ κs a z e. (z ≡ 0 → ⊥) → now (e .1 .1 .0) ≡ now (a .1 .1 .0))
 valve-writes-nothing κs a z e p h = p .1 ∙ kept (mixtureOf (a .0) (now (a .1 .0))) (now (a .1 .1 .0)) (λ w. h (p .0 ∙ w))
 
+-- it replies and writes what the table's call answers on the same step and knots
+pub valve-is-mix : Keeps c_valve.Learnt (λ κs a z e. Keeps mix.Learnt (λ κs′ b m e′. b .0 ≡ a .0 → now (b .1 .0) ≡ now (a .1 .0)
+    → (z ≡ mixtureReply m) × (now (e .1 .1 .0) ≡ sumLeft m (now (a .1 .1 .0)))))
+valve-is-mix κs a z e p κs′ b m e′ q s k =
+    let same : m ≡ mixtureOf (a .0) (now (a .1 .0)) =
+    q ∙ ap (λ (j : ℕ). mixtureOf j (now (b .1 .0))) s ∙ ap (λ (ks : List ℤ). mixtureOf (a .0) ks) k in
+    (p .0 ∙ sym (ap mixtureReply same), p .1 ∙ sym (ap (λ (x : Mixture). sumLeft x (now (a .1 .1 .0))) same))
+
 -- ---- the weights: knot i is 1 and the others are 0
 abbrev pub unit : ℕ → List ℤ
 unit zero = pos 1 ∷ pos 0 ∷ pos 0 ∷ pos 0 ∷ []

@@ -2,6 +2,6 @@ mod Table
 pub mod Rule
 pub mod Sizes
 mod Sum
+mod ArmRule
 mod Refusals
-mod Fits
 pub mod Between

@@ -13,12 +13,13 @@ use mir.Syntax.{w64}
 use mir.Val.{SFits}
 use mir.Facts.{toZ-ofZ}
 use Rattle.error.specs.declared.Refusal.the-variants.{TooFew, BadPattern, BadStep, BadKnot}
+use Rattle.error.specs.declared.Refusal.{Refusal}
 use Rattle.error.specs.declared.Verdict.{Verdict}
 use Rattle.error.specs.declared.Verdict.the-variants.{Passed, Failed}
-use Rattle.valve.specs.declared.Mixture.the-variants.{Mixed}
+use Rattle.valve.specs.declared.Mixture.the-variants.{Refused, Mixed}
 use Rattle.error.specs.Refusals.{first}
 use Rattle.error.proofs.First.{never, clear}
-use Rattle.valve.specs.Mix.{held, knotOf, small, firstLarge, mixUses, mixture}
+use Rattle.valve.specs.Mix.{held, knotOf, small, firstLarge, mixUses, mixture, mixOf, mixtureOf}
 use Rattle.valve.specs.Contract.{SmallKnots}
 
 small-le : (z : ℤ) → small z ≡ true → natAbs z ≤ 1000000
@@ -127,3 +128,13 @@ passed j ks e =
 pub told : (v : Verdict) {z s : ℤ} → mixture v z ≡ Mixed s → (v ≡ Passed) × (z ≡ s)
 told Passed e = (refl, cc)
 told (Failed r) e = never (cc)
+
+-- the call's answer, by the verdict
+module _ (j : ℕ) (ks : List ℤ) where
+  pub is-mixed : first (mixUses j ks) ≡ Passed → mixtureOf j ks ≡ Mixed (mixOf ks j)
+  unfolding mixtureOf
+  is-mixed e = rw e
+
+  pub is-refused : (r : Refusal) → first (mixUses j ks) ≡ Failed r → mixtureOf j ks ≡ Refused r
+  unfolding mixtureOf
+  is-refused r e = rw e

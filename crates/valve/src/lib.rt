@@ -6,11 +6,13 @@ ghost use lib.IntN.{pos, natAbs, _+ℤ_, _*ℤ_};
 ghost use mir.Syntax.{w64};
 ghost use mir.Val.{SFits};
 ghost use Rattle.error.specs.Refusals.{first};
-ghost use Rattle.valve.specs.Mix.{mixOf, small, firstLarge, mixUses, mixtureOf, mixtureReply, sumLeft};
-ghost use Rattle.valve.specs.Contract.{SmallKnots};
+ghost use Rattle.valve.specs.Mix.{small, firstLarge, mixUses, mixtureOf, mixtureReply, sumLeft};
+ghost use Rattle.valve.specs.Contract.{SmallKnots, Few, weightedOf};
 use error::Refusal;
 use error::Verdict;
+use weights::Four;
 
+pub mod arms;
 pub mod weights;
 
 pub enum Mixture {
@@ -50,13 +52,12 @@ fn term(w: u32, k: i64) -> i64
 }
 
 // The weighted sum, undivided.
-fn weighted_sum(knots: &[i64], step: usize) -> i64
-    requires step { ⌜ step ≤ 256 ⌝ }
+fn weighted_sum(w: Four, knots: &[i64]) -> i64
+    requires few { ⌜ Few (w .w0) (w .w1) (w .w2) (w .w3) ⌝ }
     requires enough { ⌜ 4 ≤ length (now knots) ⌝ }
     requires small { ⌜ SmallKnots (now knots) ⌝ }
-    ensures { λ r. ⌜ r ≡ mixOf (now (knots .entry)) step ⌝ }
+    ensures { λ r. ⌜ r ≡ weightedOf (now (knots .entry)) (w .w0) (w .w1) (w .w2) (w .w3) ⌝ }
 {
-    let w = weights::row(step);
     let a = term(w.w0, knots[0]);
     let b = term(w.w1, knots[1]);
     let c = term(w.w2, knots[2]);
@@ -118,21 +119,21 @@ pub fn mix(step: u16, knots: &[i64]) -> Mixture
     let v = verdict(step, knots);
     match v {
         Verdict::Failed(r) => Mixture::Refused(r),
-        Verdict::Passed => Mixture::Mixed(weighted_sum(knots, step as usize)),
+        Verdict::Passed => Mixture::Mixed(weighted_sum(weights::row(step as usize), knots)),
     }
 }
 
-// What C and Rust call. A sum is written and answered by 0; a refusal writes nothing.
+// What C and Rust call: as `mix`, by the arms. A sum is written and answered by 0; a refusal writes nothing.
 #[no_mangle]
 pub extern "C" fn simmerstoat_valve(step: u16, knots: &[i64], sum: &mut i64) -> u32
     ensures answer { λ r. ⌜ r ≡ mixtureReply (mixtureOf step (now (knots .entry))) ⌝ }
     ensures sum { λ _. ⌜ now (sum .exit) ≡ sumLeft (mixtureOf step (now (knots .entry))) (now (sum .entry)) ⌝ }
 {
-    let m = mix(step, knots);
-    match m {
-        Mixture::Refused(r) => error::reply(r),
-        Mixture::Mixed(z) => {
-            *sum = z;
+    let v = verdict(step, knots);
+    match v {
+        Verdict::Failed(r) => error::reply(r),
+        Verdict::Passed => {
+            *sum = weighted_sum(arms::row(step), knots);
             0
         }
     }

@@ -1,36 +1,56 @@
--- `valve::simmerstoat_valve` meets its contract: in each arm the answer is that arm's. Assumes nothing.
-use mir.Facts.{toZ-ofZ}
-use Rattle.valve.proofs.Fits.{mixed-fits}
+-- `valve::simmerstoat_valve` meets its contract: the verdict, then the sum by the step's arm; in each arm the answer is that arm's. Assumes nothing.
 use mathlib.Core.Path.{sym, ap, _∙_}
+use mir.Facts.{toZ-ofZ}
 use Rattle.valve.specs.Mix.{mixtureReply, sumLeft}
+use Rattle.valve.proofs.Refusals.{passed, is-mixed, is-refused}
+use Rattle.valve.proofs.Sum.{by-four}
 use borrow.Author.Needs.{needs}
 use Rattle.valve.proofs.simmerstoat_valve.Statement.{statement}
 use Rattle.valve.proofs.simmerstoat_valve.Tie as tie
 
-mix-requires : tie.Need-mix-requires
-mix-requires c κs = search needs
+verdict-requires : tie.Need-verdict-requires
+verdict-requires c κs = search needs
 
-enum-known-m : tie.Need-enum-known-m
-enum-known-m c = search needs
+enum-known-v : tie.Need-enum-known-v
+enum-known-v c = search needs
 
 reply-requires : tie.Need-reply-requires
 reply-requires c κs = search needs
 
-enum-known-m-2 : tie.Need-enum-known-m-2
-enum-known-m-2 c = search needs
+enum-told : tie.Need-enum-told
+enum-told c = search needs
+
+row-requires : tie.Need-row-requires
+row-requires c κs =
+    let a = c .before .before .before .args in
+    let p = passed (a .step) (a .knots .now) (sym (c .before .before .verdict .ensures) ∙ c .enum-told .given .1) in
+    let few = p .step in
+    search needs
+
+weighted-sum-requires : tie.Need-weighted-sum-requires
+weighted-sum-requires c κs =
+    let s = c .before in
+    let a = s .before .before .before .args in
+    let p = passed (a .step) (a .knots .now) (sym (s .before .before .verdict .ensures) ∙ s .enum-told .given .1) in
+    (c .row .ensures .few, (p .many, p .knots))
 
 returns : tie.Need-returns
 returns c =
-    let old = c .before .before .before .before .before .args .sum .now in
-    let is = sym (c .before .before .before .before .mix .ensures) ∙ c .before .before .m .given .1 in
-    (c .reply .ensures ∙ sym (ap mixtureReply is), sym (ap (λ m. sumLeft m old) is))
+    let a = c .before .before .before .before .before .args in
+    let is = is-refused (a .step) (a .knots .now) _ (sym (c .before .before .before .before .verdict .ensures) ∙ c .before .before .v .given .1) in
+    (c .reply .ensures ∙ sym (ap mixtureReply is), sym (ap (λ m. sumLeft m (a .sum .now)) is))
 
 returns-2 : tie.Need-returns-2
 returns-2 c =
-    let a = c .before .before .before .before .args in
-    let is = sym (c .before .before .before .mix .ensures) ∙ c .before .m2 .given .1 in
-    (sym (ap mixtureReply is), toZ-ofZ (mixed-fits (a .step) (a .knots .now) (c .before .m2 .given .0 .0) is) ∙ sym (ap (λ m. sumLeft m (a .sum .now)) is))
+    let s = c .before .before in
+    let a = s .before .before .before .args in
+    let is = is-mixed (a .step) (a .knots .now) (sym (s .before .before .verdict .ensures) ∙ s .enum-told .given .1) in (
+      sym (ap mixtureReply is),
+      toZ-ofZ (record { sfits = c .weighted-sum .ok }) ∙ c .weighted-sum .ensures ∙ by-four (a .knots .now) (a .step) _ _ _ _ (c .before .row .ensures)
+          ∙ sym (ap (λ m. sumLeft m (a .sum .now)) is),
+    )
 
 pub simmerstoat-valve-spec : {M : Type 1} → statement M
 simmerstoat-valve-spec =
-    tie.close (tie.spec mix-requires enum-known-m reply-requires enum-known-m-2 returns returns-2)
+    tie.close
+    (tie.spec verdict-requires enum-known-v reply-requires enum-told row-requires weighted-sum-requires returns returns-2)

@@ -1,37 +1,34 @@
 -- `valve::weighted_sum` meets its contract: each term is small, so the sums fit, and they are added left to right. Assumes nothing.
 use lib.Dec.{lit<}
 use Rattle.valve.proofs.Sizes.{plus-fit, plus-is}
-use Rattle.valve.proofs.Sum.{term-of, summed}
+use Rattle.valve.proofs.Sum.{summed}
 use borrow.Author.Needs.{needs}
 use Rattle.valve.proofs.weighted_sum.Statement.{statement}
 use Rattle.valve.proofs.weighted_sum.Tie as tie
-
-row-requires : tie.Need-row-requires
-row-requires c κs = search needs
 
 shared-slice-copy-out-term : tie.Need-shared-slice-copy-out-term
 shared-slice-copy-out-term c = search needs
 
 term-requires : tie.Need-term-requires
-term-requires c κs = (c .before .row .ensures .few0, c .before .before .pre .1 .1 .each 0 (lit< tt))
+term-requires c κs = let s = c .before in (s .pre .0 .few0, s .pre .1 .1 .each 0 (lit< tt))
 
 shared-slice-copy-out-term-2 : tie.Need-shared-slice-copy-out-term-2
 shared-slice-copy-out-term-2 c = search needs
 
 term-requires-2 : tie.Need-term-requires-2
-term-requires-2 c κs = let s = c .before .before .before in (s .row .ensures .few1, s .before .pre .1 .1 .each 1 (lit< tt))
+term-requires-2 c κs = let s = c .before .before .before in (s .pre .0 .few1, s .pre .1 .1 .each 1 (lit< tt))
 
 shared-slice-copy-out-term-3 : tie.Need-shared-slice-copy-out-term-3
 shared-slice-copy-out-term-3 c = search needs
 
 term-requires-3 : tie.Need-term-requires-3
-term-requires-3 c κs = let s = c .before .before .before .before .before in (s .row .ensures .few2, s .before .pre .1 .1 .each 2 (lit< tt))
+term-requires-3 c κs = let s = c .before .before .before .before .before in (s .pre .0 .few2, s .pre .1 .1 .each 2 (lit< tt))
 
 shared-slice-copy-out-term-4 : tie.Need-shared-slice-copy-out-term-4
 shared-slice-copy-out-term-4 c = search needs
 
 term-requires-4 : tie.Need-term-requires-4
-term-requires-4 c κs = let s = c .before .before .before .before .before .before .before in (s .row .ensures .few3, s .before .pre .1 .1 .each 3 (lit< tt))
+term-requires-4 c κs = let s = c .before .before .before .before .before .before .before in (s .pre .0 .few3, s .pre .1 .1 .each 3 (lit< tt))
 
 plus-requires : tie.Need-plus-requires
 plus-requires c κs =
@@ -72,23 +69,16 @@ returns c =
     let third = d .before .before in
     let b = third .before .before in
     let a = b .before .before in
-    let w = a .before .before in
-    let s = w .before in
-    let ks = s .args .knots .now in
-    let j = s .args .step in
-    let four = w .row .ensures in
-    summed ks j (a .term .result) (b .term2 .result) (third .term3 .result) (d .term4 .result) (first .plus .result) (second .plus2 .result) (c .plus3 .result)
-    (term-of ks j 0 (w .row .result .w0) (a .term .result) (a .term .ensures) (four .is0))
-    (term-of ks j 1 (w .row .result .w1) (b .term2 .result) (b .term2 .ensures) (four .is1))
-    (term-of ks j 2 (w .row .result .w2) (third .term3 .result) (third .term3 .ensures) (four .is2))
-    (term-of ks j 3 (w .row .result .w3) (d .term4 .result) (d .term4 .ensures) (four .is3))
-    (first .plus .ensures) (second .plus2 .ensures) (c .plus3 .ensures)
+    let s = a .before .before in
+    let w = s .args .w in
+    summed (s .args .knots .now) (w .w0) (w .w1) (w .w2) (w .w3)
+    (a .term .result) (b .term2 .result) (third .term3 .result) (d .term4 .result) (first .plus .result) (second .plus2 .result) (c .plus3 .result)
+    (a .term .ensures) (b .term2 .ensures) (third .term3 .ensures) (d .term4 .ensures) (first .plus .ensures) (second .plus2 .ensures) (c .plus3 .ensures)
 
 pub weighted-sum-spec : {M : Type 1} → statement M
 weighted-sum-spec =
     tie.close
     (tie.spec
-    row-requires
     shared-slice-copy-out-term
     term-requires
     shared-slice-copy-out-term-2
