@@ -35,14 +35,14 @@ fn limit(a: u64, b: u64) -> u64
     smaller((a + b) / 2, 3 * smaller(a, b))
 }
 
-fn up(m: u64) -> i64
+pub fn up(m: u64) -> i64
     requires { ⌜ m ≤ 1000000000000 ⌝ }
     ensures { λ r. ⌜ r ≡ pos m ⌝ }
 {
     m as i64
 }
 
-fn down(m: u64) -> i64
+pub fn down(m: u64) -> i64
     requires { ⌜ m ≤ 1000000000000 ⌝ }
     ensures { λ r. ⌜ r ≡ negℤ (pos m) ⌝ }
 {

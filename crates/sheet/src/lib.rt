@@ -43,7 +43,7 @@ fn is_minus(s: &[u8]) -> bool
     false
 }
 
-fn depth_in(s: &[u8]) -> Depth
+pub fn depth_in(s: &[u8]) -> Depth
     ensures { λ r. ⌜ r ≡ depthIn (now (s .entry)) ⌝ }
 {
     if is_minus(s) {
@@ -58,7 +58,7 @@ fn depth_in(s: &[u8]) -> Depth
     Depth::Is(false, n)
 }
 
-fn depth_line(l: &[u8]) -> Depth
+pub fn depth_line(l: &[u8]) -> Depth
     ensures { λ r. ⌜ r ≡ depthLine (now (l .entry)) ⌝ }
 {
     let t = text::tab_at(l);

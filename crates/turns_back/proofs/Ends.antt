@@ -14,8 +14,10 @@ use Rattle.whole.specs.Held.{turnedAll}
 use Rattle.whole.proofs.Held.{same-all}
 use Rattle.whole.proofs.Differences.{Is, sub-is, lt, of-lt}
 use Rattle.turns_back.specs.Curve.{valueAt, coefficient, curveAt}
-use Rattle.turns_back.specs.Call.{most, turningOf, startOf, endOf, byEnds}
+use Rattle.turns_back.specs.Call.{most, turningOf, startOf, endOf, wayOf, byWay, byEnds}
 use Rattle.turns_back.specs.Four.{fourAt, FourFrom}
+use Rattle.turns_back.specs.declared.Way.{Way}
+use Rattle.turns_back.specs.declared.Way.the-variants.{Rising, Falling, Level}
 use Rattle.turns_back.specs.declared.Turning.{Turning}
 use Rattle.turns_back.specs.declared.Turning.the-variants.{Flat}
 use Rattle.turns_back.proofs.Slopes.{four}
@@ -79,17 +81,21 @@ module _ (s e : ℕ) {x y : ℤ} (p : subℕ s 6000000000000 ≡ x) (q : subℕ 
   not-lower : e ≤ s → ltZ x y ≡ false
   not-lower h = not-so (ltZ x y) (λ t. let l = of-lt is-s is-e (ltZ-yes t) in absurd (omega (arith, h, l)))
 
-module _ (b : Basis) (z : List ℤ) (s e : ℕ) (p : subℕ s 6000000000000 ≡ startOf b z) (q : subℕ e 6000000000000 ≡ endOf b z) where
-  pub upwards : {t : Turning} → s < e → t ≡ turningOf b true z → t ≡ byEnds (startOf b z) (endOf b z) b z
-  upwards h r = r ∙ sym (ap (λ (c : Bool). cond c (turningOf b true z) (cond (ltZ (endOf b z) (startOf b z)) (turningOf b false z) Flat)) (lower s e p q h))
+module _ (s e : ℕ) {x y : ℤ} (p : subℕ s 6000000000000 ≡ x) (q : subℕ e 6000000000000 ≡ y) where
+  pub upwards : s < e → Rising ≡ wayOf x y
+  upwards h = rw (lower s e p q h) refl
 
-  pub downwards : {t : Turning} → e < s → t ≡ turningOf b false z → t ≡ byEnds (startOf b z) (endOf b z) b z
-  downwards h r =
-      r ∙ sym (ap (λ (c : Bool). cond c (turningOf b true z) (cond (ltZ (endOf b z) (startOf b z)) (turningOf b false z) Flat))
-      (not-lower s e p q (omega (arith, h)))
-      ∙ ap (λ (c : Bool). cond c (turningOf b false z) Flat) (lower e s q p h))
+  pub downwards : e < s → Falling ≡ wayOf x y
+  downwards h = rw (not-lower s e p q (omega (arith, h)), lower e s q p h) refl
 
-  pub level : e ≤ s → s ≤ e → Flat ≡ byEnds (startOf b z) (endOf b z) b z
-  level h k =
-      sym (ap (λ (c : Bool). cond c (turningOf b true z) (cond (ltZ (endOf b z) (startOf b z)) (turningOf b false z) Flat)) (not-lower s e p q h)
-      ∙ ap (λ (c : Bool). cond c (turningOf b false z) Flat) (not-lower e s q p k))
+  pub level : e ≤ s → s ≤ e → Level ≡ wayOf x y
+  level h k = rw (not-lower s e p q h, not-lower e s q p k) refl
+
+-- ---- and what the curve does by that
+pub by-way : (x y : ℤ) (b : Basis) (z : List ℤ) {w : Way} {t : Turning} → w ≡ wayOf x y → t ≡ byWay w b z → t ≡ byEnds x y b z
+by-way x y b z {w} {t} e f = f ∙ ap (λ (v : Way). byWay v b z) e ∙ go (ltZ x y) (ltZ y x)
+  where
+    go : (c d : Bool) → byWay (cond c Rising (cond d Falling Level)) b z ≡ cond c (turningOf b true z) (cond d (turningOf b false z) Flat)
+    go true d = refl
+    go false true = refl
+    go false false = refl

@@ -15,6 +15,8 @@ use Rattle.basis.specs.Basis.{segmentsOf}
 use Rattle.checks.specs.Checks.{curveLength}
 use Rattle.whole.specs.Held.{turnedAll, firstLarge}
 use Rattle.turns_back.specs.Curve.{curveAt, firstFall}
+use Rattle.turns_back.specs.declared.Way.{Way}
+use Rattle.turns_back.specs.declared.Way.the-variants.{Rising, Falling, Level}
 use Rattle.turns_back.specs.declared.Turning.{Turning}
 use Rattle.turns_back.specs.declared.Turning.the-variants.{Refused, Flat, Never, At}
 
@@ -43,7 +45,15 @@ unfoldable pub endOf : Basis → List ℤ → ℤ
 unfolding curveAt
 endOf b z = curveAt b z (segmentsOf b (length z) - 1) 1 1
 
--- by the direction from its start to its end, of which there is none where they are equal
+-- the direction from its start to its end, of which there is none where they are equal
+abbrev pub wayOf : ℤ → ℤ → Way
+wayOf s e = cond (ltZ s e) Rising (cond (ltZ e s) Falling Level)
+
+abbrev pub byWay : Way → Basis → List ℤ → Turning
+byWay Rising b z = turningOf b true z
+byWay Falling b z = turningOf b false z
+byWay Level b z = Flat
+
 abbrev pub byEnds : ℤ → ℤ → Basis → List ℤ → Turning
 byEnds s e b z = cond (ltZ s e) (turningOf b true z) (cond (ltZ e s) (turningOf b false z) Flat)
 

@@ -11,7 +11,7 @@ ghost use Rattle.basis.specs.Basis.{stepOf, segmentsOf};
 ghost use Rattle.whole.specs.Held.{heldAll, turned, turnedAll, Small};
 ghost use Rattle.turns_back.specs.Curve.{neverFalls, startsNoLower, segmentNeverFalls, firstFall};
 ghost use Rattle.turns_back.specs.Product.{Wide};
-ghost use Rattle.turns_back.specs.Call.{most, turningUses, turningOf, startOf, endOf, byEnds, turnsBackByOf, turnsBackOf};
+ghost use Rattle.turns_back.specs.Call.{most, turningUses, turningOf, startOf, endOf, wayOf, byEnds, turnsBackByOf, turnsBackOf};
 ghost use Rattle.turns_back.specs.Four.{fourNeverFall, fourAt, FourFrom};
 use basis::Basis;
 use error::Refusal;
@@ -22,6 +22,13 @@ pub enum Turning {
     Flat,
     Never,
     At(u16),
+}
+
+// From the curve's start to its end.
+pub enum Way {
+    Rising,
+    Falling,
+    Level,
 }
 
 // A product in two parts: the higher in 2^48s.
@@ -129,7 +136,7 @@ fn raised(up: bool, k: i64) -> u64
 }
 
 // Whether a segment starts no lower than the one before it ends. All but those of Power start where that one ends.
-fn is_start_no_lower(b: Basis, up: bool, knots: &[i64], s: usize) -> bool
+pub fn is_start_no_lower(b: Basis, up: bool, knots: &[i64], s: usize) -> bool
     requires inside { ⌜ s * stepOf b + 4 ≤ length (now knots) ⌝ }
     requires few { ⌜ length (now knots) ≤ 4096 ⌝ }
     requires small { ⌜ Small most (heldAll (now knots)) ⌝ }
@@ -190,7 +197,7 @@ fn four_from(up: bool, knots: &[i64], at: usize) -> Four
 }
 
 // One segment of a curve, whose knots start at a place.
-fn is_never_falling_at(b: Basis, up: bool, knots: &[i64], at: usize) -> bool
+pub fn is_never_falling_at(b: Basis, up: bool, knots: &[i64], at: usize) -> bool
     requires inside { ⌜ at + 4 ≤ length (now knots) ⌝ }
     requires few { ⌜ length (now knots) ≤ 4096 ⌝ }
     requires small { ⌜ Small most (heldAll (now knots)) ⌝ }
@@ -318,25 +325,38 @@ fn last(b: Basis, n: usize) -> usize
     (basis::segments(b, n) - 1) * basis::step(b)
 }
 
-// By the direction from the curve's start to its end.
-fn by_ends(b: Basis, knots: &[i64]) -> Turning
+// Whether the curve rises or falls from its start to its end, exactly.
+pub fn way_taken(b: Basis, knots: &[i64]) -> Way
     requires enough { ⌜ 4 ≤ length (now knots) ⌝ }
     requires few { ⌜ length (now knots) ≤ 4096 ⌝ }
     requires small { ⌜ Small most (heldAll (now knots)) ⌝ }
-    ensures { λ r. ⌜ r ≡ byEnds (startOf b (heldAll (now (knots .entry)))) (endOf b (heldAll (now (knots .entry)))) b
-        (heldAll (now (knots .entry))) ⌝ }
+    ensures { λ r. ⌜ r ≡ wayOf (startOf b (heldAll (now (knots .entry)))) (endOf b (heldAll (now (knots .entry)))) ⌝ }
 {
     let f = four_from(true, knots, 0);
     let l = four_from(true, knots, last(b, knots.len()));
     let s = start(b, f.k0, f.k1, f.k2, f.k3);
     let e = end(b, l.k0, l.k1, l.k2, l.k3);
     if s < e {
-        return in_direction(b, true, knots);
+        return Way::Rising;
     }
     if e < s {
-        return in_direction(b, false, knots);
+        return Way::Falling;
     }
-    Turning::Flat
+    Way::Level
+}
+
+// By that direction.
+fn by_ends(b: Basis, knots: &[i64]) -> Turning
+    requires enough { ⌜ 4 ≤ length (now knots) ⌝ }
+    requires few { ⌜ length (now knots) ≤ 4096 ⌝ }
+    requires small { ⌜ Small most (heldAll (now knots)) ⌝ }
+    ensures { λ r. ⌜ r ≡ byEnds (startOf b (heldAll (now (knots .entry)))) (endOf b (heldAll (now (knots .entry)))) b (heldAll (now (knots .entry))) ⌝ }
+{
+    match way_taken(b, knots) {
+        Way::Rising => in_direction(b, true, knots),
+        Way::Falling => in_direction(b, false, knots),
+        Way::Level => Turning::Flat,
+    }
 }
 
 // Whether the curve goes against the direction from its own start to its own end: exactly, whatever way its knots go.

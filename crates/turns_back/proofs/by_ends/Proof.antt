@@ -1,91 +1,58 @@
--- The ends are raised alike, so that they compare as the curve's do. Assumes nothing.
-use mathlib.Core.Path.{sym, ap, _∙_}
-use Prim.Native.Nat.{ℕ, _-_, _*_}
-use Rattle.basis.specs.Basis.{stepOf, segmentsOf}
+-- What the curve does by the direction of its ends. Assumes nothing.
+use mathlib.Core.Path.{refl, sym, _∙_}
 use Rattle.whole.specs.Held.{heldAll}
-use Rattle.whole.proofs.Held.{long}
-use Rattle.turns_back.proofs.Ends.{starts-so, ends-so, upwards, downwards, level}
+use Rattle.turns_back.specs.Call.{startOf, endOf}
+use Rattle.turns_back.proofs.Ends.{by-way}
 use borrow.Author.Needs.{needs}
 use Rattle.turns_back.proofs.by_ends.Statement.{statement}
 use Rattle.turns_back.proofs.by_ends.Tie as tie
 
-four-from-requires : tie.Need-four-from-requires
-four-from-requires c κs = search needs
+way-taken-requires : tie.Need-way-taken-requires
+way-taken-requires c κs = search needs
 
-last-requires : tie.Need-last-requires
-last-requires c κs = search needs
-
-four-from-requires-2 : tie.Need-four-from-requires-2
-four-from-requires-2 c κs = search needs
-
-start-requires : tie.Need-start-requires
-start-requires c κs = search needs
-
-end-requires : tie.Need-end-requires
-end-requires c κs = search needs
+enum-told : tie.Need-enum-told
+enum-told c = search needs
 
 in-direction-requires : tie.Need-in-direction-requires
 in-direction-requires c κs = search needs
 
-returns : tie.Need-returns
-returns c =
-    let o = c .before .before .before .before .before .before .before in
-    let a = o .args in
-    let z = heldAll (a .knots .now) in
-    let f = c .before .before .before .before .before .before .four-from in
-    let m = c .before .before .before .before .before .last in
-    let l = c .before .before .before .before .four-from2 in
-    let s = c .before .before .before .start in
-    let e = c .before .before .end in
-    let p = starts-so (a .b) z (s .result) (f .result .k0) (f .result .k1) (f .result .k2) (f .result .k3) (f .ensures) (s .ensures) in
-    let q = ends-so (a .b) z (e .result) (m .result) (l .result .k0) (l .result .k1) (l .result .k2) (l .result .k3)
-    (m .ensures .0 ∙ ap (λ (n : ℕ). (segmentsOf (a .b) n - 1) * stepOf (a .b)) (sym (long (a .knots .now)))) (l .ensures) (e .ensures) in
-    upwards (a .b) z (s .result) (e .result) p q (c .before .if1 .taken) (c .in-direction .ensures)
+enum-told-2 : tie.Need-enum-told-2
+enum-told-2 c = search needs
 
 in-direction-requires-2 : tie.Need-in-direction-requires-2
 in-direction-requires-2 c κs = search needs
 
+enum-told-3 : tie.Need-enum-told-3
+enum-told-3 c = search needs
+
+returns : tie.Need-returns
+returns c =
+    let a = c .before .before .before .before .args in
+    let z = heldAll (a .knots .now) in
+    by-way (startOf (a .b) z) (endOf (a .b) z) (a .b) z (sym (c .before .enum-told .given .1) ∙ c .before .before .before .way-taken .ensures) (c .in-direction .ensures)
+
 returns-2 : tie.Need-returns-2
 returns-2 c =
-    let o = c .before .before .before .before .before .before .before .before in
-    let a = o .args in
+    let a = c .before .before .before .before .args in
     let z = heldAll (a .knots .now) in
-    let f = c .before .before .before .before .before .before .before .four-from in
-    let m = c .before .before .before .before .before .before .last in
-    let l = c .before .before .before .before .before .four-from2 in
-    let s = c .before .before .before .before .start in
-    let e = c .before .before .before .end in
-    let p = starts-so (a .b) z (s .result) (f .result .k0) (f .result .k1) (f .result .k2) (f .result .k3) (f .ensures) (s .ensures) in
-    let q = ends-so (a .b) z (e .result) (m .result) (l .result .k0) (l .result .k1) (l .result .k2) (l .result .k3)
-    (m .ensures .0 ∙ ap (λ (n : ℕ). (segmentsOf (a .b) n - 1) * stepOf (a .b)) (sym (long (a .knots .now)))) (l .ensures) (e .ensures) in
-    downwards (a .b) z (s .result) (e .result) p q (c .before .if2 .taken) (c .in-direction2 .ensures)
+    by-way (startOf (a .b) z) (endOf (a .b) z) (a .b) z (sym (c .before .enum-told2 .given .1) ∙ c .before .before .before .way-taken .ensures) (c .in-direction2 .ensures)
 
 returns-3 : tie.Need-returns-3
 returns-3 c =
-    let o = c .before .before .before .before .before .before .before in
-    let a = o .args in
+    let a = c .before .before .before .args in
     let z = heldAll (a .knots .now) in
-    let f = c .before .before .before .before .before .before .four-from in
-    let m = c .before .before .before .before .before .last in
-    let l = c .before .before .before .before .four-from2 in
-    let s = c .before .before .before .start in
-    let e = c .before .before .end in
-    let p = starts-so (a .b) z (s .result) (f .result .k0) (f .result .k1) (f .result .k2) (f .result .k3) (f .ensures) (s .ensures) in
-    let q = ends-so (a .b) z (e .result) (m .result) (l .result .k0) (l .result .k1) (l .result .k2) (l .result .k3)
-    (m .ensures .0 ∙ ap (λ (n : ℕ). (segmentsOf (a .b) n - 1) * stepOf (a .b)) (sym (long (a .knots .now)))) (l .ensures) (e .ensures) in
-    level (a .b) z (s .result) (e .result) p q (c .before .if1 .left) (c .if2 .left)
+    by-way (startOf (a .b) z) (endOf (a .b) z) (a .b) z (sym (c .enum-told3 .given .1) ∙ c .before .before .way-taken .ensures) refl
 
 pub by-ends-spec : {M : Type 1} → statement M
 by-ends-spec =
     tie.close
     (tie.spec
-    four-from-requires
-    last-requires
-    four-from-requires-2
-    start-requires
-    end-requires
+    way-taken-requires
+    enum-told
     in-direction-requires
-    returns
+    enum-told-2
     in-direction-requires-2
+    enum-told-3
+    returns
     returns-2
     returns-3)

@@ -1,0 +1,45 @@
+-- The verdict, unless it was told.
+use mathlib.Core.Path.{_≡_, refl, sym, ap, _∙_, subst}
+use Rattle.text.proofs.Writing.{nothing}
+use Rattle.ask_sheet.specs.Contract.{sheetOf, lineIn, lastLine, Sound}
+use Rattle.lines_machine.specs.Contract.{openOf}
+use Prim.Native.Nat.{ℕ, _*_, _+_, _-_, _≤_, _<_, _^_}
+use Rattle.ask.proofs.Steps.{as-text, read-ends, told-ends}
+use native.Mathlib.Omega.{arith}
+use borrow.Author.Needs.{needs}
+use Rattle.ask.proofs.end.Statement.{statement}
+use Rattle.ask.proofs.end.Tie as tie
+
+enum-known-h : tie.Need-enum-known-h
+enum-known-h c = search needs
+
+verdict-requires : tie.Need-verdict-requires
+verdict-requires c κs = let k : (lineIn (c .before .before .before .h .given .0 .0) ≤ lastLine) × Sound (sheetOf (c .before .before .before .h .given .0 .0) (c .before .before .before .before .before .before .before .before .args .rows .now) (c .before .before .before .before .before .before .before .before .args .labels .now)) = rw (c .before .before .before .h .given .1) at (c .before .before .before .before .before .before .before .before .pre .0) in
+    (k .0, (c .before .before .before .before .before .before .before .before .pre .1 .0, (k .1, (c .before .before .before .before .before .before .before .before .pre .1 .1 .0, (c .before .before .before .before .before .before .before .before .pre .1 .1 .1 .0, c .before .before .before .before .before .before .before .before .pre .1 .1 .1 .1)))))
+
+enum-known-h-2 : tie.Need-enum-known-h-2
+enum-known-h-2 c = search needs
+
+same-length : tie.Need-same-length
+same-length c = search needs
+
+same-length-2 : tie.Need-same-length-2
+same-length-2 c = search needs
+
+returns : tie.Need-returns
+returns c = rw (c .before .before .before .before .before .before .before .before .h .given .1) (as-text (read-ends (sheetOf (c .before .before .before .before .before .before .before .before .h .given .0 .0) (c .before .before .before .before .before .before .before .before .before .before .before .before .before .args .rows .now) (c .before .before .before .before .before .before .before .before .before .before .before .before .before .args .labels .now))) (c .before .before .before .before .verdict .ensures .0), c .before .before .before .before .verdict .ensures .1 .0)
+
+returns-2 : tie.Need-returns-2
+returns-2 c = rw (c .before .h2 .given .1) (as-text (told-ends _) (nothing _ _), omega arith)
+
+pub end-spec : {M : Type 1} → statement M
+end-spec =
+    tie.close
+    (tie.spec
+    enum-known-h
+    verdict-requires
+    enum-known-h-2
+    same-length
+    same-length-2
+    returns
+    returns-2)

@@ -1,0 +1,95 @@
+-- The verdict at `ask`; before it a line of the sheet, after it a question.
+use mathlib.Core.Path.{_≡_, refl, sym, ap, _∙_, subst}
+use Rattle.text.proofs.Writing.{nothing}
+use Rattle.sheet.specs.Sheet.{most}
+use Rattle.ask_verdict.specs.Contract.{countIn, askedIn}
+use Rattle.ask_sheet.specs.Contract.{sheetOf, lineIn, lastLine, Sound}
+use Rattle.lines_machine.specs.Contract.{openOf}
+use Prim.Native.Nat.{ℕ, _*_, _+_, _-_, _≤_, _<_, _^_}
+use Rattle.ask.proofs.Sound.{sound-after}
+use Rattle.ask.proofs.Steps.{as-text, ask-next, ask-text, read-next, read-text, told-next, told-text}
+use native.Mathlib.Omega.{arith}
+use borrow.Author.Needs.{needs}
+use Rattle.ask.proofs.line.Statement.{statement}
+use Rattle.ask.proofs.line.Tie as tie
+
+enum-known-h : tie.Need-enum-known-h
+enum-known-h c = search needs
+
+slice-aggregate-is-line : tie.Need-slice-aggregate-is-line
+slice-aggregate-is-line c = search needs
+
+is-line-requires : tie.Need-is-line-requires
+is-line-requires c κs = search needs
+
+verdict-requires : tie.Need-verdict-requires
+verdict-requires c κs = let k : (lineIn (c .before .before .before .before .before .before .before .before .h .given .0 .0) ≤ lastLine) × Sound (sheetOf (c .before .before .before .before .before .before .before .before .h .given .0 .0) (c .before .before .before .before .before .before .before .before .before .before .before .before .before .before .args .rows .now) (c .before .before .before .before .before .before .before .before .before .before .before .before .before .before .args .labels .now)) = rw (c .before .before .before .before .before .before .before .before .h .given .1) at (c .before .before .before .before .before .before .before .before .before .before .before .before .before .before .pre .1 .0) in
+    (k .0, (c .before .before .before .before .before .before .before .before .before .before .before .before .before .before .pre .1 .1 .0, (k .1, (c .before .before .before .before .before .before .before .before .before .before .before .before .before .before .pre .1 .1 .1 .0, (c .before .before .before .before .before .before .before .before .before .before .before .before .before .before .pre .1 .1 .1 .1 .0, c .before .before .before .before .before .before .before .before .before .before .before .before .before .before .pre .1 .1 .1 .1 .1)))))
+
+same-length : tie.Need-same-length
+same-length c = search needs
+
+same-length-2 : tie.Need-same-length-2
+same-length-2 c = search needs
+
+same-length-3 : tie.Need-same-length-3
+same-length-3 c = search needs
+
+same-length-4 : tie.Need-same-length-4
+same-length-4 c = search needs
+
+returns : tie.Need-returns
+returns c = rw (c .before .before .before .before .before .before .before .before .before .before .before .before .before .h .given .1) (ask-next (sheetOf (c .before .before .before .before .before .before .before .before .before .before .before .before .before .h .given .0 .0) (c .before .before .before .before .before .before .before .before .before .before .before .before .before .before .before .before .before .before .before .args .rows .now) (c .before .before .before .before .before .before .before .before .before .before .before .before .before .before .before .before .before .before .before .args .labels .now)) (openOf (c .before .before .before .before .before .before .before .before .before .before .before .before .before .before .before .before .before .before .before .args .len) (c .before .before .before .before .before .before .before .before .before .before .before .before .before .before .before .before .before .before .before .args .line .now)) (c .before .before .before .before .before .before .before .before .before .before .is-line .ensures) (c .before .before .before .before .before .before .before .before .before .if1 .taken) (c .before .before .before .before .verdict .ensures .1 .1 .0), (c .before .before .before .before .verdict .ensures .1 .1 .1, (as-text (ask-text (sheetOf (c .before .before .before .before .before .before .before .before .before .before .before .before .before .h .given .0 .0) (c .before .before .before .before .before .before .before .before .before .before .before .before .before .before .before .before .before .before .before .args .rows .now) (c .before .before .before .before .before .before .before .before .before .before .before .before .before .before .before .before .before .before .before .args .labels .now)) (openOf (c .before .before .before .before .before .before .before .before .before .before .before .before .before .before .before .before .before .before .before .args .len) (c .before .before .before .before .before .before .before .before .before .before .before .before .before .before .before .before .before .before .before .args .line .now)) (c .before .before .before .before .before .before .before .before .before .before .is-line .ensures) (c .before .before .before .before .before .before .before .before .before .if1 .taken)) (c .before .before .before .before .verdict .ensures .0), c .before .before .before .before .verdict .ensures .1 .0)))
+
+line-requires : tie.Need-line-requires
+line-requires c κs = let k : (lineIn (c .before .before .before .before .before .before .h .given .0 .0) ≤ lastLine) × Sound (sheetOf (c .before .before .before .before .before .before .h .given .0 .0) (c .before .before .before .before .before .before .before .before .before .before .before .before .args .rows .now) (c .before .before .before .before .before .before .before .before .before .before .before .before .args .labels .now)) = rw (c .before .before .before .before .before .before .h .given .1) at (c .before .before .before .before .before .before .before .before .before .before .before .before .pre .1 .0) in
+    (c .before .before .before .before .before .before .before .before .before .before .before .before .pre .0, (k .0, (c .before .before .before .before .before .before .before .before .before .before .before .before .pre .1 .1 .0, c .before .before .before .before .before .before .before .before .before .before .before .before .pre .1 .1 .1 .0)))
+
+enum-known-h-2 : tie.Need-enum-known-h-2
+enum-known-h-2 c = search needs
+
+answer-requires : tie.Need-answer-requires
+answer-requires c κs = let k : countIn (c .before .before .before .h2 .given .0 .0) ≤ most = rw (c .before .before .before .h2 .given .1) at (c .before .before .before .before .before .before .before .before .before .pre .1 .0) in (c .before .before .before .before .before .before .before .before .before .pre .0, (k, (c .before .before .before .before .before .before .before .before .before .pre .1 .1 .1 .1 .0, c .before .before .before .before .before .before .before .before .before .pre .1 .1 .1 .1 .1)))
+
+same-length-5 : tie.Need-same-length-5
+same-length-5 c = search needs
+
+same-length-6 : tie.Need-same-length-6
+same-length-6 c = search needs
+
+returns-2 : tie.Need-returns-2
+returns-2 c = let k : (lineIn (c .before .before .before .before .before .before .before .before .before .before .h .given .0 .0) ≤ lastLine) × Sound (sheetOf (c .before .before .before .before .before .before .before .before .before .before .h .given .0 .0) (c .before .before .before .before .before .before .before .before .before .before .before .before .before .before .before .before .args .rows .now) (c .before .before .before .before .before .before .before .before .before .before .before .before .before .before .before .before .args .labels .now)) = rw (c .before .before .before .before .before .before .before .before .before .before .h .given .1) at (c .before .before .before .before .before .before .before .before .before .before .before .before .before .before .before .before .pre .1 .0) in
+    rw (c .before .before .before .before .before .before .before .before .before .before .h .given .1) (read-next (sheetOf (c .before .before .before .before .before .before .before .before .before .before .h .given .0 .0) (c .before .before .before .before .before .before .before .before .before .before .before .before .before .before .before .before .args .rows .now) (c .before .before .before .before .before .before .before .before .before .before .before .before .before .before .before .before .args .labels .now)) (openOf (c .before .before .before .before .before .before .before .before .before .before .before .before .before .before .before .before .args .len) (c .before .before .before .before .before .before .before .before .before .before .before .before .before .before .before .before .args .line .now)) (c .before .before .before .before .before .before .before .is-line .ensures) (c .before .before .before .before .before .before .if1 .left) (c .before .before .before .line .ensures .0),
+    ((c .before .before .before .line .ensures .1, subst (λ s. Sound s) (sym (c .before .before .before .line .ensures .0)) (sound-after (sheetOf (c .before .before .before .before .before .before .before .before .before .before .h .given .0 .0) (c .before .before .before .before .before .before .before .before .before .before .before .before .before .before .before .before .args .rows .now) (c .before .before .before .before .before .before .before .before .before .before .before .before .before .before .before .before .args .labels .now)) (openOf (c .before .before .before .before .before .before .before .before .before .before .before .before .before .before .before .before .args .len) (c .before .before .before .before .before .before .before .before .before .before .before .before .before .before .before .before .args .line .now)) (k .1))), (as-text (read-text (sheetOf (c .before .before .before .before .before .before .before .before .before .before .h .given .0 .0) (c .before .before .before .before .before .before .before .before .before .before .before .before .before .before .before .before .args .rows .now) (c .before .before .before .before .before .before .before .before .before .before .before .before .before .before .before .before .args .labels .now)) (openOf (c .before .before .before .before .before .before .before .before .before .before .before .before .before .before .before .before .args .len) (c .before .before .before .before .before .before .before .before .before .before .before .before .before .before .before .before .args .line .now)) (c .before .before .before .before .before .before .before .is-line .ensures) (c .before .before .before .before .before .before .if1 .left)) (nothing _ _), omega arith)))
+
+same-length-7 : tie.Need-same-length-7
+same-length-7 c = search needs
+
+same-length-8 : tie.Need-same-length-8
+same-length-8 c = search needs
+
+returns-3 : tie.Need-returns-3
+returns-3 c = let k : countIn (c .before .before .before .before .before .before .h2 .given .0 .0) ≤ most = rw (c .before .before .before .before .before .before .h2 .given .1) at (c .before .before .before .before .before .before .before .before .before .before .before .before .pre .1 .0) in rw (c .before .before .before .before .before .before .h2 .given .1) (told-next _ (openOf (c .before .before .before .before .before .before .before .before .before .before .before .before .args .len) (c .before .before .before .before .before .before .before .before .before .before .before .before .args .line .now)), (k, (as-text (told-text _ (openOf (c .before .before .before .before .before .before .before .before .before .before .before .before .args .len) (c .before .before .before .before .before .before .before .before .before .before .before .before .args .line .now))) (c .before .before .answer .ensures .0), c .before .before .answer .ensures .1)))
+
+pub line-spec : {M : Type 1} → statement M
+line-spec =
+    tie.close
+    (tie.spec
+    enum-known-h
+    slice-aggregate-is-line
+    is-line-requires
+    verdict-requires
+    same-length
+    same-length-2
+    same-length-3
+    same-length-4
+    returns
+    line-requires
+    enum-known-h-2
+    answer-requires
+    same-length-5
+    same-length-6
+    returns-2
+    same-length-7
+    same-length-8
+    returns-3)

@@ -1,0 +1,44 @@
+-- Monotone, or a basis.
+use mathlib.Core.Path.{refl, sym, ap, _∙_}
+use Rattle.ask_sheet.specs.Sheet.{drawn}
+use Rattle.ask_sheet.proofs.Lines.{is-monotone, is-drawn}
+use borrow.Author.Needs.{needs}
+use Rattle.ask_sheet.proofs.kind_named.Statement.{statement}
+use Rattle.ask_sheet.proofs.kind_named.Tie as tie
+
+slice-aggregate-is-word : tie.Need-slice-aggregate-is-word
+slice-aggregate-is-word c = search needs
+
+is-word-requires : tie.Need-is-word-requires
+is-word-requires c κs = search needs
+
+returns : tie.Need-returns
+returns c = is-monotone (c .before .before .before .before .args .l .now) (c .before .is-word .ensures) (c .if1 .taken)
+
+basis-named-requires : tie.Need-basis-named-requires
+basis-named-requires c κs = search needs
+
+enum-known-b : tie.Need-enum-known-b
+enum-known-b c = search needs
+
+enum-told : tie.Need-enum-told
+enum-told c = search needs
+
+returns-2 : tie.Need-returns-2
+returns-2 c = is-drawn (c .before .before .before .before .before .before .before .args .l .now) (c .before .before .before .before .is-word .ensures) (c .before .before .before .if1 .left) (c .before .before .basis-named .ensures) (ap drawn (sym (c .enum-told .given .1)))
+
+returns-3 : tie.Need-returns-3
+returns-3 c = is-drawn (c .before .before .before .before .before .before .before .before .args .l .now) (c .before .before .before .before .before .is-word .ensures) (c .before .before .before .before .if1 .left) (c .before .before .before .basis-named .ensures) (ap drawn (sym (c .before .b .given .1)))
+
+pub kind-named-spec : {M : Type 1} → statement M
+kind-named-spec =
+    tie.close
+    (tie.spec
+    slice-aggregate-is-word
+    is-word-requires
+    returns
+    basis-named-requires
+    enum-known-b
+    enum-told
+    returns-2
+    returns-3)

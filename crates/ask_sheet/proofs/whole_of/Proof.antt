@@ -1,0 +1,30 @@
+-- A number with its sign.
+use mathlib.Core.Path.{refl, sym, ap, _∙_}
+use mathlib.Core.Bool.{Bool}
+use Rattle.whole.specs.Held.{held}
+use Rattle.ask_sheet.specs.Sheet.{wholeOf}
+use Rattle.ask_sheet.proofs.Lines.{whole-held}
+use borrow.Author.Needs.{needs}
+use Rattle.ask_sheet.proofs.whole_of.Statement.{statement}
+use Rattle.ask_sheet.proofs.whole_of.Tie as tie
+
+down-requires : tie.Need-down-requires
+down-requires c κs = search needs
+
+returns : tie.Need-returns
+returns c = ap held (c .down .ensures ∙ ap (λ (b : Bool). wholeOf b (c .before .before .args .n)) (sym (c .before .if1 .taken))) ∙ whole-held (c .before .before .args .minus) (c .before .before .args .n) (c .before .before .pre)
+
+up-requires : tie.Need-up-requires
+up-requires c κs = search needs
+
+returns-2 : tie.Need-returns-2
+returns-2 c = ap held (c .up .ensures ∙ ap (λ (b : Bool). wholeOf b (c .before .before .args .n)) (sym (c .before .if1 .left))) ∙ whole-held (c .before .before .args .minus) (c .before .before .args .n) (c .before .before .pre)
+
+pub whole-of-spec : {M : Type 1} → statement M
+whole-of-spec =
+    tie.close
+    (tie.spec
+    down-requires
+    returns
+    up-requires
+    returns-2)

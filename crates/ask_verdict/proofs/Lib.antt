@@ -1,0 +1,5 @@
+pub mod Labels
+pub mod Bends
+pub mod Doubles
+pub mod Texts
+pub mod Telling

@@ -1,0 +1,44 @@
+-- One division, and the sign only where something is left of the number.
+use mathlib.Core.Path.{_≡_, refl, sym, ap, _∙_, subst}
+use lib.Dec.{le→leb}
+use Prim.Native.Nat.{_^_}
+use lib.Ieee.{inFloat, ofBits}
+use Rattle.ask_verdict.proofs.Doubles.{zero-knot, plus-knot, minus-knot, up-knot, down-knot, size-is}
+use native.Mathlib.Omega.{arith}
+use borrow.Author.Needs.{needs}
+use Rattle.ask_verdict.proofs.double_of.Statement.{statement}
+use Rattle.ask_verdict.proofs.double_of.Tie as tie
+
+size-requires : tie.Need-size-requires
+size-requires c κs = search needs
+
+returns : tie.Need-returns
+unfolding ofBits
+returns c = zero-knot (c .before .before .args .z) (c .before .size .result) (size-is (c .before .before .args .z) (c .before .before .pre) (c .before .size .ensures)) (c .if1 .taken)
+
+int-to-float-result : tie.Need-int-to-float-result
+unfolding inFloat
+int-to-float-result c = le→leb (c .before .before .before .size .result) (2 ^ 53) (omega (arith, size-is (c .before .before .before .before .args .z) (c .before .before .before .before .pre) (c .before .before .before .size .ensures), c .before .before .before .before .pre))
+
+returns-2 : tie.Need-returns-2
+unfolding ofBits
+returns-2 c = plus-knot (c .before .before .before .size .result) (omega (arith, size-is (c .before .before .before .before .args .z) (c .before .before .before .before .pre) (c .before .before .before .size .ensures), c .before .before .before .before .pre)) (c .before .before .if1 .left) ∙ up-knot (c .before .before .before .before .args .z) (c .before .before .before .size .result) (size-is (c .before .before .before .before .args .z) (c .before .before .before .before .pre) (c .before .before .before .size .ensures)) (c .before .before .before .before .pre) (c .before .if2 .taken)
+
+int-to-float-result-2 : tie.Need-int-to-float-result-2
+unfolding inFloat
+int-to-float-result-2 c = le→leb (c .before .before .before .size .result) (2 ^ 53) (omega (arith, size-is (c .before .before .before .before .args .z) (c .before .before .before .before .pre) (c .before .before .before .size .ensures), c .before .before .before .before .pre))
+
+returns-3 : tie.Need-returns-3
+unfolding ofBits
+returns-3 c = minus-knot (c .before .before .before .size .result) (omega (arith, size-is (c .before .before .before .before .args .z) (c .before .before .before .before .pre) (c .before .before .before .size .ensures), c .before .before .before .before .pre)) (c .before .before .if1 .left) ∙ down-knot (c .before .before .before .before .args .z) (c .before .before .before .size .result) (size-is (c .before .before .before .before .args .z) (c .before .before .before .before .pre) (c .before .before .before .size .ensures)) (c .before .before .before .before .pre) (c .before .if2 .left)
+
+pub double-of-spec : {M : Type 1} → statement M
+double-of-spec =
+    tie.close
+    (tie.spec
+    size-requires
+    returns
+    int-to-float-result
+    returns-2
+    int-to-float-result-2
+    returns-3)

@@ -1,0 +1,78 @@
+-- Invariant: the knots passed are written.
+use mathlib.Core.Path.{_≡_, refl, sym, ap, _∙_, subst}
+use Rattle.whole.specs.Held.{held, heldAll, turnedAll}
+use mathlib.Core.List.{map}
+use Prim.Native.Nat.{ℕ, _+_, _-_, _≤_, _<_}
+use lib.ListN.{length, take, getD}
+use lib.IntN.{pos}
+use Rattle.whole.proofs.Held.{small-at}
+use Rattle.turns_back.specs.Call as turns
+use Rattle.ask_verdict.specs.Curve.{doubleOf}
+use Rattle.ask_verdict.proofs.Doubles.{fill-on, filled}
+use native.Mathlib.Omega.{arith}
+use borrow.Author.Needs.{needs}
+use Rattle.ask_verdict.proofs.fill.Statement.{statement}
+use Rattle.ask_verdict.proofs.fill.Tie as tie
+
+abbrev Inv-loop : tie.InvT-loop
+Inv-loop whole knots₀ i₀ knots i = (i ≤ length whole) × ((length knots ≡ length knots₀) × (take i knots ≡ take i (map doubleOf (heldAll whole))))
+
+abbrev μ-loop : tie.MeasureT-loop
+μ-loop whole knots₀ i₀ knots i = length whole - i
+
+loop-holds : tie.Need-loop-holds Inv-loop μ-loop
+loop-holds c = (omega arith, (refl, refl))
+
+mul-double-of : tie.Need-mul-double-of Inv-loop μ-loop
+mul-double-of c = search needs
+
+shared-slice-copy-out-double-of : tie.Need-shared-slice-copy-out-double-of Inv-loop μ-loop
+shared-slice-copy-out-double-of c = search needs
+
+double-of-requires : tie.Need-double-of-requires Inv-loop μ-loop
+double-of-requires c κs = small-at turns.most (c .before .before .before .before .args .whole .now) (c .before .before .before .before .pre .0) (c .before .before .loop .i) (omega (arith, c .before .loop-test .taken))
+
+mul-knots : tie.Need-mul-knots Inv-loop μ-loop
+mul-knots c = search needs
+
+slice-write-knots : tie.Need-slice-write-knots Inv-loop μ-loop
+slice-write-knots c = search needs
+
+add-i : tie.Need-add-i Inv-loop μ-loop
+add-i c = search needs
+
+loop-less : tie.Need-loop-less Inv-loop μ-loop
+loop-less c = search needs
+
+loop-again : tie.Need-loop-again Inv-loop μ-loop
+loop-again c = (
+  omega (arith, c .before .before .loop-test .taken),
+  (
+    search needs,
+    fill-on (c .before .before .before .before .before .args .whole .now) (c .before .before .before .loop .knots) (c .before .before .before .loop .i) (omega (arith, c .before .before .loop-test .taken)) (omega (arith, c .before .before .loop-test .taken, c .before .before .before .loop .inv .1 .0, c .before .before .before .before .before .pre .1)) (c .before .before .before .loop .inv .1 .1) (c .double-of .ensures),
+  ),
+)
+
+same-length : tie.Need-same-length Inv-loop μ-loop
+same-length c = search needs
+
+returns : tie.Need-returns Inv-loop μ-loop
+returns c = let e : c .before .loop .i ≡ length (c .before .before .before .args .whole .now) = omega arith in (filled (c .before .before .before .args .whole .now) (c .before .loop .knots) (rw e at (c .before .loop .inv .1 .1)), c .before .loop .inv .1 .0)
+
+pub fill-spec : {M : Type 1} → statement M
+fill-spec =
+    tie.close
+    (tie.spec
+    Inv-loop
+    μ-loop
+    loop-holds
+    mul-double-of
+    shared-slice-copy-out-double-of
+    double-of-requires
+    mul-knots
+    slice-write-knots
+    add-i
+    loop-less
+    loop-again
+    same-length
+    returns)

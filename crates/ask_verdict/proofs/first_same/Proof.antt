@@ -1,0 +1,59 @@
+-- Invariant: none before j is the same, so that the first from there on is the first of all.
+use mathlib.Core.Path.{_≡_, refl, sym, ap, _∙_, subst}
+use mathlib.Core.List.{List, []}
+use Prim.Native.Nat.{ℕ, _-_, _≤_, _<_}
+use lib.ListN.{getD}
+use Rattle.ask_sheet.specs.Contract.{labelsTo}
+use Rattle.ask_verdict.specs.Faults.{sameFrom, firstSame}
+use Rattle.ask_verdict.proofs.Labels.{both, label-of, found, passed, none-found, from-first}
+use native.Mathlib.Omega.{arith}
+use borrow.Author.Needs.{needs}
+use Rattle.ask_verdict.proofs.first_same.Statement.{statement}
+use Rattle.ask_verdict.proofs.first_same.Tie as tie
+
+abbrev Inv-loop : tie.InvT-loop
+Inv-loop labels n i j₀ j = (j ≤ i) × (sameFrom (labelsTo labels n) (getD (labelsTo labels n) i []) j (i - j) ≡ firstSame (labelsTo labels n) i)
+
+abbrev μ-loop : tie.MeasureT-loop
+μ-loop labels n i j₀ j = i - j
+
+loop-holds : tie.Need-loop-holds Inv-loop μ-loop
+loop-holds c = (omega arith, from-first (labelsTo (c .before .args .labels .now) (c .before .args .n)) (c .before .args .i))
+
+is-same-requires : tie.Need-is-same-requires Inv-loop μ-loop
+is-same-requires c κs = search needs
+
+returns : tie.Need-returns Inv-loop μ-loop
+returns c = let a = c .before .before .before .before .before .args in
+    let j = c .before .before .before .loop .j in
+    let e = both (label-of (a .labels .now) (a .n) j (omega (arith, c .before .before .before .before .before .pre .0, c .before .before .loop-test .taken))) (label-of (a .labels .now) (a .n) (a .i) (c .before .before .before .before .before .pre .0)) in
+    (found (labelsTo (a .labels .now) (a .n)) _ (a .i) j (omega (arith, c .before .before .loop-test .taken)) (c .before .before .before .loop .inv .1) (e ∙ sym (c .before .is-same .ensures) ∙ c .if1 .taken), omega (arith, c .before .before .before .loop .inv .0))
+
+add-j : tie.Need-add-j Inv-loop μ-loop
+add-j c = search needs
+
+loop-less : tie.Need-loop-less Inv-loop μ-loop
+loop-less c = search needs
+
+loop-again : tie.Need-loop-again Inv-loop μ-loop
+loop-again c = let a = c .before .before .before .before .before .args in
+    let j = c .before .before .before .loop .j in
+    let e = both (label-of (a .labels .now) (a .n) j (omega (arith, c .before .before .before .before .before .pre .0, c .before .before .loop-test .taken))) (label-of (a .labels .now) (a .n) (a .i) (c .before .before .before .before .before .pre .0)) in
+    (omega (arith, c .before .before .loop-test .taken), passed (labelsTo (a .labels .now) (a .n)) _ (a .i) j (omega (arith, c .before .before .loop-test .taken)) (c .before .before .before .loop .inv .1) (e ∙ sym (c .before .is-same .ensures) ∙ c .if1 .left))
+
+returns-2 : tie.Need-returns-2 Inv-loop μ-loop
+returns-2 c = (none-found (labelsTo (c .before .before .before .args .labels .now) (c .before .before .before .args .n)) _ (c .before .before .before .args .i) (c .before .loop .j) (omega arith) (c .before .loop .inv .1), c .before .loop .inv .0)
+
+pub first-same-spec : {M : Type 1} → statement M
+first-same-spec =
+    tie.close
+    (tie.spec
+    Inv-loop
+    μ-loop
+    loop-holds
+    is-same-requires
+    returns
+    add-j
+    loop-less
+    loop-again
+    returns-2)

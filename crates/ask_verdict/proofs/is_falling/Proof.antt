@@ -1,0 +1,67 @@
+-- The segment, then the seam behind it.
+use mathlib.Core.Path.{_≡_, refl, sym, ap, _∙_, subst}
+use borrow.Author.Tests.{not-true, not-false}
+use Prim.Native.Nat.{ℕ, _*_, _+_, _<_, _≤_}
+use lib.ListN.{length, drop}
+use Rattle.basis.specs.Basis.{segmentsOf}
+use Rattle.turns_back.specs.Four.{fourNeverFall}
+use Rattle.turns_back.proofs.Verdicts.{starts}
+use Rattle.whole.specs.Held.{held, heldAll, turnedAll}
+use Rattle.whole.proofs.Held.{long, turned-long}
+use Rattle.ask_verdict.proofs.Bends.{here, at-the-seam, nowhere}
+use native.Mathlib.Omega.{arith}
+use borrow.Author.Needs.{needs}
+use Rattle.ask_verdict.proofs.is_falling.Statement.{statement}
+use Rattle.ask_verdict.proofs.is_falling.Tie as tie
+
+step-requires : tie.Need-step-requires
+step-requires c κs = search needs
+
+mul-is-never-falling-at : tie.Need-mul-is-never-falling-at
+mul-is-never-falling-at c = let h = subst (λ (t : ℕ). c .before .args .s * t + 4 ≤ length (c .before .args .knots .now)) (sym (c .step .ensures .0)) (starts (c .before .args .b) (length (c .before .args .knots .now)) (c .before .args .s) (c .before .pre .0) (c .before .pre .1 .1 .1)) in omega (arith, h, c .before .pre .1 .0)
+
+is-never-falling-at-requires : tie.Need-is-never-falling-at-requires
+is-never-falling-at-requires c κs = let h = starts (c .before .args .b) (length (c .before .args .knots .now)) (c .before .args .s) (c .before .pre .0) (c .before .pre .1 .1 .1) in
+    ((rw (c .step .ensures .0) h), (c .before .pre .1 .0, c .before .pre .1 .1 .0))
+
+returns : tie.Need-returns
+returns c = here (c .before .before .before .args .b) (turnedAll (c .before .before .before .args .up) (heldAll (c .before .before .before .args .knots .now))) (c .before .before .before .args .s) (c .before .is-never-falling-at .ensures ∙ ap (λ (t : ℕ). fourNeverFall (c .before .before .before .args .b) (drop (c .before .before .before .args .s * t) (turnedAll (c .before .before .before .args .up) (heldAll (c .before .before .before .args .knots .now))))) (c .before .before .step .ensures .0)) (not-true _ (c .if1 .taken))
+
+segments-requires : tie.Need-segments-requires
+segments-requires c κs = search needs
+
+sub-last : tie.Need-sub-last
+sub-last c = search needs
+
+add-is-start-no-lower : tie.Need-add-is-start-no-lower
+add-is-start-no-lower c = search needs
+
+is-start-no-lower-requires : tie.Need-is-start-no-lower-requires
+is-start-no-lower-requires c κs = (starts (c .before .before .before .before .before .args .b) (length (c .before .before .before .before .before .args .knots .now)) (c .before .before .before .before .before .args .s + 1) (c .before .before .before .before .before .pre .0) (omega (arith, c .before .segments .ensures, c .if2 .taken)), (c .before .before .before .before .before .pre .1 .0, c .before .before .before .before .before .pre .1 .1 .0))
+
+returns-2 : tie.Need-returns-2
+returns-2 c = let z = turnedAll (c .before .before .before .before .before .before .args .up) (heldAll (c .before .before .before .before .before .before .args .knots .now)) in
+    let e = turned-long (c .before .before .before .before .before .before .args .up) (heldAll (c .before .before .before .before .before .before .args .knots .now)) ∙ long (c .before .before .before .before .before .before .args .knots .now) in
+    at-the-seam (c .before .before .before .before .before .before .args .b) z (c .before .before .before .before .before .before .args .s) (c .before .before .before .before .is-never-falling-at .ensures ∙ ap (λ (t : ℕ). fourNeverFall (c .before .before .before .before .before .before .args .b) (drop (c .before .before .before .before .before .before .args .s * t) z)) (c .before .before .before .before .before .step .ensures .0)) (not-false _ (c .before .before .before .if1 .left))
+    (rw e (omega (arith, c .before .before .segments .ensures, c .before .if2 .taken))) (c .is-start-no-lower .ensures)
+
+returns-3 : tie.Need-returns-3
+returns-3 c = let z = turnedAll (c .before .before .before .before .before .args .up) (heldAll (c .before .before .before .before .before .args .knots .now)) in
+    let e = turned-long (c .before .before .before .before .before .args .up) (heldAll (c .before .before .before .before .before .args .knots .now)) ∙ long (c .before .before .before .before .before .args .knots .now) in
+    nowhere (c .before .before .before .before .before .args .b) z (c .before .before .before .before .before .args .s) (c .before .before .before .is-never-falling-at .ensures ∙ ap (λ (t : ℕ). fourNeverFall (c .before .before .before .before .before .args .b) (drop (c .before .before .before .before .before .args .s * t) z)) (c .before .before .before .before .step .ensures .0)) (not-false _ (c .before .before .if1 .left))
+    (rw e (omega (arith, c .before .segments .ensures, c .if2 .left)))
+
+pub is-falling-spec : {M : Type 1} → statement M
+is-falling-spec =
+    tie.close
+    (tie.spec
+    step-requires
+    mul-is-never-falling-at
+    is-never-falling-at-requires
+    returns
+    segments-requires
+    sub-last
+    add-is-start-no-lower
+    is-start-no-lower-requires
+    returns-2
+    returns-3)

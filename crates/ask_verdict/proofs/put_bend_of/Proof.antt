@@ -1,0 +1,78 @@
+-- Rows that turn are told, else a segment that falls.
+use mathlib.Core.Path.{_≡_, refl, sym, ap, _∙_, subst}
+use Rattle.text.proofs.Writing.{nothing, then}
+use Rattle.ask_verdict.proofs.Texts.{as-text, one-text, no-text}
+use Rattle.whole.specs.Held.{held, heldAll, turnedAll}
+use Rattle.whole.proofs.Held.{long}
+use Rattle.basis.specs.declared.Basis.{Basis}
+use Prim.Native.Nat.{_<_}
+use lib.ListN.{length}
+use Rattle.basis.specs.Basis.{segmentsOf}
+use Rattle.ask_verdict.proofs.Bends.{says-turns, says-falls, says-nothing}
+use native.Mathlib.Omega.{arith}
+use borrow.Author.Needs.{needs}
+use Rattle.ask_verdict.proofs.put_bend_of.Statement.{statement}
+use Rattle.ask_verdict.proofs.put_bend_of.Tie as tie
+
+is-turning-requires : tie.Need-is-turning-requires
+is-turning-requires c κs = search needs
+
+slice-aggregate-put-number : tie.Need-slice-aggregate-put-number
+slice-aggregate-put-number c = search needs
+
+add-put-number : tie.Need-add-put-number
+add-put-number c = omega (arith, c .before .before .before .before .before .pre .0, c .before .before .before .before .before .pre .1 .0 .rows, long (c .before .before .before .before .before .args .rows .now))
+
+put-number-requires : tie.Need-put-number-requires
+put-number-requires c κs = (omega arith, (omega (arith, c .before .before .before .before .before .pre .0, c .before .before .before .before .before .pre .1 .0 .rows, long (c .before .before .before .before .before .args .rows .now)), omega arith))
+
+same-length : tie.Need-same-length
+same-length c = search needs
+
+returns : tie.Need-returns
+returns c = (as-text (says-turns (c .before .before .before .before .before .before .before .before .args .k) (c .before .before .before .before .before .before .before .before .args .up) (heldAll (c .before .before .before .before .before .before .before .before .args .rows .now)) (heldAll (c .before .before .before .before .before .before .before .before .args .knots .now)) (c .before .before .before .before .before .before .before .before .args .i) (c .before .before .before .before .before .before .before .before .args .s) (c .before .before .before .before .before .before .before .before .pre .1 .0 .is) (c .before .before .before .before .before .before .is-turning .ensures) (c .before .before .before .before .before .if1 .taken)) (c .before .before .put-number .ensures .0), omega (arith, c .before .before .put-number .ensures .1))
+
+basis-of-requires : tie.Need-basis-of-requires
+basis-of-requires c κs = search needs
+
+is-falling-requires : tie.Need-is-falling-requires
+is-falling-requires c κs = let d = c .before .before .before .before .pre .1 .0 in
+    let e = long (c .before .before .before .before .args .knots .now) in
+    (omega (arith, d .enough, e), (omega (arith, d .few, e), (d .small, (rw (c .basis-of .ensures) (c .before .before .before .before .pre .1 .1 .0)))))
+
+slice-aggregate-put-number-2 : tie.Need-slice-aggregate-put-number-2
+slice-aggregate-put-number-2 c = search needs
+
+add-put-number-2 : tie.Need-add-put-number-2
+add-put-number-2 c = omega (arith, c .before .before .before .before .before .before .before .before .pre .0, c .before .before .before .before .before .before .before .before .pre .1 .0 .rows, long (c .before .before .before .before .before .before .before .before .args .rows .now))
+
+put-number-requires-2 : tie.Need-put-number-requires-2
+put-number-requires-2 c κs = (omega arith, (omega (arith, c .before .before .before .before .before .before .before .before .pre .0, c .before .before .before .before .before .before .before .before .pre .1 .0 .rows, long (c .before .before .before .before .before .before .before .before .args .rows .now)), omega arith))
+
+same-length-2 : tie.Need-same-length-2
+same-length-2 c = search needs
+
+returns-2 : tie.Need-returns-2
+returns-2 c = (as-text (says-falls (c .before .before .before .before .before .before .before .before .before .before .before .args .k) (c .before .before .before .before .before .before .before .before .before .before .before .args .up) (heldAll (c .before .before .before .before .before .before .before .before .before .before .before .args .rows .now)) (heldAll (c .before .before .before .before .before .before .before .before .before .before .before .args .knots .now)) (c .before .before .before .before .before .before .before .before .before .before .before .args .i) (c .before .before .before .before .before .before .before .before .before .before .before .args .s) (c .before .before .before .before .before .before .before .before .before .before .before .pre .1 .0 .is) (c .before .before .before .before .before .before .before .before .before .is-turning .ensures) (c .before .before .before .before .before .before .before .basis-of .ensures) (c .before .before .before .before .before .before .is-falling .ensures) (c .before .before .before .before .before .before .before .before .if1 .left) (c .before .before .before .before .before .if2 .taken)) (c .before .before .put-number2 .ensures .0), omega (arith, c .before .before .put-number2 .ensures .1))
+
+returns-3 : tie.Need-returns-3
+returns-3 c = (as-text (says-nothing (c .before .before .before .before .before .before .args .k) (c .before .before .before .before .before .before .args .up) (heldAll (c .before .before .before .before .before .before .args .rows .now)) (heldAll (c .before .before .before .before .before .before .args .knots .now)) (c .before .before .before .before .before .before .args .i) (c .before .before .before .before .before .before .args .s) (c .before .before .before .before .before .before .pre .1 .0 .is) (c .before .before .before .before .is-turning .ensures) (c .before .before .basis-of .ensures) (c .before .is-falling .ensures) (c .before .before .before .if1 .left) (c .if2 .left)) (nothing _ _), omega arith)
+
+pub put-bend-of-spec : {M : Type 1} → statement M
+put-bend-of-spec =
+    tie.close
+    (tie.spec
+    is-turning-requires
+    slice-aggregate-put-number
+    add-put-number
+    put-number-requires
+    same-length
+    returns
+    basis-of-requires
+    is-falling-requires
+    slice-aggregate-put-number-2
+    add-put-number-2
+    put-number-requires-2
+    same-length-2
+    returns-2
+    returns-3)

@@ -1,0 +1,55 @@
+-- The direction, the rows, and whether there is a direction.
+use mathlib.Core.Path.{_≡_, refl, sym, ap, _∙_, subst}
+use Rattle.text.proofs.Writing.{nothing, then}
+use Rattle.whole.specs.Held.{held, heldAll, turnedAll}
+use Rattle.whole.proofs.Held.{long}
+use Prim.Native.Nat.{ℕ, _*_}
+use lib.ListN.{length}
+use lib.IntN.{ℤ}
+use mathlib.Core.List.{List}
+use Rattle.basis.specs.declared.Basis.{Basis}
+use Rattle.turns_back.specs.Call.{startOf, endOf, wayOf}
+use Rattle.ask_sheet.specs.Contract.{labelsTo}
+use Rattle.ask_verdict.specs.Curve.{basisOf, knotsOf}
+use Rattle.ask_verdict.specs.Faults.{faultsTo}
+use Rattle.ask_verdict.specs.Told.{faultsText}
+use Rattle.ask_verdict.proofs.Texts.{as-text, all-rows}
+use Rattle.ask_verdict.proofs.Bends.{way-there}
+use native.Mathlib.Omega.{arith}
+use borrow.Author.Needs.{needs}
+use Rattle.ask_verdict.proofs.put_faults.Statement.{statement}
+use Rattle.ask_verdict.proofs.put_faults.Tie as tie
+
+basis-of-requires : tie.Need-basis-of-requires
+basis-of-requires c κs = search needs
+
+way-taken-requires : tie.Need-way-taken-requires
+way-taken-requires c κs = let d = c .before .before .before .pre .0 in let e = long (c .before .before .before .args .knots .now) in (omega (arith, d .enough, e), (omega (arith, d .few, e), d .small))
+
+put-rows-requires : tie.Need-put-rows-requires
+put-rows-requires c κs = search needs
+
+put-flat-requires : tie.Need-put-flat-requires
+put-flat-requires c κs = omega (arith, c .before .before .before .put-rows .ensures .1, c .before .before .before .put-rows .ensures .0 .long, c .before .before .before .before .before .before .before .before .before .pre .0 .rows, long (c .before .before .before .before .before .before .before .before .before .args .rows .now))
+
+same-length : tie.Need-same-length
+same-length c = search needs
+
+returns : tie.Need-returns
+returns c = let z = heldAll (c .before .before .before .before .before .before .before .before .before .before .before .before .args .rows .now) in
+    let ls = labelsTo (c .before .before .before .before .before .before .before .before .before .before .before .before .args .labels .now) (length (c .before .before .before .before .before .before .before .before .before .before .before .before .args .rows .now)) in (
+      all-rows (c .before .before .before .before .before .before .before .before .before .before .before .before .args .k) (c .before .before .before .before .before .before .before .before .way-taken .result) z ls (way-there (c .before .before .before .before .before .before .before .before .before .before .before .before .args .k) z (heldAll (c .before .before .before .before .before .before .before .before .before .before .before .before .args .knots .now)) (c .before .before .before .before .before .before .before .before .before .before .before .before .pre .0 .is) (c .before .before .before .before .before .before .before .before .before .basis-of .ensures) (c .before .before .before .before .before .before .before .before .way-taken .ensures))
+          (as-text (ap (λ (n : ℕ). faultsText (faultsTo (c .before .before .before .before .before .before .before .before .before .before .before .before .args .k) (c .before .before .before .before .before .before .before .before .way-taken .result) z ls n)) (sym (long (c .before .before .before .before .before .before .before .before .before .before .before .before .args .rows .now)))) (c .before .before .before .before .before .before .put-rows .ensures .0)) (c .before .before .put-flat .ensures .0),
+      omega (arith, c .before .before .before .before .before .before .put-rows .ensures .1, c .before .before .put-flat .ensures .1, c .before .before .before .before .before .before .before .before .before .before .before .before .pre .0 .rows, long (c .before .before .before .before .before .before .before .before .before .before .before .before .args .rows .now)),
+    )
+
+pub put-faults-spec : {M : Type 1} → statement M
+put-faults-spec =
+    tie.close
+    (tie.spec
+    basis-of-requires
+    way-taken-requires
+    put-rows-requires
+    put-flat-requires
+    same-length
+    returns)

@@ -1,0 +1,50 @@
+-- A line where there is no direction.
+use mathlib.Core.Path.{_≡_, refl, sym, ap, _∙_, subst}
+use Rattle.text.proofs.Writing.{nothing, then}
+use Rattle.ask_verdict.proofs.Texts.{as-text, one-text, no-text}
+use Rattle.ask_verdict.specs.Faults.{flat}
+use native.Mathlib.Omega.{arith}
+use borrow.Author.Needs.{needs}
+use Rattle.ask_verdict.proofs.put_flat.Statement.{statement}
+use Rattle.ask_verdict.proofs.put_flat.Tie as tie
+
+enum-told : tie.Need-enum-told
+enum-told c = search needs
+
+enum-told-2 : tie.Need-enum-told-2
+enum-told-2 c = search needs
+
+enum-told-3 : tie.Need-enum-told-3
+enum-told-3 c = search needs
+
+slice-aggregate-put-word : tie.Need-slice-aggregate-put-word
+slice-aggregate-put-word c = search needs
+
+put-word-requires : tie.Need-put-word-requires
+put-word-requires c κs = search needs
+
+returns : tie.Need-returns
+returns c = rw (c .enum-told .given .1) (as-text no-text (nothing _ _), omega arith)
+
+returns-2 : tie.Need-returns-2
+returns-2 c = rw (c .enum-told2 .given .1) (as-text no-text (nothing _ _), omega arith)
+
+same-length : tie.Need-same-length
+same-length c = search needs
+
+returns-3 : tie.Need-returns-3
+returns-3 c = rw (c .before .before .before .before .before .enum-told3 .given .1) (as-text (one-text flat) (c .before .before .put-word .ensures), omega (arith, c .before .before .put-word .ensures .next))
+
+pub put-flat-spec : {M : Type 1} → statement M
+put-flat-spec =
+    tie.close
+    (tie.spec
+    enum-told
+    enum-told-2
+    enum-told-3
+    slice-aggregate-put-word
+    put-word-requires
+    returns
+    returns-2
+    same-length
+    returns-3)

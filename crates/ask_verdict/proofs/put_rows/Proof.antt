@@ -1,0 +1,67 @@
+-- Invariant: the faults of the rows passed are written.
+use mathlib.Core.Path.{_≡_, refl, sym, ap, _∙_, subst}
+use Rattle.text.proofs.Writing.{nothing, then}
+use Rattle.whole.specs.Held.{held, heldAll, turnedAll}
+use Rattle.whole.proofs.Held.{long}
+use Prim.Native.Nat.{ℕ, _+_, _*_, _-_, _≤_, _<_}
+use lib.ListN.{length}
+use Rattle.text.specs.Wrote.{Wrote}
+use Rattle.ask_sheet.specs.Contract.{labelsTo}
+use Rattle.ask_verdict.specs.Faults.{faultsTo}
+use Rattle.ask_verdict.specs.Told.{faultsText}
+use Rattle.ask_verdict.proofs.Texts.{as-text, no-rows, row-more}
+use native.Mathlib.Omega.{arith}
+use borrow.Author.Needs.{needs}
+use Rattle.ask_verdict.proofs.put_rows.Statement.{statement}
+use Rattle.ask_verdict.proofs.put_rows.Tie as tie
+
+abbrev Inv-loop : tie.InvT-loop
+Inv-loop k w rows knots labels out₀ at r₀ i₀ out r i = (i ≤ length rows) × (Wrote out₀ at (faultsText (faultsTo k w (heldAll rows) (labelsTo labels (length rows)) i)) out r × (r ≤ at + 30 * i))
+
+abbrev μ-loop : tie.MeasureT-loop
+μ-loop k w rows knots labels out₀ at r₀ i₀ out r i = length rows - i
+
+loop-holds : tie.Need-loop-holds Inv-loop μ-loop
+loop-holds c = (omega arith, (as-text (no-rows (c .before .before .args .k) (c .before .before .args .w) (heldAll (c .before .before .args .rows .now)) (labelsTo (c .before .before .args .labels .now) (length (c .before .before .args .rows .now)))) (nothing _ _), omega arith))
+
+put-twice-requires : tie.Need-put-twice-requires Inv-loop μ-loop
+put-twice-requires c κs = let d = c .before .before .before .before .before .pre .0 .rows in (omega arith, (omega (arith, d, long (c .before .before .before .before .before .args .rows .now)), (c .before .before .before .before .before .pre .1 .0, omega (arith, d, long (c .before .before .before .before .before .args .rows .now), c .before .before .loop .inv .1 .1, c .before .before .loop .inv .1 .0 .long, c .before .before .before .before .before .pre .1 .1))))
+
+put-bent-requires : tie.Need-put-bent-requires Inv-loop μ-loop
+put-bent-requires c κs = let d = c .before .before .before .before .before .before .before .before .before .pre .0 .rows in (omega (arith, c .before .before .before .before .before .loop-test .taken), (c .before .before .before .before .before .before .before .before .before .pre .0, omega (arith, d, long (c .before .before .before .before .before .before .before .before .before .args .rows .now), c .before .before .before .before .before .loop-test .taken, c .before .before .before .put-twice .ensures .1, c .before .before .before .put-twice .ensures .0 .long, c .before .before .before .before .before .before .loop .inv .1 .1, c .before .before .before .before .before .before .loop .inv .1 .0 .long, c .before .before .before .before .before .before .before .before .before .pre .1 .1)))
+
+add-i : tie.Need-add-i Inv-loop μ-loop
+add-i c = omega (arith, c .before .before .before .before .before .before .before .before .loop-test .taken)
+
+loop-less : tie.Need-loop-less Inv-loop μ-loop
+loop-less c = search needs
+
+loop-again : tie.Need-loop-again Inv-loop μ-loop
+loop-again c = (
+  omega (arith, c .before .before .before .before .before .before .before .before .loop-test .taken),
+  (
+    row-more (c .before .before .before .before .before .before .before .before .before .before .before .before .args .k) (c .before .before .before .before .before .before .before .before .before .before .before .before .args .w) (heldAll (c .before .before .before .before .before .before .before .before .before .before .before .before .args .rows .now)) (labelsTo (c .before .before .before .before .before .before .before .before .before .before .before .before .args .labels .now) (length (c .before .before .before .before .before .before .before .before .before .before .before .before .args .rows .now))) (c .before .before .before .before .before .before .before .before .before .loop .i) (c .before .before .before .before .before .before .before .before .before .loop .inv .1 .0) (c .before .before .before .before .before .before .put-twice .ensures .0) (c .before .before .put-bent .ensures .0),
+    omega (arith, c .before .before .before .before .before .before .put-twice .ensures .1, c .before .before .put-bent .ensures .1, c .before .before .before .before .before .before .before .before .before .loop .inv .1 .1),
+  ),
+)
+
+same-length : tie.Need-same-length Inv-loop μ-loop
+same-length c = search needs
+
+returns : tie.Need-returns Inv-loop μ-loop
+returns c = let e : c .before .loop .i ≡ length (c .before .before .before .before .args .rows .now) = omega arith in ((rw e at (c .before .loop .inv .1 .0)), omega (arith, c .before .loop .inv .1 .1))
+
+pub put-rows-spec : {M : Type 1} → statement M
+put-rows-spec =
+    tie.close
+    (tie.spec
+    Inv-loop
+    μ-loop
+    loop-holds
+    put-twice-requires
+    put-bent-requires
+    add-i
+    loop-less
+    loop-again
+    same-length
+    returns)

@@ -1,0 +1,99 @@
+-- What each state of the sheet comes to.
+use mathlib.Core.Path.{_≡_, refl, sym, ap, _∙_, subst}
+use Rattle.whole.specs.Held.{held, heldAll, turnedAll}
+use lib.ListN.{length, take}
+use lib.Seq.{length-take-le}
+use Prim.Native.Nat.{ℕ, _+_, _≤_}
+use Rattle.whole.proofs.Held.{long}
+use Rattle.ask_sheet.specs.Contract.{lastLine}
+use Rattle.ask_verdict.proofs.Telling.{suited-text, suited-asked, unsuited-text, unsuited-asked, missing-text, missing-asked, faulty-text, faulty-asked}
+use native.Mathlib.Omega.{arith}
+use borrow.Author.Needs.{needs}
+use Rattle.ask_verdict.proofs.verdict.Statement.{statement}
+use Rattle.ask_verdict.proofs.verdict.Tie as tie
+
+enum-told : tie.Need-enum-told
+enum-told c = search needs
+
+put-line-requires : tie.Need-put-line-requires
+put-line-requires c κs = search needs
+
+enum-known-h : tie.Need-enum-known-h
+enum-known-h c = search needs
+
+is-suited-requires : tie.Need-is-suited-requires
+is-suited-requires c κs = search needs
+
+told-if-requires : tie.Need-told-if-requires
+told-if-requires c κs = let m : c .before .before .before .before .before .h .given .0 .1 .0 + 2 ≤ lastLine = rw (c .before .before .before .before .before .h .given .1) at (c .before .before .before .before .before .before .before .before .before .before .pre .0) in
+    (omega arith, (sym (c .before .before .before .is-suited .ensures) ∙ c .before .before .if1 .taken, (c .before .before .before .before .before .before .before .before .before .before .pre .1 .0, ((rw (c .before .before .before .before .before .h .given .1) at (c .before .before .before .before .before .before .before .before .before .before .pre .1 .1 .0)), c .before .before .before .before .before .before .before .before .before .before .pre .1 .1 .1))))
+
+same-length : tie.Need-same-length
+same-length c = search needs
+
+same-length-2 : tie.Need-same-length-2
+same-length-2 c = search needs
+
+returns : tie.Need-returns
+returns c = let m : c .before .before .before .before .before .before .before .before .before .before .h .given .0 .1 .0 + 2 ≤ lastLine = rw (c .before .before .before .before .before .before .before .before .before .before .h .given .1) at (c .before .before .before .before .before .before .before .before .before .before .before .before .before .before .before .pre .0) in
+    let n = c .before .before .before .before .before .before .before .before .before .before .h .given .0 .1 .0 in
+    let l : length (heldAll (take n (c .before .before .before .before .before .before .before .before .before .before .before .before .before .before .before .args .rows .now))) ≡ n = long (take n (c .before .before .before .before .before .before .before .before .before .before .before .before .before .before .before .args .rows .now)) ∙ length-take-le n (c .before .before .before .before .before .before .before .before .before .before .before .before .before .before .before .args .rows .now) (omega (arith, c .before .before .before .before .before .before .before .before .before .before .before .before .before .before .before .pre .1 .0)) in
+    let s = sym (c .before .before .before .before .before .before .before .before .is-suited .ensures) ∙ c .before .before .before .before .before .before .before .if1 .taken in
+    rw (c .before .before .before .before .before .before .before .before .before .before .h .given .1) (suited-text _ _ _ n l s (c .before .before .before .before .told-if .ensures .0), (c .before .before .before .before .told-if .ensures .1 .0, (suited-asked _ _ _ n l s (c .before .before .before .before .told-if .ensures .1 .1 .0), c .before .before .before .before .told-if .ensures .1 .1 .1)))
+
+slice-aggregate-put-number : tie.Need-slice-aggregate-put-number
+slice-aggregate-put-number c = search needs
+
+put-number-requires : tie.Need-put-number-requires
+put-number-requires c κs = let m : c .before .before .before .before .before .h .given .0 .1 .0 + 2 ≤ lastLine = rw (c .before .before .before .before .before .h .given .1) at (c .before .before .before .before .before .before .before .before .before .before .pre .0) in (omega arith, (omega arith, omega (arith, c .before .before .before .before .before .before .before .before .before .before .pre .1 .1 .1 .1 .1)))
+
+enum-known-h-2 : tie.Need-enum-known-h-2
+enum-known-h-2 c = search needs
+
+put-line-requires-2 : tie.Need-put-line-requires-2
+put-line-requires-2 c κs = let m : c .before .before .h2 .given .0 .0 ≤ lastLine = rw (c .before .before .h2 .given .1) at (c .before .before .before .before .before .before .before .pre .0) in (m, c .before .before .before .before .before .before .before .pre .1 .1 .1 .1 .1)
+
+same-length-3 : tie.Need-same-length-3
+same-length-3 c = search needs
+
+returns-2 : tie.Need-returns-2
+returns-2 c = rw (c .before .before .before .before .enum-told .given .1) (missing-text (c .before .before .put-line .ensures .0), (c .before .before .put-line .ensures .1, (missing-asked, omega arith)))
+
+same-length-4 : tie.Need-same-length-4
+same-length-4 c = search needs
+
+returns-3 : tie.Need-returns-3
+returns-3 c = let m : c .before .before .before .before .before .before .before .before .h .given .0 .1 .0 + 2 ≤ lastLine = rw (c .before .before .before .before .before .before .before .before .h .given .1) at (c .before .before .before .before .before .before .before .before .before .before .before .before .before .pre .0) in
+    let n = c .before .before .before .before .before .before .before .before .h .given .0 .1 .0 in
+    let l : length (heldAll (take n (c .before .before .before .before .before .before .before .before .before .before .before .before .before .args .rows .now))) ≡ n = long (take n (c .before .before .before .before .before .before .before .before .before .before .before .before .before .args .rows .now)) ∙ length-take-le n (c .before .before .before .before .before .before .before .before .before .before .before .before .before .args .rows .now) (omega (arith, c .before .before .before .before .before .before .before .before .before .before .before .before .before .pre .1 .0)) in
+    let s = sym (c .before .before .before .before .before .before .is-suited .ensures) ∙ c .before .before .before .before .before .if1 .left in
+    rw (c .before .before .before .before .before .before .before .before .h .given .1) (unsuited-text _ _ _ n l s (c .before .before .put-number .ensures .0), (omega (arith, c .before .before .put-number .ensures .1), (unsuited-asked _ _ _ n l s, omega arith)))
+
+same-length-5 : tie.Need-same-length-5
+same-length-5 c = search needs
+
+returns-4 : tie.Need-returns-4
+returns-4 c = rw (c .before .before .before .before .before .h2 .given .1) (faulty-text _ _ (c .before .before .put-line2 .ensures .0), (c .before .before .put-line2 .ensures .1, (faulty-asked _ _, omega arith)))
+
+pub verdict-spec : {M : Type 1} → statement M
+verdict-spec =
+    tie.close
+    (tie.spec
+    enum-told
+    put-line-requires
+    enum-known-h
+    is-suited-requires
+    told-if-requires
+    same-length
+    same-length-2
+    returns
+    slice-aggregate-put-number
+    put-number-requires
+    enum-known-h-2
+    put-line-requires-2
+    same-length-3
+    returns-2
+    same-length-4
+    returns-3
+    same-length-5
+    returns-4)

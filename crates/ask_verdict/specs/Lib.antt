@@ -1,0 +1,4 @@
+pub mod Curve
+pub mod Faults
+pub mod Told
+pub mod Contract
