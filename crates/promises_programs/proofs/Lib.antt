@@ -5,3 +5,4 @@ pub mod Decimals
 pub mod Claims
 pub mod Compare
 pub mod Picture
+pub mod Ask
