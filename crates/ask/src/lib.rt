@@ -150,7 +150,8 @@ pub fn feed(
     requires knots { ⌜ length (now knots) ≡ most ⌝ }
     ensures fed { λ r. ⌜ Fed askProgram (stateOf st (now (begun .entry)) (now (rows .entry)) (now (labels .entry)) (now (knots .entry)))
         (slice from (r .next) (now (chunk .entry)))
-        (stateOf (r .st) (now (begun .exit)) (now (rows .exit)) (now (labels .exit)) (now (knots .exit))) (now (out .entry)) 0 (now (out .exit)) (r .at) ⌝ }
+        (stateOf (r .st) (now (begun .exit)) (now (rows .exit)) (now (labels .exit)) (now (knots .exit)))
+        (now (out .entry)) 0 (now (out .exit)) (r .at) ⌝ }
     ensures kept { λ r. ⌜ Kept (r .st .held) (now (rows .exit)) (now (labels .exit)) ⌝ }
     ensures after { λ r. ⌜ from ≤ r .next ⌝ }
     ensures within { λ r. ⌜ r .next ≤ length (now (chunk .entry)) ⌝ }
@@ -210,7 +211,8 @@ fn end(
     requires labels { ⌜ length (now labels) ≡ cells ⌝ }
     requires knots { ⌜ length (now knots) ≡ most ⌝ }
     requires room { ⌜ at + longest ≤ length (now out) ⌝ }
-    ensures text { λ r. ⌜ Wrote (now (out .entry)) at (endsOf (askingOf h (now (rows .entry)) (now (labels .entry)) (now (knots .entry)))) (now (out .exit)) r ⌝ }
+    ensures text { λ r. ⌜ Wrote (now (out .entry)) at (endsOf (askingOf h (now (rows .entry)) (now (labels .entry))
+        (now (knots .entry)))) (now (out .exit)) r ⌝ }
     ensures short { λ r. ⌜ r ≤ at + longest ⌝ }
 {
     match h {
@@ -238,7 +240,8 @@ pub fn finish(
     requires knots { ⌜ length (now knots) ≡ most ⌝ }
     requires room { ⌜ 2 * longest ≤ length (now out) ⌝ }
     ensures text { λ r. ⌜ Wrote (now (out .entry)) 0
-        (endOf askProgram (stateOf st (now (begun .entry)) (now (rows .entry)) (now (labels .entry)) (now (knots .entry)))) (now (out .exit)) r ⌝ }
+        (endOf askProgram (stateOf st (now (begun .entry)) (now (rows .entry)) (now (labels .entry)) (now (knots .entry))))
+        (now (out .exit)) r ⌝ }
     ensures short { λ r. ⌜ r ≤ 2 * longest ⌝ }
 {
     let len = st.len;

@@ -35,7 +35,8 @@ fn feed_all(
     requires labels { ⌜ length (now labels) ≡ cells ⌝ }
     requires knots { ⌜ length (now knots) ≡ most ⌝ }
     requires room { ⌜ 245888 ≤ length (now out) ⌝ }
-    ensures state { λ r. ⌜ stateOf (r .st) (now (begun .exit)) (now (rows .exit)) (now (labels .exit)) (now (knots .exit)) ≡ ranOf askProgram
+    ensures state { λ r. ⌜ stateOf (r .st) (now (begun .exit)) (now (rows .exit)) (now (labels .exit))
+        (now (knots .exit)) ≡ ranOf askProgram
         (stateOf st (now (begun .entry)) (now (rows .entry)) (now (labels .entry)) (now (knots .entry))) (now (chunk .entry)) ⌝ }
     ensures kept { λ r. ⌜ Kept (r .st .held) (now (rows .exit)) (now (labels .exit)) ⌝ }
 {

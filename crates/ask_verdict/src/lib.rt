@@ -17,8 +17,32 @@ ghost use Rattle.ask_sheet.specs.declared.Kind.the-variants.{Monotone};
 ghost use Rattle.ask_sheet.specs.Sheet.{mostIn};
 ghost use Rattle.ask_sheet.specs.Contract.{cells, labelAt, labelsTo, sheetOf, lineIn, lastLine, Sound};
 ghost use Rattle.ask_verdict.specs.Curve.{basisOf, knotsOf, suits, firstRow, rowStep, throughRows, doubleOf, doublesOf};
-ghost use Rattle.ask_verdict.specs.Faults.{firstSame, twiceAt, turnsAt, fallsAt, bendOf, bendAt, bentAt, faultsTo, flatBy, wayIn, faultsOf};
-ghost use Rattle.ask_verdict.specs.Told.{numberText, faultsText, reasonText, lineText, depthText, endsIn, fineText, toldOf, verdictOf, askedBy, askedOf};
+ghost use Rattle.ask_verdict.specs.Faults.{
+  firstSame,
+  twiceAt,
+  turnsAt,
+  fallsAt,
+  bendOf,
+  bendAt,
+  bentAt,
+  faultsTo,
+  flatBy,
+  wayIn,
+  faultsOf,
+};
+ghost use Rattle.ask_verdict.specs.Told.{
+  numberText,
+  faultsText,
+  reasonText,
+  lineText,
+  depthText,
+  endsIn,
+  fineText,
+  toldOf,
+  verdictOf,
+  askedBy,
+  askedOf,
+};
 ghost use Rattle.ask_verdict.specs.Contract.{longest, Drawing, countIn, askedIn};
 use ask_sheet::Kind;
 use ask_sheet::Reason;
@@ -518,7 +542,8 @@ fn told_if(
     requires labels { ⌜ length (now labels) ≡ cells ⌝ }
     requires knots { ⌜ length (now knots) ≡ most ⌝ }
     requires room { ⌜ at + longest ≤ length (now out) ⌝ }
-    ensures text { λ r. ⌜ Wrote (now (out .entry)) at (toldOf k (heldAll (take n (now (rows .entry)))) (faultsOf k (heldAll (take n (now (rows .entry))))
+    ensures text { λ r. ⌜ Wrote (now (out .entry)) at (toldOf k (heldAll (take n
+        (now (rows .entry)))) (faultsOf k (heldAll (take n (now (rows .entry))))
         (labelsTo (now (labels .entry)) n))) (now (out .exit)) (r .at) ⌝ }
     ensures short { λ r. ⌜ r .at ≤ at + longest ⌝ }
     ensures held { λ r. ⌜ askedIn (r .held) (now (knots .exit)) ≡ askedBy k (heldAll (take n (now (rows .entry))))
@@ -549,7 +574,8 @@ pub fn verdict(
     requires labels { ⌜ length (now labels) ≡ cells ⌝ }
     requires knots { ⌜ length (now knots) ≡ most ⌝ }
     requires room { ⌜ at + longest ≤ length (now out) ⌝ }
-    ensures text { λ r. ⌜ Wrote (now (out .entry)) at (verdictOf (sheetOf h (now (rows .entry)) (now (labels .entry)))) (now (out .exit)) (r .at) ⌝ }
+    ensures text { λ r. ⌜ Wrote (now (out .entry)) at (verdictOf (sheetOf h (now (rows .entry)) (now (labels .entry))))
+        (now (out .exit)) (r .at) ⌝ }
     ensures short { λ r. ⌜ r .at ≤ at + longest ⌝ }
     ensures asked { λ r. ⌜ askedIn (r .held) (now (knots .exit)) ≡ askedOf (sheetOf h (now (rows .entry)) (now (labels .entry))) ⌝ }
     ensures few { λ r. ⌜ countIn (r .held) ≤ most ⌝ }

@@ -29,13 +29,35 @@ is-line-requires : tie.Need-is-line-requires
 is-line-requires c κs = search needs
 
 put-reply-requires : tie.Need-put-reply-requires
-put-reply-requires c κs = let m : c .before .before .before .before .before .a .given .0 .1 .0 ≤ most = rw (c .before .before .before .before .before .a .given .1) at (c .before .before .before .before .before .before .before .before .before .before .pre .1 .0) in (omega (arith, c .before .before .before .before .before .before .before .before .before .before .pre .1 .1 .0), (c .before .before .before .before .before .before .before .before .before .before .pre .1 .1 .0, omega (arith, c .before .before .before .before .before .before .before .before .before .before .pre .1 .1 .1)))
+put-reply-requires c κs =
+    let at-a = c .before .before .before .before .before in
+    let start = at-a .before .before .before .before .before in
+    let m : at-a .a .given .0 .1 .0 ≤ most = rw (at-a .a .given .1) at (start .pre .1 .0) in (
+      omega (arith, start .pre .1 .1 .0),
+      (
+        start .pre .1 .1 .0,
+        omega (arith, start .pre .1 .1 .1),
+      ),
+    )
 
 same-length : tie.Need-same-length
 same-length c = search needs
 
 returns : tie.Need-returns
-returns c = let m : c .before .before .before .before .before .before .before .before .a .given .0 .1 .0 ≤ most = rw (c .before .before .before .before .before .before .before .before .a .given .1) at (c .before .before .before .before .before .before .before .before .before .before .before .before .before .pre .1 .0) in rw (c .before .before .before .before .before .before .before .before .a .given .1) (as-text (table-text _ _ (openOf (c .before .before .before .before .before .before .before .before .before .before .before .before .before .args .len) (c .before .before .before .before .before .before .before .before .before .before .before .before .before .args .line .now)) (c .before .before .before .before .before .is-line .ensures) (c .before .before .before .before .if1 .taken)) (c .before .before .put-reply .ensures .0), omega (arith, c .before .before .put-reply .ensures .1))
+returns c =
+    let at-put-reply = c .before .before in
+    let at-if1 = at-put-reply .before .before in
+    let at-is-line = at-if1 .before in
+    let at-a = at-is-line .before .before .before in
+    let start = at-a .before .before .before .before .before in
+    let m : at-a .a .given .0 .1 .0 ≤ most = rw (at-a .a .given .1) at (start .pre .1 .0) in rw (at-a .a .given .1) (
+      as-text (table-text _ _ (openOf
+          (start .args .len) (start .args .line .now)) (at-is-line .is-line .ensures) (at-if1 .if1 .taken)) (at-put-reply .put-reply .ensures .0),
+      omega (
+        arith,
+        at-put-reply .put-reply .ensures .1,
+      ),
+    )
 
 slice-aggregate-put-word-2 : tie.Need-slice-aggregate-put-word-2
 slice-aggregate-put-word-2 c = search needs
@@ -47,13 +69,30 @@ same-length-2 : tie.Need-same-length-2
 same-length-2 c = search needs
 
 returns-2 : tie.Need-returns-2
-returns-2 c = rw (c .before .before .before .before .before .enum-told .given .1) (as-text (bad-text (openOf (c .before .before .before .before .before .before .before .before .before .before .args .len) (c .before .before .before .before .before .before .before .before .before .before .args .line .now))) (c .before .before .put-word .ensures), omega (arith, c .before .before .put-word .ensures .next))
+returns-2 c =
+    let at-put-word = c .before .before in
+    let at-enum-told = at-put-word .before .before .before in
+    let start = at-enum-told .before .before .before .before .before in
+    rw (at-enum-told .enum-told .given .1) (
+      as-text (bad-text (openOf (start .args .len) (start .args .line .now))) (at-put-word .put-word .ensures),
+      omega (arith, at-put-word .put-word .ensures .next),
+    )
 
 same-length-3 : tie.Need-same-length-3
 same-length-3 c = search needs
 
 returns-3 : tie.Need-returns-3
-returns-3 c = rw (c .before .before .before .before .before .before .before .before .before .a .given .1) (as-text (other-text _ _ (openOf (c .before .before .before .before .before .before .before .before .before .before .before .before .before .before .args .len) (c .before .before .before .before .before .before .before .before .before .before .before .before .before .before .args .line .now)) (c .before .before .before .before .before .before .is-line .ensures) (c .before .before .before .before .before .if1 .left)) (c .before .before .put-word2 .ensures), omega (arith, c .before .before .put-word2 .ensures .next))
+returns-3 c =
+    let at-put-word2 = c .before .before in
+    let at-if1 = at-put-word2 .before .before .before in
+    let at-is-line = at-if1 .before in
+    let at-a = at-is-line .before .before .before in
+    let start = at-a .before .before .before .before .before in
+    rw (at-a .a .given .1) (
+      as-text (other-text _ _ (openOf (start .args .len) (start .args .line .now)) (at-is-line .is-line .ensures)
+          (at-if1 .if1 .left)) (at-put-word2 .put-word2 .ensures),
+      omega (arith, at-put-word2 .put-word2 .ensures .next),
+    )
 
 pub answer-spec : {M : Type 1} → statement M
 answer-spec =

@@ -14,8 +14,11 @@ enum-known-h : tie.Need-enum-known-h
 enum-known-h c = search needs
 
 verdict-requires : tie.Need-verdict-requires
-verdict-requires c κs = let k : (lineIn (c .before .before .before .h .given .0 .0) ≤ lastLine) × Sound (sheetOf (c .before .before .before .h .given .0 .0) (c .before .before .before .before .before .before .before .before .args .rows .now) (c .before .before .before .before .before .before .before .before .args .labels .now)) = rw (c .before .before .before .h .given .1) at (c .before .before .before .before .before .before .before .before .pre .0) in
-    (k .0, (c .before .before .before .before .before .before .before .before .pre .1 .0, (k .1, (c .before .before .before .before .before .before .before .before .pre .1 .1 .0, (c .before .before .before .before .before .before .before .before .pre .1 .1 .1 .0, c .before .before .before .before .before .before .before .before .pre .1 .1 .1 .1)))))
+verdict-requires c κs =
+    let at-h = c .before .before .before in
+    let start = at-h .before .before .before .before .before in
+    let k : (lineIn (at-h .h .given .0 .0) ≤ lastLine) × Sound (sheetOf (at-h .h .given .0 .0) (start .args .rows .now) (start .args .labels .now)) = rw
+    (at-h .h .given .1) at (start .pre .0) in (k .0, (start .pre .1 .0, (k .1, (start .pre .1 .1 .0, (start .pre .1 .1 .1 .0, start .pre .1 .1 .1 .1)))))
 
 enum-known-h-2 : tie.Need-enum-known-h-2
 enum-known-h-2 c = search needs
@@ -27,7 +30,15 @@ same-length-2 : tie.Need-same-length-2
 same-length-2 c = search needs
 
 returns : tie.Need-returns
-returns c = rw (c .before .before .before .before .before .before .before .before .h .given .1) (as-text (read-ends (sheetOf (c .before .before .before .before .before .before .before .before .h .given .0 .0) (c .before .before .before .before .before .before .before .before .before .before .before .before .before .args .rows .now) (c .before .before .before .before .before .before .before .before .before .before .before .before .before .args .labels .now))) (c .before .before .before .before .verdict .ensures .0), c .before .before .before .before .verdict .ensures .1 .0)
+returns c =
+    let at-verdict = c .before .before .before .before in
+    let at-h = at-verdict .before .before .before .before in
+    let start = at-h .before .before .before .before .before in
+    rw (at-h .h .given .1) (
+      as-text (read-ends (sheetOf (at-h .h .given .0 .0) (start .args .rows .now) (start .args .labels .now)))
+          (at-verdict .verdict .ensures .0),
+      at-verdict .verdict .ensures .1 .0,
+    )
 
 returns-2 : tie.Need-returns-2
 returns-2 c = rw (c .before .h2 .given .1) (as-text (told-ends _) (nothing _ _), omega arith)

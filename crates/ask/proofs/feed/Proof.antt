@@ -18,8 +18,10 @@ use Rattle.ask.proofs.feed.Statement.{statement}
 use Rattle.ask.proofs.feed.Tie as tie
 
 abbrev Inv-loop : tie.InvT-loop
-Inv-loop chunk from begun₀ rows₀ labels₀ knots₀ out₀ n₀ held₀ at₀ i₀ begun rows labels knots out n held at i = (from ≤ i) × (i ≤ length chunk) × (length begun ≡ widest) × (at ≤ length out) × (at + longest * from ≤ longest * i)
-    × Fed askProgram (stateAt (openOf n₀ begun₀) (askingOf held₀ rows₀ labels₀ knots₀)) (slice from i chunk) (stateAt (openOf n begun) (askingOf held rows labels knots)) out₀ 0 out at
+Inv-loop chunk from begun₀ rows₀ labels₀ knots₀ out₀ n₀ held₀ at₀ i₀ begun rows labels knots out n held at i =
+    (from ≤ i) × (i ≤ length chunk) × (length begun ≡ widest) × (at ≤ length out) × (at + longest * from ≤ longest * i)
+    × Fed askProgram (stateAt (openOf n₀ begun₀) (askingOf held₀ rows₀ labels₀ knots₀)) (slice from i chunk)
+    (stateAt (openOf n begun) (askingOf held rows labels knots)) out₀ 0 out at
     × (length rows ≡ most) × (length labels ≡ cells) × (length knots ≡ most) × Kept held rows labels × (length chunk < 2 ^ 64)
 
 abbrev μ-loop : tie.MeasureT-loop
@@ -59,54 +61,105 @@ same-length-5 : tie.Need-same-length-5 Inv-loop μ-loop
 same-length-5 c = search needs
 
 returns : tie.Need-returns Inv-loop μ-loop
-returns c = let l = c .before .before .loop in (l .inv .5, (l .inv .9, (l .inv .0, (l .inv .1, (l .inv .3, λ p q. omega (arith, l .inv .5 .wrote .long, c .if1 .taken, l .inv .4))))))
+returns c =
+    let at-loop = c .before .before in
+    let l = at-loop .loop in (
+      l .inv .5,
+      (
+        l .inv .9,
+        (
+          l .inv .0,
+          (
+            l .inv .1,
+            (
+              l .inv .3,
+              λ p q. omega (
+                arith,
+                l .inv .5 .wrote .long,
+                c .if1 .taken,
+                l .inv .4,
+              ),
+            ),
+          ),
+        ),
+      ),
+    )
 
 cut-requires : tie.Need-cut-requires Inv-loop μ-loop
 cut-requires c κs = search needs
 
 line-requires : tie.Need-line-requires Inv-loop μ-loop
-line-requires c κs = let l = c .before .before .before .before .before .before .before .before .before .before .before .before .loop in (omega (arith, l .inv .2), (l .inv .9, (l .inv .6, (l .inv .7, (l .inv .8, omega (arith, c .before .before .before .before .before .before .before .before .before .before .if1 .left, l .inv .3))))))
+line-requires c κs =
+    let at-if1 = c .before .before .before .before .before .before .before .before .before .before in
+    let at-loop = at-if1 .before .before in
+    let l = at-loop .loop in (omega (arith, l .inv .2), (l .inv .9, (l .inv .6, (l .inv .7, (l .inv .8, omega (arith, at-if1 .if1 .left, l .inv .3))))))
 
 add-i : tie.Need-add-i Inv-loop μ-loop
-add-i c = omega (arith, c .before .before .before .before .before .before .before .before .before .before .before .before .before .if2 .taken, c .before .before .before .before .before .before .before .before .before .before .before .before .before .before .before .before .before .before .before .before .loop .inv .10)
+add-i c =
+    let at-if2 = c .before .before .before .before .before .before .before .before .before .before .before .before .before in
+    let at-loop = at-if2 .before .before .before .before .before .before .before in
+    omega (arith, at-if2 .if2 .taken, at-loop .loop .inv .10)
 
 loop-less : tie.Need-loop-less Inv-loop μ-loop
 loop-less c = search needs
 
 loop-again : tie.Need-loop-again Inv-loop μ-loop
-loop-again c = let l = c .before .before .before .before .before .before .before .before .before .before .before .before .before .before .before .before .before .before .before .before .loop in let k = c .before .before .before .before .before .before .before .before .before .before .before .before .before .before .before .before .cut in let w = c .before .before .before .before .before .before .before .line .ensures in let t = c .before .before .before .before .before .before .before .before .before .before .before .before .before .if2 .taken in (
-  omega (arith, l .inv .0, k .ensures .after),
-  omega (arith, t),
-  omega (arith, l .inv .2),
-  omega (arith, w .1 .1 .0 .long, w .1 .1 .1),
-  omega (arith, w .1 .1 .1, l .inv .4, k .ensures .after),
-  fed-line askProgram (c .before .before .before .before .before .before .before .before .before .before .before .before .before .before .before .before .before .before .before .before .before .before .before .before .before .before .args .chunk .now) (c .before .before .before .before .before .before .before .before .before .before .before .before .before .before .before .before .before .before .before .before .before .before .before .before .before .before .args .from) (k .result .stop) (omega (arith, l .inv .0, k .ensures .after)) t
-      (fed-stretch askProgram (c .before .before .before .before .before .before .before .before .before .before .before .before .before .before .before .before .before .before .before .before .before .before .before .before .before .before .args .chunk .now) (c .before .before .before .before .before .before .before .before .before .before .before .before .before .before .before .before .before .before .before .before .before .before .before .before .before .before .args .from) (l .i) (k .result .stop) (l .inv .0) (l .inv .1) (l .inv .5) (k .ensures)) (k .ensures .end t)
-      (w .0) (w .1 .1 .0),
-  search needs,
-  search needs,
-  search needs,
-  w .1 .0,
-  l .inv .10,
-)
+loop-again c =
+    let at-line = c .before .before .before .before .before .before .before in
+    let at-if2 = at-line .before .before .before .before .before .before in
+    let at-cut = at-if2 .before .before .before in
+    let at-loop = at-cut .before .before .before .before in
+    let start = at-loop .before .before .before .before .before .before in
+    let l = at-loop .loop in let k = at-cut .cut in let w = at-line .line .ensures in let t = at-if2 .if2 .taken in (
+      omega (
+        arith,
+        l .inv .0,
+        k .ensures .after,
+      ),
+      omega (arith, t),
+      omega (arith, l .inv .2),
+      omega (arith, w .1 .1 .0 .long, w .1 .1 .1),
+      omega (
+        arith,
+        w .1 .1 .1,
+        l .inv .4,
+        k .ensures .after,
+      ),
+      fed-line askProgram (start .args .chunk .now) (start .args .from) (k .result .stop) (omega (arith, l .inv .0, k .ensures .after))
+          t (fed-stretch askProgram (start .args .chunk .now) (start .args .from) (l .i) (k .result .stop) (l .inv .0) (l .inv .1) (l .inv .5) (k .ensures))
+          (k .ensures .end t) (w .0) (w .1 .1 .0),
+      search needs,
+      search needs,
+      search needs,
+      w .1 .0,
+      l .inv .10,
+    )
 
 loop-less-2 : tie.Need-loop-less-2 Inv-loop μ-loop
 loop-less-2 c = search needs
 
 loop-again-2 : tie.Need-loop-again-2 Inv-loop μ-loop
-loop-again-2 c = let l = c .before .before .before .before .before .before .before .loop in let k = c .before .before .before .cut in (
-  omega (arith, l .inv .0, k .ensures .after),
-  omega (arith, k .ensures .within),
-  omega (arith, l .inv .2),
-  l .inv .3,
-  omega (arith, l .inv .4, k .ensures .after),
-  fed-stretch askProgram (c .before .before .before .before .before .before .before .before .before .before .before .before .before .args .chunk .now) (c .before .before .before .before .before .before .before .before .before .before .before .before .before .args .from) (l .i) (k .result .stop) (l .inv .0) (l .inv .1) (l .inv .5) (k .ensures),
-  l .inv .6,
-  l .inv .7,
-  l .inv .8,
-  l .inv .9,
-  l .inv .10,
-)
+loop-again-2 c =
+    let at-cut = c .before .before .before in
+    let at-loop = at-cut .before .before .before .before in
+    let start = at-loop .before .before .before .before .before .before in
+    let l = at-loop .loop in let k = at-cut .cut in (
+      omega (arith, l .inv .0, k .ensures .after),
+      omega (arith, k .ensures .within),
+      omega (
+        arith,
+        l .inv .2,
+      ),
+      l .inv .3,
+      omega (arith, l .inv .4, k .ensures .after),
+      fed-stretch askProgram (start .args .chunk .now) (start .args .from) (l .i)
+          (k .result .stop) (l .inv .0) (l .inv .1) (l .inv .5) (k .ensures),
+      l .inv .6,
+      l .inv .7,
+      l .inv .8,
+      l .inv .9,
+      l .inv .10,
+    )
 
 same-length-6 : tie.Need-same-length-6 Inv-loop μ-loop
 same-length-6 c = search needs

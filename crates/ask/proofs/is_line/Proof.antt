@@ -19,10 +19,14 @@ is-word-requires : tie.Need-is-word-requires
 is-word-requires c κs = search needs
 
 returns : tie.Need-returns
-returns c = c .is-word .ensures ∙ so-word (c .before .before .before .before .before .args .w .now) (c .before .before .before .before .before .args .len) (c .before .before .before .before .before .args .line .now) (omega arith)
+returns c =
+    let start = c .before .before .before .before .before in
+    c .is-word .ensures ∙ so-word (start .args .w .now) (start .args .len) (start .args .line .now) (omega arith)
 
 returns-2 : tie.Need-returns-2
-returns-2 c = over-word (c .before .before .before .args .w .now) (c .before .before .before .args .len) (c .before .before .before .args .line .now) (omega arith)
+returns-2 c =
+    let start = c .before .before .before in
+    over-word (start .args .w .now) (start .args .len) (start .args .line .now) (omega arith)
 
 pub is-line-spec : {M : Type 1} → statement M
 is-line-spec =

@@ -23,8 +23,26 @@ is-line-requires : tie.Need-is-line-requires
 is-line-requires c κs = search needs
 
 verdict-requires : tie.Need-verdict-requires
-verdict-requires c κs = let k : (lineIn (c .before .before .before .before .before .before .before .before .h .given .0 .0) ≤ lastLine) × Sound (sheetOf (c .before .before .before .before .before .before .before .before .h .given .0 .0) (c .before .before .before .before .before .before .before .before .before .before .before .before .before .before .args .rows .now) (c .before .before .before .before .before .before .before .before .before .before .before .before .before .before .args .labels .now)) = rw (c .before .before .before .before .before .before .before .before .h .given .1) at (c .before .before .before .before .before .before .before .before .before .before .before .before .before .before .pre .1 .0) in
-    (k .0, (c .before .before .before .before .before .before .before .before .before .before .before .before .before .before .pre .1 .1 .0, (k .1, (c .before .before .before .before .before .before .before .before .before .before .before .before .before .before .pre .1 .1 .1 .0, (c .before .before .before .before .before .before .before .before .before .before .before .before .before .before .pre .1 .1 .1 .1 .0, c .before .before .before .before .before .before .before .before .before .before .before .before .before .before .pre .1 .1 .1 .1 .1)))))
+verdict-requires c κs =
+    let at-h = c .before .before .before .before .before .before .before .before in
+    let start = at-h .before .before .before .before .before .before in
+    let k : (lineIn (at-h .h .given .0 .0) ≤ lastLine) × Sound (sheetOf (at-h .h .given .0 .0) (start .args .rows .now) (start .args .labels .now)) = rw
+    (at-h .h .given .1) at (start .pre .1 .0) in (
+      k .0,
+      (
+        start .pre .1 .1 .0,
+        (
+          k .1,
+          (
+            start .pre .1 .1 .1 .0,
+            (
+              start .pre .1 .1 .1 .1 .0,
+              start .pre .1 .1 .1 .1 .1,
+            ),
+          ),
+        ),
+      ),
+    )
 
 same-length : tie.Need-same-length
 same-length c = search needs
@@ -39,17 +57,49 @@ same-length-4 : tie.Need-same-length-4
 same-length-4 c = search needs
 
 returns : tie.Need-returns
-returns c = rw (c .before .before .before .before .before .before .before .before .before .before .before .before .before .h .given .1) (ask-next (sheetOf (c .before .before .before .before .before .before .before .before .before .before .before .before .before .h .given .0 .0) (c .before .before .before .before .before .before .before .before .before .before .before .before .before .before .before .before .before .before .before .args .rows .now) (c .before .before .before .before .before .before .before .before .before .before .before .before .before .before .before .before .before .before .before .args .labels .now)) (openOf (c .before .before .before .before .before .before .before .before .before .before .before .before .before .before .before .before .before .before .before .args .len) (c .before .before .before .before .before .before .before .before .before .before .before .before .before .before .before .before .before .before .before .args .line .now)) (c .before .before .before .before .before .before .before .before .before .before .is-line .ensures) (c .before .before .before .before .before .before .before .before .before .if1 .taken) (c .before .before .before .before .verdict .ensures .1 .1 .0), (c .before .before .before .before .verdict .ensures .1 .1 .1, (as-text (ask-text (sheetOf (c .before .before .before .before .before .before .before .before .before .before .before .before .before .h .given .0 .0) (c .before .before .before .before .before .before .before .before .before .before .before .before .before .before .before .before .before .before .before .args .rows .now) (c .before .before .before .before .before .before .before .before .before .before .before .before .before .before .before .before .before .before .before .args .labels .now)) (openOf (c .before .before .before .before .before .before .before .before .before .before .before .before .before .before .before .before .before .before .before .args .len) (c .before .before .before .before .before .before .before .before .before .before .before .before .before .before .before .before .before .before .before .args .line .now)) (c .before .before .before .before .before .before .before .before .before .before .is-line .ensures) (c .before .before .before .before .before .before .before .before .before .if1 .taken)) (c .before .before .before .before .verdict .ensures .0), c .before .before .before .before .verdict .ensures .1 .0)))
+returns c =
+    let at-verdict = c .before .before .before .before in
+    let at-if1 = at-verdict .before .before .before .before .before in
+    let at-is-line = at-if1 .before in
+    let at-h = at-is-line .before .before .before in
+    let start = at-h .before .before .before .before .before .before in
+    rw (at-h .h .given .1) (
+      ask-next (sheetOf (at-h .h .given .0 .0) (start .args .rows .now) (start .args .labels .now)) (openOf (start .args .len)
+          (start .args .line .now)) (at-is-line .is-line .ensures) (at-if1 .if1 .taken) (at-verdict .verdict .ensures .1 .1 .0),
+      (
+        at-verdict .verdict .ensures .1 .1 .1,
+        (
+          as-text (ask-text (sheetOf (at-h .h .given .0 .0) (start .args .rows .now) (start .args .labels .now))
+              (openOf (start .args .len) (start .args .line .now)) (at-is-line .is-line .ensures) (at-if1 .if1 .taken)) (at-verdict .verdict .ensures .0),
+          at-verdict .verdict .ensures .1 .0,
+        ),
+      ),
+    )
 
 line-requires : tie.Need-line-requires
-line-requires c κs = let k : (lineIn (c .before .before .before .before .before .before .h .given .0 .0) ≤ lastLine) × Sound (sheetOf (c .before .before .before .before .before .before .h .given .0 .0) (c .before .before .before .before .before .before .before .before .before .before .before .before .args .rows .now) (c .before .before .before .before .before .before .before .before .before .before .before .before .args .labels .now)) = rw (c .before .before .before .before .before .before .h .given .1) at (c .before .before .before .before .before .before .before .before .before .before .before .before .pre .1 .0) in
-    (c .before .before .before .before .before .before .before .before .before .before .before .before .pre .0, (k .0, (c .before .before .before .before .before .before .before .before .before .before .before .before .pre .1 .1 .0, c .before .before .before .before .before .before .before .before .before .before .before .before .pre .1 .1 .1 .0)))
+line-requires c κs =
+    let at-h = c .before .before .before .before .before .before in
+    let start = at-h .before .before .before .before .before .before in
+    let k : (lineIn (at-h .h .given .0 .0) ≤ lastLine) × Sound (sheetOf (at-h .h .given .0 .0) (start .args .rows .now) (start .args .labels .now)) = rw
+    (at-h .h .given .1) at (start .pre .1 .0) in (start .pre .0, (k .0, (start .pre .1 .1 .0, start .pre .1 .1 .1 .0)))
 
 enum-known-h-2 : tie.Need-enum-known-h-2
 enum-known-h-2 c = search needs
 
 answer-requires : tie.Need-answer-requires
-answer-requires c κs = let k : countIn (c .before .before .before .h2 .given .0 .0) ≤ most = rw (c .before .before .before .h2 .given .1) at (c .before .before .before .before .before .before .before .before .before .pre .1 .0) in (c .before .before .before .before .before .before .before .before .before .pre .0, (k, (c .before .before .before .before .before .before .before .before .before .pre .1 .1 .1 .1 .0, c .before .before .before .before .before .before .before .before .before .pre .1 .1 .1 .1 .1)))
+answer-requires c κs =
+    let at-h2 = c .before .before .before in
+    let start = at-h2 .before .before .before .before .before .before in
+    let k : countIn (at-h2 .h2 .given .0 .0) ≤ most = rw (at-h2 .h2 .given .1) at (start .pre .1 .0) in (
+      start .pre .0,
+      (
+        k,
+        (
+          start .pre .1 .1 .1 .1 .0,
+          start .pre .1 .1 .1 .1 .1,
+        ),
+      ),
+    )
 
 same-length-5 : tie.Need-same-length-5
 same-length-5 c = search needs
@@ -58,10 +108,30 @@ same-length-6 : tie.Need-same-length-6
 same-length-6 c = search needs
 
 returns-2 : tie.Need-returns-2
-returns-2 c = let k : (lineIn (c .before .before .before .before .before .before .before .before .before .before .h .given .0 .0) ≤ lastLine) × Sound (sheetOf (c .before .before .before .before .before .before .before .before .before .before .h .given .0 .0) (c .before .before .before .before .before .before .before .before .before .before .before .before .before .before .before .before .args .rows .now) (c .before .before .before .before .before .before .before .before .before .before .before .before .before .before .before .before .args .labels .now)) = rw (c .before .before .before .before .before .before .before .before .before .before .h .given .1) at (c .before .before .before .before .before .before .before .before .before .before .before .before .before .before .before .before .pre .1 .0) in
-    rw (c .before .before .before .before .before .before .before .before .before .before .h .given .1) (
-      read-next (sheetOf (c .before .before .before .before .before .before .before .before .before .before .h .given .0 .0) (c .before .before .before .before .before .before .before .before .before .before .before .before .before .before .before .before .args .rows .now) (c .before .before .before .before .before .before .before .before .before .before .before .before .before .before .before .before .args .labels .now)) (openOf (c .before .before .before .before .before .before .before .before .before .before .before .before .before .before .before .before .args .len) (c .before .before .before .before .before .before .before .before .before .before .before .before .before .before .before .before .args .line .now)) (c .before .before .before .before .before .before .before .is-line .ensures) (c .before .before .before .before .before .before .if1 .left) (c .before .before .before .line .ensures .0),
-      ((c .before .before .before .line .ensures .1, subst (λ s. Sound s) (sym (c .before .before .before .line .ensures .0)) (sound-after (sheetOf (c .before .before .before .before .before .before .before .before .before .before .h .given .0 .0) (c .before .before .before .before .before .before .before .before .before .before .before .before .before .before .before .before .args .rows .now) (c .before .before .before .before .before .before .before .before .before .before .before .before .before .before .before .before .args .labels .now)) (openOf (c .before .before .before .before .before .before .before .before .before .before .before .before .before .before .before .before .args .len) (c .before .before .before .before .before .before .before .before .before .before .before .before .before .before .before .before .args .line .now)) (k .1))), (as-text (read-text (sheetOf (c .before .before .before .before .before .before .before .before .before .before .h .given .0 .0) (c .before .before .before .before .before .before .before .before .before .before .before .before .before .before .before .before .args .rows .now) (c .before .before .before .before .before .before .before .before .before .before .before .before .before .before .before .before .args .labels .now)) (openOf (c .before .before .before .before .before .before .before .before .before .before .before .before .before .before .before .before .args .len) (c .before .before .before .before .before .before .before .before .before .before .before .before .before .before .before .before .args .line .now)) (c .before .before .before .before .before .before .before .is-line .ensures) (c .before .before .before .before .before .before .if1 .left)) (nothing _ _), omega arith)),
+returns-2 c =
+    let at-line = c .before .before .before in
+    let at-if1 = at-line .before .before .before in
+    let at-is-line = at-if1 .before in
+    let at-h = at-is-line .before .before .before in
+    let start = at-h .before .before .before .before .before .before in
+    let k : (lineIn (at-h .h .given .0 .0) ≤ lastLine) × Sound (sheetOf (at-h .h .given .0 .0) (start .args .rows .now) (start .args .labels .now)) = rw
+    (at-h .h .given .1) at (start .pre .1 .0) in rw (at-h .h .given .1) (
+      read-next (sheetOf (at-h .h .given .0 .0) (start .args .rows .now)
+          (start .args .labels .now)) (openOf (start .args .len) (start .args .line .now)) (at-is-line .is-line .ensures) (at-if1 .if1 .left)
+          (at-line .line .ensures .0),
+      (
+        (
+          at-line .line .ensures .1,
+          subst (λ s. Sound s) (sym (at-line .line .ensures .0)) (sound-after (sheetOf
+              (at-h .h .given .0 .0) (start .args .rows .now) (start .args .labels .now)) (openOf (start .args .len) (start .args .line .now)) (k .1)),
+        ),
+        (
+          as-text
+              (read-text (sheetOf (at-h .h .given .0 .0) (start .args .rows .now) (start .args .labels .now)) (openOf (start .args .len) (start .args .line .now))
+              (at-is-line .is-line .ensures) (at-if1 .if1 .left)) (nothing _ _),
+          omega arith,
+        ),
+      ),
     )
 
 same-length-7 : tie.Need-same-length-7
@@ -71,7 +141,22 @@ same-length-8 : tie.Need-same-length-8
 same-length-8 c = search needs
 
 returns-3 : tie.Need-returns-3
-returns-3 c = let k : countIn (c .before .before .before .before .before .before .h2 .given .0 .0) ≤ most = rw (c .before .before .before .before .before .before .h2 .given .1) at (c .before .before .before .before .before .before .before .before .before .before .before .before .pre .1 .0) in rw (c .before .before .before .before .before .before .h2 .given .1) (told-next _ (openOf (c .before .before .before .before .before .before .before .before .before .before .before .before .args .len) (c .before .before .before .before .before .before .before .before .before .before .before .before .args .line .now)), (k, (as-text (told-text _ (openOf (c .before .before .before .before .before .before .before .before .before .before .before .before .args .len) (c .before .before .before .before .before .before .before .before .before .before .before .before .args .line .now))) (c .before .before .answer .ensures .0), c .before .before .answer .ensures .1)))
+returns-3 c =
+    let at-answer = c .before .before in
+    let at-h2 = at-answer .before .before .before .before in
+    let start = at-h2 .before .before .before .before .before .before in
+    let k : countIn (at-h2 .h2 .given .0 .0) ≤ most = rw (at-h2 .h2 .given .1) at (start .pre .1 .0) in rw (at-h2 .h2 .given .1) (
+      told-next _ (openOf
+          (start .args .len) (start .args .line .now)),
+      (
+        k,
+        (
+          as-text (told-text _ (openOf (start .args .len) (start .args .line .now)))
+              (at-answer .answer .ensures .0),
+          at-answer .answer .ensures .1,
+        ),
+      ),
+    )
 
 pub line-spec : {M : Type 1} → statement M
 line-spec =

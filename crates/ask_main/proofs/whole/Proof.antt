@@ -16,7 +16,8 @@ use Rattle.ask_main.proofs.whole.Statement.{statement}
 use Rattle.ask_main.proofs.whole.Tie as tie
 
 abbrev Inv-loop : tie.InvT-loop
-Inv-loop chunk₀ begun₀ rows₀ labels₀ knots₀ out₀ st₀ fine₀ left₀ chunk begun rows labels knots out st fine left = (length chunk ≡ length chunk₀) × (length begun ≡ widest) × (length rows ≡ most) × (length labels ≡ cells) × (length knots ≡ most)
+Inv-loop chunk₀ begun₀ rows₀ labels₀ knots₀ out₀ st₀ fine₀ left₀ chunk begun rows labels knots out st fine left =
+    (length chunk ≡ length chunk₀) × (length begun ≡ widest) × (length rows ≡ most) × (length labels ≡ cells) × (length knots ≡ most)
     × (length out ≡ length out₀) × Kept (st .held) rows labels
 
 abbrev μ-loop : tie.MeasureT-loop
@@ -38,7 +39,10 @@ part-feed-all-end : tie.Need-part-feed-all-end Inv-loop μ-loop
 part-feed-all-end c = search needs
 
 feed-all-requires : tie.Need-feed-all-requires Inv-loop μ-loop
-feed-all-requires c κs = let l = c .before .before .before .before .before .before .before .before .before .before .before .before .loop in (omega (arith, l .inv .1), (l .inv .6, (l .inv .2, (l .inv .3, (l .inv .4, omega (arith, l .inv .5, c .before .before .before .before .before .before .before .before .before .before .before .before .before .before .before .before .before .before .pre))))))
+feed-all-requires c κs =
+    let at-loop = c .before .before .before .before .before .before .before .before .before .before .before .before in
+    let start = at-loop .before .before .before .before .before .before in
+    let l = at-loop .loop in (omega (arith, l .inv .1), (l .inv .6, (l .inv .2, (l .inv .3, (l .inv .4, omega (arith, l .inv .5, start .pre))))))
 
 left-requires : tie.Need-left-requires Inv-loop μ-loop
 left-requires c κs = search needs
@@ -47,10 +51,27 @@ loop-less : tie.Need-loop-less Inv-loop μ-loop
 loop-less c = search needs
 
 loop-again : tie.Need-loop-again Inv-loop μ-loop
-loop-again c = let l = c .before .before .before .before .before .before .before .before .before .before .before .before .before .before .before .before .before .before .before .before .before .before .before .before .before .before .before .before .loop in (omega (arith, l .inv .0), omega (arith, l .inv .1), omega (arith, l .inv .2), omega (arith, l .inv .3), omega (arith, l .inv .4), omega (arith, l .inv .5), c .before .before .before .before .before .before .before .before .before .before .before .before .before .before .before .feed-all .ensures .1)
+loop-again c =
+    let at-feed-all = c .before .before .before .before .before .before .before .before .before .before .before .before .before .before .before in
+    let at-loop = at-feed-all .before .before .before .before .before .before .before .before .before .before .before .before .before in
+    let l = at-loop .loop in (
+      omega (arith, l .inv .0),
+      omega (arith, l .inv .1),
+      omega (arith, l .inv .2),
+      omega (arith, l .inv .3),
+      omega (
+        arith,
+        l .inv .4,
+      ),
+      omega (arith, l .inv .5),
+      at-feed-all .feed-all .ensures .1,
+    )
 
 finish-requires : tie.Need-finish-requires Inv-loop μ-loop
-finish-requires c κs = let l = c .before .before .before .before .before .before .loop in (omega (arith, l .inv .1), (l .inv .6, (l .inv .2, (l .inv .3, (l .inv .4, omega (arith, l .inv .5, c .before .before .before .before .before .before .before .before .before .before .before .before .pre))))))
+finish-requires c κs =
+    let at-loop = c .before .before .before .before .before .before in
+    let start = at-loop .before .before .before .before .before .before in
+    let l = at-loop .loop in (omega (arith, l .inv .1), (l .inv .6, (l .inv .2, (l .inv .3, (l .inv .4, omega (arith, l .inv .5, start .pre))))))
 
 sub-written : tie.Need-sub-written Inv-loop μ-loop
 sub-written c = search needs

@@ -16,13 +16,24 @@ add-t11 : tie.Need-add-t11
 add-t11 c = search needs
 
 returns : tie.Need-returns
-returns c = (no-label (c .before .before .before .before .args .k) (c .before .before .before .before .args .n) (c .before .before .before .before .args .rows .now) (c .before .before .before .before .pre .0) (c .before .before .before .before .pre .1 .0) (labelsTo (c .before .before .before .before .args .labels .now) (c .before .before .before .before .args .n)) (c .before .before .before .before .args .l .now) (c .before .tab-at .result) (c .before .tab-at .ensures .0) (omega arith), omega arith)
+returns c =
+    let start = c .before .before .before .before in (
+      no-label (start .args .k) (start .args .n) (start .args .rows .now) (start .pre .0) (start .pre .1 .0) (labelsTo (start .args .labels .now)
+          (start .args .n)) (start .args .l .now) (c .before .tab-at .result) (c .before .tab-at .ensures .0) (omega arith),
+      omega arith,
+    )
 
 add-t13 : tie.Need-add-t13
 add-t13 c = search needs
 
 returns-2 : tie.Need-returns-2
-returns-2 c = (long-label (c .before .before .before .before .before .args .k) (c .before .before .before .before .before .args .n) (c .before .before .before .before .before .args .rows .now) (c .before .before .before .before .before .pre .0) (c .before .before .before .before .before .pre .1 .0) (labelsTo (c .before .before .before .before .before .args .labels .now) (c .before .before .before .before .before .args .n)) (c .before .before .before .before .before .args .l .now) (c .before .before .tab-at .result) (c .before .before .tab-at .ensures .0) (omega arith) (omega arith), omega arith)
+returns-2 c =
+    let at-tab-at = c .before .before in
+    let start = at-tab-at .before .before .before in (
+      long-label (start .args .k) (start .args .n) (start .args .rows .now) (start .pre .0) (start .pre .1 .0) (labelsTo (start .args .labels .now)
+          (start .args .n)) (start .args .l .now) (at-tab-at .tab-at .result) (at-tab-at .tab-at .ensures .0) (omega arith) (omega arith),
+      omega arith,
+    )
 
 depth-line-requires : tie.Need-depth-line-requires
 depth-line-requires c κs = search needs
@@ -37,7 +48,15 @@ add-t16 : tie.Need-add-t16
 add-t16 c = search needs
 
 returns-3 : tie.Need-returns-3
-returns-3 c = (no-depth (c .before .before .before .before .before .before .before .before .args .k) (c .before .before .before .before .before .before .before .before .args .n) (c .before .before .before .before .before .before .before .before .args .rows .now) (c .before .before .before .before .before .before .before .before .pre .0) (c .before .before .before .before .before .before .before .before .pre .1 .0) (labelsTo (c .before .before .before .before .before .before .before .before .args .labels .now) (c .before .before .before .before .before .before .before .before .args .n)) (c .before .before .before .before .before .before .before .before .args .l .now) (c .before .before .before .before .before .tab-at .result) (c .before .before .before .before .before .tab-at .ensures .0) (omega arith) (omega arith) (c .before .before .depth-line .ensures) (c .enum-told .given .1), omega arith)
+returns-3 c =
+    let at-depth-line = c .before .before in
+    let at-tab-at = at-depth-line .before .before .before in
+    let start = at-tab-at .before .before .before in (
+      no-depth (start .args .k) (start .args .n) (start .args .rows .now) (start .pre .0) (start .pre .1 .0) (labelsTo (start .args .labels .now)
+          (start .args .n)) (start .args .l .now) (at-tab-at .tab-at .result) (at-tab-at .tab-at .ensures .0) (omega arith) (omega arith)
+          (at-depth-line .depth-line .ensures) (c .enum-told .given .1),
+      omega arith,
+    )
 
 most-in-requires : tie.Need-most-in-requires
 most-in-requires c κs = search needs
@@ -46,7 +65,16 @@ add-t19 : tie.Need-add-t19
 add-t19 c = search needs
 
 returns-4 : tie.Need-returns-4
-returns-4 c = (too-large (c .before .before .before .before .before .before .before .before .before .before .before .args .k) (c .before .before .before .before .before .before .before .before .before .before .before .args .n) (c .before .before .before .before .before .before .before .before .before .before .before .args .rows .now) (c .before .before .before .before .before .before .before .before .before .before .before .pre .0) (c .before .before .before .before .before .before .before .before .before .before .before .pre .1 .0) (labelsTo (c .before .before .before .before .before .before .before .before .before .before .before .args .labels .now) (c .before .before .before .before .before .before .before .before .before .before .before .args .n)) (c .before .before .before .before .before .before .before .before .before .before .before .args .l .now) (c .before .before .before .before .before .before .before .before .tab-at .result) (c .before .before .before .before .before .before .before .before .tab-at .ensures .0) (omega arith) (omega arith) _ _ (c .before .before .before .before .before .depth-line .ensures) (c .before .before .before .minus .given .1) (omega (arith, c .before .most-in .ensures)), omega arith)
+returns-4 c =
+    let at-minus = c .before .before .before in
+    let at-depth-line = at-minus .before .before in
+    let at-tab-at = at-depth-line .before .before .before in
+    let start = at-tab-at .before .before .before in (
+      too-large (start .args .k) (start .args .n) (start .args .rows .now) (start .pre .0) (start .pre .1 .0) (labelsTo (start .args .labels .now)
+          (start .args .n)) (start .args .l .now) (at-tab-at .tab-at .result) (at-tab-at .tab-at .ensures .0) (omega arith) (omega arith) _ _
+          (at-depth-line .depth-line .ensures) (at-minus .minus .given .1) (omega (arith, c .before .most-in .ensures)),
+      omega arith,
+    )
 
 sub-keep : tie.Need-sub-keep
 sub-keep c = search needs
@@ -61,7 +89,10 @@ keep-requires : tie.Need-keep-requires
 keep-requires c κs = search needs
 
 whole-of-requires : tie.Need-whole-of-requires
-whole-of-requires c κs = omega (arith, depth-small _ _ _ (sym (c .before .before .before .before .before .before .before .before .before .before .before .depth-line .ensures) ∙ c .before .before .before .before .before .before .before .before .before .minus .given .1))
+whole-of-requires c κs =
+    let at-minus = c .before .before .before .before .before .before .before .before .before in
+    let at-depth-line = at-minus .before .before in
+    omega (arith, depth-small _ _ _ (sym (at-depth-line .depth-line .ensures) ∙ at-minus .minus .given .1))
 
 mul-t25 : tie.Need-mul-t25
 mul-t25 c = search needs
@@ -79,18 +110,53 @@ same-length-2 : tie.Need-same-length-2
 same-length-2 c = search needs
 
 returns-5 : tie.Need-returns-5
-returns-5 c = (
-  one-more (c .before .before .before .before .before .before .before .before .before .before .before .before .before .before .before .before .before .before .args .k) (c .before .before .before .before .before .before .before .before .before .before .before .before .before .before .before .before .before .before .args .n) (c .before .before .before .before .before .before .before .before .before .before .before .before .before .before .before .before .before .before .args .rows .now) (c .before .before .before .before .before .before .before .before .before .before .before .before .before .before .before .before .before .before .pre .0) (c .before .before .before .before .before .before .before .before .before .before .before .before .before .before .before .before .before .before .pre .1 .0) (labelsTo (c .before .before .before .before .before .before .before .before .before .before .before .before .before .before .before .before .before .before .args .labels .now) (c .before .before .before .before .before .before .before .before .before .before .before .before .before .before .before .before .before .before .args .n)) (c .before .before .before .before .before .before .before .before .before .before .before .before .before .before .before .before .before .before .args .l .now) (c .before .before .before .before .before .before .before .before .before .before .before .before .before .before .before .tab-at .result) (c .before .before .before .before .before .before .before .before .before .before .before .before .before .before .before .tab-at .ensures .0) (omega (arith, c .before .before .before .before .before .before .before .before .before .before .before .before .before .before .if1 .left)) (omega (arith, c .before .before .before .before .before .before .before .before .before .before .before .before .before .if2 .left)) _ _ (c .before .before .before .before .before .before .before .before .before .before .before .before .depth-line .ensures) (c .before .before .before .before .before .before .before .before .before .before .minus .given .1) (omega (arith, c .before .before .before .before .before .before .before .before .most-in .ensures, c .before .before .before .before .before .before .before .if3 .left))
-      (omega (arith, depth-small _ _ _ (sym (c .before .before .before .before .before .before .before .before .before .before .before .before .depth-line .ensures) ∙ c .before .before .before .before .before .before .before .before .before .before .minus .given .1))) (omega (arith, c .before .before .before .before .before .before .if4 .taken))
-      (ap held (c .whole-of .ensures) ∙ whole-held (c .before .before .before .before .before .before .before .before .before .before .minus .given .0 .0) (c .before .before .before .before .before .before .before .before .before .before .minus .given .0 .1 .0) (omega (arith, depth-small _ _ _ (sym (c .before .before .before .before .before .before .before .before .before .before .before .before .depth-line .ensures) ∙ c .before .before .before .before .before .before .before .before .before .before .minus .given .1)))) (c .before .before .before .keep .ensures .0),
-  omega (arith, c .before .before .before .before .before .before .if4 .taken),
-)
+returns-5 c =
+    let at-keep = c .before .before .before in
+    let at-if4 = at-keep .before .before .before in
+    let at-if3 = at-if4 .before in
+    let at-most-in = at-if3 .before in
+    let at-minus = at-most-in .before .before in
+    let at-depth-line = at-minus .before .before in
+    let at-if2 = at-depth-line .before in
+    let at-if1 = at-if2 .before in
+    let at-tab-at = at-if1 .before in
+    let start = at-tab-at .before .before .before in (
+      one-more (start .args .k) (start .args .n) (start .args .rows .now) (start .pre .0) (start .pre .1 .0) (labelsTo (start .args .labels .now)
+          (start .args .n)) (start .args .l .now) (at-tab-at .tab-at .result) (at-tab-at .tab-at .ensures .0) (omega (arith, at-if1 .if1 .left)) (omega (
+            arith,
+            at-if2 .if2 .left,
+          )) _ _ (at-depth-line .depth-line .ensures) (at-minus .minus .given .1) (omega (
+            arith,
+            at-most-in .most-in .ensures,
+            at-if3 .if3 .left,
+          )) (omega (arith, depth-small _ _ _ (sym (at-depth-line .depth-line .ensures) ∙ at-minus .minus .given .1))) (omega (
+            arith,
+            at-if4 .if4 .taken,
+          )) (ap held (c .whole-of .ensures) ∙ whole-held (at-minus .minus .given .0 .0) (at-minus .minus .given .0 .1 .0) (omega (
+            arith,
+            depth-small _ _ _ (sym (at-depth-line .depth-line .ensures) ∙ at-minus .minus .given .1),
+          ))) (at-keep .keep .ensures .0),
+      omega (
+        arith,
+        at-if4 .if4 .taken,
+      ),
+    )
 
 add-t30 : tie.Need-add-t30
 add-t30 c = search needs
 
 returns-6 : tie.Need-returns-6
-returns-6 c = (too-many (c .before .before .before .before .before .before .before .before .before .before .before .before .args .k) (c .before .before .before .before .before .before .before .before .before .before .before .before .args .n) (c .before .before .before .before .before .before .before .before .before .before .before .before .args .rows .now) (c .before .before .before .before .before .before .before .before .before .before .before .before .pre .0) (c .before .before .before .before .before .before .before .before .before .before .before .before .pre .1 .0) (labelsTo (c .before .before .before .before .before .before .before .before .before .before .before .before .args .labels .now) (c .before .before .before .before .before .before .before .before .before .before .before .before .args .n)) (c .before .before .before .before .before .before .before .before .before .before .before .before .args .l .now) (c .before .before .before .before .before .before .before .before .before .tab-at .result) (c .before .before .before .before .before .before .before .before .before .tab-at .ensures .0) (omega arith) (omega arith) _ _ (c .before .before .before .before .before .before .depth-line .ensures) (c .before .before .before .before .minus .given .1) (omega (arith, c .before .before .most-in .ensures)) (omega arith), omega arith)
+returns-6 c =
+    let at-most-in = c .before .before in
+    let at-minus = at-most-in .before .before in
+    let at-depth-line = at-minus .before .before in
+    let at-tab-at = at-depth-line .before .before .before in
+    let start = at-tab-at .before .before .before in (
+      too-many (start .args .k) (start .args .n) (start .args .rows .now) (start .pre .0) (start .pre .1 .0) (labelsTo (start .args .labels .now)
+          (start .args .n)) (start .args .l .now) (at-tab-at .tab-at .result) (at-tab-at .tab-at .ensures .0) (omega arith) (omega arith) _ _
+          (at-depth-line .depth-line .ensures) (at-minus .minus .given .1) (omega (arith, at-most-in .most-in .ensures)) (omega arith),
+      omega arith,
+    )
 
 pub add-spec : {M : Type 1} → statement M
 add-spec =

@@ -23,8 +23,15 @@ same-length : tie.Need-same-length
 same-length c = search needs
 
 returns : tie.Need-returns
-returns c = let w = then (c .before .before .before .before .before .before .put-byte .ensures) (c .before .before .put-word .ensures) in
-    (kept (c .before .before .before .before .before .before .before .before .before .before .args .labels .now) _ (c .before .before .before .before .before .before .before .before .before .before .args .w .now) (c .before .before .before .before .before .before .before .before .before .before .args .n) _ (c .before .before .before .before .before .before .before .before .before .before .pre .0) (omega (arith, c .before .before .before .before .before .before .before .before .before .before .pre .1)) w, w .long ∙ c .before .before .before .before .before .before .before .before .before .before .pre .1 .1)
+returns c =
+    let at-put-word = c .before .before in
+    let at-put-byte = at-put-word .before .before .before .before in
+    let start = at-put-byte .before .before .before .before in
+    let w = then (at-put-byte .put-byte .ensures) (at-put-word .put-word .ensures) in (
+      kept (start .args .labels .now) _ (start .args .w .now)
+          (start .args .n) _ (start .pre .0) (omega (arith, start .pre .1)) w,
+      w .long ∙ start .pre .1 .1,
+    )
 
 pub keep-spec : {M : Type 1} → statement M
 keep-spec =

@@ -25,10 +25,22 @@ enum-told : tie.Need-enum-told
 enum-told c = search needs
 
 returns-2 : tie.Need-returns-2
-returns-2 c = is-drawn (c .before .before .before .before .before .before .before .args .l .now) (c .before .before .before .before .is-word .ensures) (c .before .before .before .if1 .left) (c .before .before .basis-named .ensures) (ap drawn (sym (c .enum-told .given .1)))
+returns-2 c =
+    let at-basis-named = c .before .before in
+    let at-if1 = at-basis-named .before in
+    let at-is-word = at-if1 .before in
+    let start = at-is-word .before .before .before in
+    is-drawn (start .args .l .now) (at-is-word .is-word .ensures) (at-if1 .if1 .left) (at-basis-named .basis-named .ensures) (ap drawn (sym
+    (c .enum-told .given .1)))
 
 returns-3 : tie.Need-returns-3
-returns-3 c = is-drawn (c .before .before .before .before .before .before .before .before .args .l .now) (c .before .before .before .before .before .is-word .ensures) (c .before .before .before .before .if1 .left) (c .before .before .before .basis-named .ensures) (ap drawn (sym (c .before .b .given .1)))
+returns-3 c =
+    let at-basis-named = c .before .before .before in
+    let at-if1 = at-basis-named .before in
+    let at-is-word = at-if1 .before in
+    let start = at-is-word .before .before .before in
+    is-drawn (start .args .l .now) (at-is-word .is-word .ensures) (at-if1 .if1 .left) (at-basis-named .basis-named .ensures) (ap drawn (sym
+    (c .before .b .given .1)))
 
 pub kind-named-spec : {M : Type 1} → statement M
 kind-named-spec =

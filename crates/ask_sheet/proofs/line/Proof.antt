@@ -24,7 +24,14 @@ first-requires : tie.Need-first-requires
 first-requires c κs = search needs
 
 returns : tie.Need-returns
-returns c = rw (c .before .before .before .enum-told .given .1) (named-line (c .before .before .before .before .before .before .before .args .len) (c .before .before .before .before .before .before .before .args .line .now) (omega arith) (c .first .ensures .0 (c .before .before .before .before .before .before .before .args .rows .now) (c .before .before .before .before .before .before .before .args .labels .now)), c .first .ensures .1)
+returns c =
+    let at-enum-told = c .before .before .before in
+    let start = at-enum-told .before .before .before .before in
+    rw (at-enum-told .enum-told .given .1) (
+      named-line (start .args .len) (start .args .line .now) (omega arith) (c .first .ensures .0
+          (start .args .rows .now) (start .args .labels .now)),
+      c .first .ensures .1,
+    )
 
 enum-known-h : tie.Need-enum-known-h
 enum-known-h c = search needs
@@ -39,7 +46,10 @@ part-add-end : tie.Need-part-add-end
 part-add-end c = search needs
 
 add-requires : tie.Need-add-requires
-add-requires c κs = let k : c .before .before .before .before .before .h .given .0 .1 .0 + 2 ≤ lastLine = rw (c .before .before .before .before .before .h .given .1) at (c .before .before .before .before .before .before .before .before .before .pre .1 .0) in (omega arith, c .before .before .before .before .before .before .before .before .before .pre .1 .1)
+add-requires c κs =
+    let at-h = c .before .before .before .before .before in
+    let start = at-h .before .before .before .before in
+    let k : at-h .h .given .0 .1 .0 + 2 ≤ lastLine = rw (at-h .h .given .1) at (start .pre .1 .0) in (omega arith, start .pre .1 .1)
 
 same-length : tie.Need-same-length
 same-length c = search needs
@@ -48,26 +58,48 @@ same-length-2 : tie.Need-same-length-2
 same-length-2 c = search needs
 
 returns-2 : tie.Need-returns-2
-returns-2 c = rw (c .before .before .before .before .before .before .before .before .before .h .given .1) (
-  grown-line _ _ _ (c .before .before .before .before .before .before .before .before .before .before .before .before .before .args .len) (c .before .before .before .before .before .before .before .before .before .before .before .before .before .args .line .now) (omega (arith, c .before .before .before .before .before .before .before .if2 .taken)) (c .before .before .before .add .ensures .0),
-  c .before .before .before .add .ensures .1,
-)
+returns-2 c =
+    let at-add = c .before .before .before in
+    let at-if2 = at-add .before .before .before .before in
+    let at-h = at-if2 .before .before in
+    let start = at-h .before .before .before .before in
+    rw (at-h .h .given .1) (
+      grown-line _ _ _ (start .args .len) (start .args .line .now) (omega (arith, at-if2 .if2 .taken)) (at-add .add .ensures .0),
+      at-add .add .ensures .1,
+    )
 
 add-t26 : tie.Need-add-t26
-add-t26 c = let k : c .before .before .h .given .0 .1 .0 + 2 ≤ lastLine = rw (c .before .before .h .given .1) at (c .before .before .before .before .before .before .pre .1 .0) in omega arith
+add-t26 c =
+    let at-h = c .before .before in
+    let start = at-h .before .before .before .before in
+    let k : at-h .h .given .0 .1 .0 + 2 ≤ lastLine = rw (at-h .h .given .1) at (start .pre .1 .0) in omega arith
 
 enum-known-h-2 : tie.Need-enum-known-h-2
 enum-known-h-2 c = search needs
 
 returns-3 : tie.Need-returns-3
-returns-3 c = rw (c .before .enum-told .given .1) (over-first (c .before .before .before .before .before .args .len) (c .before .before .before .before .before .args .line .now) (omega arith), omega arith)
+returns-3 c =
+    let start = c .before .before .before .before .before in
+    rw (c .before .enum-told .given .1) (over-first (start .args .len) (start .args .line .now) (omega arith), omega arith)
 
 returns-4 : tie.Need-returns-4
-returns-4 c = let k : c .before .before .h .given .0 .1 .0 + 2 ≤ lastLine = rw (c .before .before .h .given .1) at (c .before .before .before .before .before .before .pre .1 .0) in
-    rw (c .before .before .h .given .1) (over-later _ _ (c .before .before .before .before .before .before .args .rows .now) _ (c .before .before .before .before .before .before .args .len) (c .before .before .before .before .before .before .args .line .now) (omega arith) (c .before .before .before .before .before .before .pre .1 .1 .0) (omega arith), k)
+returns-4 c =
+    let at-h = c .before .before in
+    let start = at-h .before .before .before .before in
+    let k : at-h .h .given .0 .1 .0 + 2 ≤ lastLine = rw (at-h .h .given .1) at (start .pre .1 .0) in rw (at-h .h .given .1) (
+      over-later _ _
+          (start .args .rows .now) _ (start .args .len) (start .args .line .now) (omega arith) (start .pre .1 .1 .0) (omega arith),
+      k,
+    )
 
 returns-5 : tie.Need-returns-5
-returns-5 c = let k : c .before .h2 .given .0 .0 ≤ lastLine = rw (c .before .h2 .given .1) at (c .before .before .before .before .before .pre .1 .0) in rw (c .before .h2 .given .1) (still-faulty _ _ _, k)
+returns-5 c =
+    let start = c .before .before .before .before .before in
+    let k : c .before .h2 .given .0 .0 ≤ lastLine = rw (c .before .h2 .given .1) at (start .pre .1 .0) in rw (c .before .h2 .given .1) (
+      still-faulty _ _
+          _,
+      k,
+    )
 
 pub line-spec : {M : Type 1} → statement M
 line-spec =

@@ -12,13 +12,19 @@ down-requires : tie.Need-down-requires
 down-requires c κs = search needs
 
 returns : tie.Need-returns
-returns c = ap held (c .down .ensures ∙ ap (λ (b : Bool). wholeOf b (c .before .before .args .n)) (sym (c .before .if1 .taken))) ∙ whole-held (c .before .before .args .minus) (c .before .before .args .n) (c .before .before .pre)
+returns c =
+    let start = c .before .before in
+    ap held (c .down .ensures ∙ ap (λ (b : Bool). wholeOf b (start .args .n)) (sym (c .before .if1 .taken))) ∙ whole-held (start .args .minus)
+    (start .args .n) (start .pre)
 
 up-requires : tie.Need-up-requires
 up-requires c κs = search needs
 
 returns-2 : tie.Need-returns-2
-returns-2 c = ap held (c .up .ensures ∙ ap (λ (b : Bool). wholeOf b (c .before .before .args .n)) (sym (c .before .if1 .left))) ∙ whole-held (c .before .before .args .minus) (c .before .before .args .n) (c .before .before .pre)
+returns-2 c =
+    let start = c .before .before in
+    ap held (c .up .ensures ∙ ap (λ (b : Bool). wholeOf b (start .args .n)) (sym (c .before .if1 .left))) ∙ whole-held (start .args .minus)
+    (start .args .n) (start .pre)
 
 pub whole-of-spec : {M : Type 1} → statement M
 whole-of-spec =

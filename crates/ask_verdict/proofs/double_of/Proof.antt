@@ -14,23 +14,42 @@ size-requires c κs = search needs
 
 returns : tie.Need-returns
 unfolding ofBits
-returns c = zero-knot (c .before .before .args .z) (c .before .size .result) (size-is (c .before .before .args .z) (c .before .before .pre) (c .before .size .ensures)) (c .if1 .taken)
+returns c =
+    let start = c .before .before in
+    zero-knot (start .args .z) (c .before .size .result) (size-is (start .args .z) (start .pre) (c .before .size .ensures)) (c .if1 .taken)
 
 int-to-float-result : tie.Need-int-to-float-result
 unfolding inFloat
-int-to-float-result c = le→leb (c .before .before .before .size .result) (2 ^ 53) (omega (arith, size-is (c .before .before .before .before .args .z) (c .before .before .before .before .pre) (c .before .before .before .size .ensures), c .before .before .before .before .pre))
+int-to-float-result c =
+    let at-size = c .before .before .before in
+    let start = at-size .before in
+    le→leb (at-size .size .result) (2 ^ 53) (omega (arith, size-is (start .args .z) (start .pre) (at-size .size .ensures), start .pre))
 
 returns-2 : tie.Need-returns-2
 unfolding ofBits
-returns-2 c = plus-knot (c .before .before .before .size .result) (omega (arith, size-is (c .before .before .before .before .args .z) (c .before .before .before .before .pre) (c .before .before .before .size .ensures), c .before .before .before .before .pre)) (c .before .before .if1 .left) ∙ up-knot (c .before .before .before .before .args .z) (c .before .before .before .size .result) (size-is (c .before .before .before .before .args .z) (c .before .before .before .before .pre) (c .before .before .before .size .ensures)) (c .before .before .before .before .pre) (c .before .if2 .taken)
+returns-2 c =
+    let at-if1 = c .before .before in
+    let at-size = at-if1 .before in
+    let start = at-size .before in
+    plus-knot (at-size .size .result) (omega (arith, size-is (start .args .z) (start .pre) (at-size .size .ensures), start .pre)) (at-if1 .if1 .left) ∙
+    up-knot (start .args .z) (at-size .size .result) (size-is (start .args .z) (start .pre) (at-size .size .ensures)) (start .pre) (c .before .if2 .taken)
 
 int-to-float-result-2 : tie.Need-int-to-float-result-2
 unfolding inFloat
-int-to-float-result-2 c = le→leb (c .before .before .before .size .result) (2 ^ 53) (omega (arith, size-is (c .before .before .before .before .args .z) (c .before .before .before .before .pre) (c .before .before .before .size .ensures), c .before .before .before .before .pre))
+int-to-float-result-2 c =
+    let at-size = c .before .before .before in
+    let start = at-size .before in
+    le→leb (at-size .size .result) (2 ^ 53) (omega (arith, size-is (start .args .z) (start .pre) (at-size .size .ensures), start .pre))
 
 returns-3 : tie.Need-returns-3
 unfolding ofBits
-returns-3 c = minus-knot (c .before .before .before .size .result) (omega (arith, size-is (c .before .before .before .before .args .z) (c .before .before .before .before .pre) (c .before .before .before .size .ensures), c .before .before .before .before .pre)) (c .before .before .if1 .left) ∙ down-knot (c .before .before .before .before .args .z) (c .before .before .before .size .result) (size-is (c .before .before .before .before .args .z) (c .before .before .before .before .pre) (c .before .before .before .size .ensures)) (c .before .before .before .before .pre) (c .before .if2 .left)
+returns-3 c =
+    let at-if1 = c .before .before in
+    let at-size = at-if1 .before in
+    let start = at-size .before in
+    minus-knot (at-size .size .result) (omega (arith, size-is (start .args .z) (start .pre) (at-size .size .ensures), start .pre)) (at-if1 .if1 .left) ∙
+    down-knot (start .args .z) (at-size .size .result) (size-is (start .args .z) (start .pre) (at-size .size .ensures)) (start .pre)
+    (c .before .if2 .left)
 
 pub double-of-spec : {M : Type 1} → statement M
 double-of-spec =

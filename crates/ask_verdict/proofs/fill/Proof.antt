@@ -30,7 +30,10 @@ shared-slice-copy-out-double-of : tie.Need-shared-slice-copy-out-double-of Inv-l
 shared-slice-copy-out-double-of c = search needs
 
 double-of-requires : tie.Need-double-of-requires Inv-loop μ-loop
-double-of-requires c κs = small-at turns.most (c .before .before .before .before .args .whole .now) (c .before .before .before .before .pre .0) (c .before .before .loop .i) (omega (arith, c .before .loop-test .taken))
+double-of-requires c κs =
+    let at-loop = c .before .before in
+    let start = at-loop .before .before in
+    small-at turns.most (start .args .whole .now) (start .pre .0) (at-loop .loop .i) (omega (arith, c .before .loop-test .taken))
 
 mul-knots : tie.Need-mul-knots Inv-loop μ-loop
 mul-knots c = search needs
@@ -45,19 +48,30 @@ loop-less : tie.Need-loop-less Inv-loop μ-loop
 loop-less c = search needs
 
 loop-again : tie.Need-loop-again Inv-loop μ-loop
-loop-again c = (
-  omega (arith, c .before .before .loop-test .taken),
-  (
-    search needs,
-    fill-on (c .before .before .before .before .before .args .whole .now) (c .before .before .before .loop .knots) (c .before .before .before .loop .i) (omega (arith, c .before .before .loop-test .taken)) (omega (arith, c .before .before .loop-test .taken, c .before .before .before .loop .inv .1 .0, c .before .before .before .before .before .pre .1)) (c .before .before .before .loop .inv .1 .1) (c .double-of .ensures),
-  ),
-)
+loop-again c =
+    let at-loop-test = c .before .before in
+    let at-loop = at-loop-test .before in
+    let start = at-loop .before .before in (
+      omega (arith, at-loop-test .loop-test .taken),
+      (
+        search needs,
+        fill-on (start .args .whole .now) (at-loop .loop .knots) (at-loop .loop .i) (omega
+            (arith, at-loop-test .loop-test .taken)) (omega (arith, at-loop-test .loop-test .taken, at-loop .loop .inv .1 .0, start .pre .1))
+            (at-loop .loop .inv .1 .1) (c .double-of .ensures),
+      ),
+    )
 
 same-length : tie.Need-same-length Inv-loop μ-loop
 same-length c = search needs
 
 returns : tie.Need-returns Inv-loop μ-loop
-returns c = let e : c .before .loop .i ≡ length (c .before .before .before .args .whole .now) = omega arith in (filled (c .before .before .before .args .whole .now) (c .before .loop .knots) (rw e at (c .before .loop .inv .1 .1)), c .before .loop .inv .1 .0)
+returns c =
+    let start = c .before .before .before in
+    let e : c .before .loop .i ≡ length (start .args .whole .now) = omega arith in (
+      filled (start .args .whole .now) (c .before .loop .knots) (rw e at
+          (c .before .loop .inv .1 .1)),
+      c .before .loop .inv .1 .0,
+    )
 
 pub fill-spec : {M : Type 1} → statement M
 fill-spec =

@@ -24,10 +24,22 @@ is-same-requires : tie.Need-is-same-requires Inv-loop μ-loop
 is-same-requires c κs = search needs
 
 returns : tie.Need-returns Inv-loop μ-loop
-returns c = let a = c .before .before .before .before .before .args in
-    let j = c .before .before .before .loop .j in
-    let e = both (label-of (a .labels .now) (a .n) j (omega (arith, c .before .before .before .before .before .pre .0, c .before .before .loop-test .taken))) (label-of (a .labels .now) (a .n) (a .i) (c .before .before .before .before .before .pre .0)) in
-    (found (labelsTo (a .labels .now) (a .n)) _ (a .i) j (omega (arith, c .before .before .loop-test .taken)) (c .before .before .before .loop .inv .1) (e ∙ sym (c .before .is-same .ensures) ∙ c .if1 .taken), omega (arith, c .before .before .before .loop .inv .0))
+returns c =
+    let at-loop-test = c .before .before in
+    let at-loop = at-loop-test .before in
+    let start = at-loop .before .before in
+    let a = start .args in let j = at-loop .loop .j in let e = both (label-of (a .labels .now) (a .n) j (omega (
+      arith,
+      start .pre .0,
+      at-loop-test .loop-test .taken,
+    ))) (label-of (a .labels .now) (a .n) (a .i) (start .pre .0)) in (
+      found (labelsTo (a .labels .now) (a .n)) _ (a .i) j
+          (omega (arith, at-loop-test .loop-test .taken)) (at-loop .loop .inv .1) (e ∙ sym (c .before .is-same .ensures) ∙ c .if1 .taken),
+      omega (
+        arith,
+        at-loop .loop .inv .0,
+      ),
+    )
 
 add-j : tie.Need-add-j Inv-loop μ-loop
 add-j c = search needs
@@ -36,13 +48,27 @@ loop-less : tie.Need-loop-less Inv-loop μ-loop
 loop-less c = search needs
 
 loop-again : tie.Need-loop-again Inv-loop μ-loop
-loop-again c = let a = c .before .before .before .before .before .args in
-    let j = c .before .before .before .loop .j in
-    let e = both (label-of (a .labels .now) (a .n) j (omega (arith, c .before .before .before .before .before .pre .0, c .before .before .loop-test .taken))) (label-of (a .labels .now) (a .n) (a .i) (c .before .before .before .before .before .pre .0)) in
-    (omega (arith, c .before .before .loop-test .taken), passed (labelsTo (a .labels .now) (a .n)) _ (a .i) j (omega (arith, c .before .before .loop-test .taken)) (c .before .before .before .loop .inv .1) (e ∙ sym (c .before .is-same .ensures) ∙ c .if1 .left))
+loop-again c =
+    let at-loop-test = c .before .before in
+    let at-loop = at-loop-test .before in
+    let start = at-loop .before .before in
+    let a = start .args in let j = at-loop .loop .j in let e = both (label-of (a .labels .now) (a .n) j (omega (
+      arith,
+      start .pre .0,
+      at-loop-test .loop-test .taken,
+    ))) (label-of (a .labels .now) (a .n) (a .i) (start .pre .0)) in (
+      omega (arith, at-loop-test .loop-test .taken),
+      passed
+          (labelsTo (a .labels .now) (a .n)) _ (a .i) j (omega (arith, at-loop-test .loop-test .taken)) (at-loop .loop .inv .1) (e ∙ sym
+          (c .before .is-same .ensures) ∙ c .if1 .left),
+    )
 
 returns-2 : tie.Need-returns-2 Inv-loop μ-loop
-returns-2 c = (none-found (labelsTo (c .before .before .before .args .labels .now) (c .before .before .before .args .n)) _ (c .before .before .before .args .i) (c .before .loop .j) (omega arith) (c .before .loop .inv .1), c .before .loop .inv .0)
+returns-2 c =
+    let start = c .before .before .before in (
+      none-found (labelsTo (start .args .labels .now) (start .args .n)) _ (start .args .i) (c .before .loop .j) (omega arith) (c .before .loop .inv .1),
+      c .before .loop .inv .0,
+    )
 
 pub first-same-spec : {M : Type 1} → statement M
 first-same-spec =

@@ -51,7 +51,12 @@ is-word-requires : tie.Need-is-word-requires
 is-word-requires c κs = search needs
 
 returns : tie.Need-returns
-returns c = c .is-word .ensures ∙ both (cell (c .before .before .before .before .before .before .args .labels .now) (c .before .before .before .before .before .before .args .i) (c .before .before .before .before .label-len .ensures)) (cell (c .before .before .before .before .before .before .args .labels .now) (c .before .before .before .before .before .before .args .j) (c .before .before .before .label-len2 .ensures))
+returns c =
+    let at-label-len2 = c .before .before .before in
+    let at-label-len = at-label-len2 .before in
+    let start = at-label-len .before .before in
+    c .is-word .ensures ∙ both (cell (start .args .labels .now) (start .args .i) (at-label-len .label-len .ensures)) (cell (start .args .labels .now)
+    (start .args .j) (at-label-len2 .label-len2 .ensures))
 
 pub is-same-spec : {M : Type 1} → statement M
 is-same-spec =

@@ -16,7 +16,10 @@ is-through-rows-requires : tie.Need-is-through-rows-requires
 is-through-rows-requires c κs = search needs
 
 returns : tie.Need-returns
-returns c = not-through (c .before .before .args .k) (c .before .before .args .up) (c .before .before .args .rows .now) (c .before .before .args .i) (c .before .is-through-rows .ensures) (not-true _ (c .if1 .taken))
+returns c =
+    let start = c .before .before in
+    not-through (start .args .k) (start .args .up) (start .args .rows .now) (start .args .i) (c .before .is-through-rows .ensures) (not-true _
+    (c .if1 .taken))
 
 add-next : tie.Need-add-next
 add-next c = search needs
@@ -34,8 +37,15 @@ shared-slice-copy-out-result-2 : tie.Need-shared-slice-copy-out-result-2
 shared-slice-copy-out-result-2 c = search needs
 
 returns-2 : tie.Need-returns-2
-returns-2 c = ap (λ (u : Bool). against u (held (getD (c .before .before .before .before .before .before .args .rows .now) (c .before .before .before .before .before .before .args .i) (pos 0))) (held (getD (c .before .before .before .before .before .before .args .rows .now) (c .before .before .before .before .before .before .args .i + 1) (pos 0)))) (sym (c .before .before .if3 .taken))
-    ∙ row-turns (c .before .before .before .before .before .before .args .k) (c .before .before .before .before .before .before .args .up) (c .before .before .before .before .before .before .args .rows .now) (c .before .before .before .before .before .before .args .i) (c .before .before .before .before .before .is-through-rows .ensures) (not-false _ (c .before .before .before .before .if1 .left)) (c .before .before .before .if2 .taken)
+returns-2 c =
+    let at-if3 = c .before .before in
+    let at-if2 = at-if3 .before in
+    let at-if1 = at-if2 .before in
+    let at-is-through-rows = at-if1 .before in
+    let start = at-is-through-rows .before in
+    ap (λ (u : Bool). against u (held (getD (start .args .rows .now) (start .args .i) (pos 0))) (held (getD (start .args .rows .now) (start .args .i + 1)
+    (pos 0)))) (sym (at-if3 .if3 .taken)) ∙ row-turns (start .args .k) (start .args .up) (start .args .rows .now) (start .args .i)
+    (at-is-through-rows .is-through-rows .ensures) (not-false _ (at-if1 .if1 .left)) (at-if2 .if2 .taken)
 
 mul-result-3 : tie.Need-mul-result-3
 mul-result-3 c = search needs
@@ -50,11 +60,22 @@ shared-slice-copy-out-result-4 : tie.Need-shared-slice-copy-out-result-4
 shared-slice-copy-out-result-4 c = search needs
 
 returns-3 : tie.Need-returns-3
-returns-3 c = ap (λ (u : Bool). against u (held (getD (c .before .before .before .before .before .before .args .rows .now) (c .before .before .before .before .before .before .args .i) (pos 0))) (held (getD (c .before .before .before .before .before .before .args .rows .now) (c .before .before .before .before .before .before .args .i + 1) (pos 0)))) (sym (c .before .before .if3 .left))
-    ∙ row-turns (c .before .before .before .before .before .before .args .k) (c .before .before .before .before .before .before .args .up) (c .before .before .before .before .before .before .args .rows .now) (c .before .before .before .before .before .before .args .i) (c .before .before .before .before .before .is-through-rows .ensures) (not-false _ (c .before .before .before .before .if1 .left)) (c .before .before .before .if2 .taken)
+returns-3 c =
+    let at-if3 = c .before .before in
+    let at-if2 = at-if3 .before in
+    let at-if1 = at-if2 .before in
+    let at-is-through-rows = at-if1 .before in
+    let start = at-is-through-rows .before in
+    ap (λ (u : Bool). against u (held (getD (start .args .rows .now) (start .args .i) (pos 0))) (held (getD (start .args .rows .now) (start .args .i + 1)
+    (pos 0)))) (sym (at-if3 .if3 .left)) ∙ row-turns (start .args .k) (start .args .up) (start .args .rows .now) (start .args .i)
+    (at-is-through-rows .is-through-rows .ensures) (not-false _ (at-if1 .if1 .left)) (at-if2 .if2 .taken)
 
 returns-4 : tie.Need-returns-4
-returns-4 c = last-row (c .before .before .before .args .k) (c .before .before .before .args .up) (c .before .before .before .args .rows .now) (c .before .before .before .args .i) (c .before .before .is-through-rows .ensures) (not-false _ (c .before .if1 .left)) (c .if2 .left)
+returns-4 c =
+    let at-is-through-rows = c .before .before in
+    let start = at-is-through-rows .before in
+    last-row (start .args .k) (start .args .up) (start .args .rows .now) (start .args .i) (at-is-through-rows .is-through-rows .ensures) (not-false _
+    (c .before .if1 .left)) (c .if2 .left)
 
 pub is-turning-spec : {M : Type 1} → statement M
 is-turning-spec =

@@ -19,7 +19,12 @@ first-row-requires : tie.Need-first-row-requires
 first-row-requires c κs = search needs
 
 returns : tie.Need-returns
-returns c = (as-text (before-first (c .before .before .before .args .k) (c .before .before .before .args .up) (heldAll (c .before .before .before .args .rows .now)) (heldAll (c .before .before .before .args .knots .now)) (c .before .before .before .args .i) (c .before .before .before .pre .1 .0 .is) (c .before .first-row .ensures .0) (c .if1 .taken)) (nothing _ _), omega arith)
+returns c =
+    let start = c .before .before .before in (
+      as-text (before-first (start .args .k) (start .args .up) (heldAll (start .args .rows .now)) (heldAll (start .args .knots .now)) (start .args .i)
+          (start .pre .1 .0 .is) (c .before .first-row .ensures .0) (c .if1 .taken)) (nothing _ _),
+      omega arith,
+    )
 
 row-step-requires : tie.Need-row-step-requires
 row-step-requires c κs = search needs
@@ -28,7 +33,14 @@ rem-if2 : tie.Need-rem-if2
 rem-if2 c = search needs
 
 returns-2 : tie.Need-returns-2
-returns-2 c = (as-text (between-rows (c .before .before .before .before .before .args .k) (c .before .before .before .before .before .args .up) (heldAll (c .before .before .before .before .before .args .rows .now)) (heldAll (c .before .before .before .before .before .args .knots .now)) (c .before .before .before .before .before .args .i) (c .before .before .before .before .before .pre .1 .0 .is) (c .before .before .before .first-row .ensures .0) (c .before .row-step .ensures .0) (c .before .before .if1 .left) (c .if2 .taken)) (nothing _ _), omega arith)
+returns-2 c =
+    let at-if1 = c .before .before in
+    let at-first-row = at-if1 .before in
+    let start = at-first-row .before .before in (
+      as-text (between-rows (start .args .k) (start .args .up) (heldAll (start .args .rows .now)) (heldAll (start .args .knots .now)) (start .args .i)
+          (start .pre .1 .0 .is) (at-first-row .first-row .ensures .0) (c .before .row-step .ensures .0) (at-if1 .if1 .left) (c .if2 .taken)) (nothing _ _),
+      omega arith,
+    )
 
 div-s : tie.Need-div-s
 div-s c = search needs
@@ -37,21 +49,62 @@ basis-of-requires : tie.Need-basis-of-requires
 basis-of-requires c κs = search needs
 
 segments-requires : tie.Need-segments-requires
-segments-requires c κs = omega (arith, c .before .before .before .before .before .before .pre .1 .0 .enough, long (c .before .before .before .before .before .before .args .knots .now))
+segments-requires c κs =
+    let start = c .before .before .before .before .before .before in
+    omega (arith, start .pre .1 .0 .enough, long (start .args .knots .now))
 
 put-bend-of-requires : tie.Need-put-bend-of-requires
-put-bend-of-requires c κs = (c .before .before .before .before .before .before .before .before .before .pre .0, (c .before .before .before .before .before .before .before .before .before .pre .1 .0, (rw (← c .before .before .before .basis-of .ensures) (omega (arith, c .before .before .segments .ensures, c .before .if3 .taken)), c .before .before .before .before .before .before .before .before .before .pre .1 .1)))
+put-bend-of-requires c κs =
+    let at-segments = c .before .before in
+    let at-basis-of = at-segments .before in
+    let start = at-basis-of .before .before .before .before .before .before in (
+      start .pre .0,
+      (
+        start .pre .1 .0,
+        (
+          rw (← at-basis-of .basis-of .ensures) (omega (arith, at-segments .segments .ensures, c .before .if3 .taken)),
+          start .pre .1 .1,
+        ),
+      ),
+    )
 
 same-length : tie.Need-same-length
 same-length c = search needs
 
 returns-3 : tie.Need-returns-3
-returns-3 c = let e = c .before .before .before .before .before .segments .ensures ∙ ap (λ (b : Basis). segmentsOf b (length (c .before .before .before .before .before .before .before .before .before .before .before .before .args .knots .now))) (c .before .before .before .before .before .before .basis-of .ensures) ∙ ap (λ (n : ℕ). segmentsOf (basisOf (c .before .before .before .before .before .before .before .before .before .before .before .before .args .k)) n) (sym (long (c .before .before .before .before .before .before .before .before .before .before .before .before .args .knots .now))) in
-    (as-text (begins (c .before .before .before .before .before .before .before .before .before .before .before .before .args .k) (c .before .before .before .before .before .before .before .before .before .before .before .before .args .up) (heldAll (c .before .before .before .before .before .before .before .before .before .before .before .before .args .rows .now)) (heldAll (c .before .before .before .before .before .before .before .before .before .before .before .before .args .knots .now)) (c .before .before .before .before .before .before .before .before .before .before .before .before .args .i) (c .before .before .before .before .before .before .before .before .before .before .before .before .pre .1 .0 .is) (c .before .before .before .before .before .before .before .before .before .before .first-row .ensures .0) (c .before .before .before .before .before .before .before .before .row-step .ensures .0) (c .before .before .before .before .before .before .before .before .before .if1 .left) (c .before .before .before .before .before .before .before .if2 .left) e (c .before .before .before .before .if3 .taken)) (c .before .before .put-bend-of .ensures .0), c .before .before .put-bend-of .ensures .1)
+returns-3 c =
+    let at-put-bend-of = c .before .before in
+    let at-if3 = at-put-bend-of .before .before in
+    let at-segments = at-if3 .before in
+    let at-basis-of = at-segments .before in
+    let at-if2 = at-basis-of .before in
+    let at-row-step = at-if2 .before in
+    let at-if1 = at-row-step .before in
+    let at-first-row = at-if1 .before in
+    let start = at-first-row .before .before in
+    let e = at-segments .segments .ensures ∙ ap (λ (b : Basis). segmentsOf b (length (start .args .knots .now))) (at-basis-of .basis-of .ensures) ∙ ap (λ
+    (n : ℕ). segmentsOf (basisOf (start .args .k)) n) (sym (long (start .args .knots .now))) in (
+      as-text (begins (start .args .k) (start .args .up)
+          (heldAll (start .args .rows .now)) (heldAll (start .args .knots .now)) (start .args .i) (start .pre .1 .0 .is) (at-first-row .first-row .ensures .0)
+          (at-row-step .row-step .ensures .0) (at-if1 .if1 .left) (at-if2 .if2 .left) e (at-if3 .if3 .taken)) (at-put-bend-of .put-bend-of .ensures .0),
+      at-put-bend-of .put-bend-of .ensures .1,
+    )
 
 returns-4 : tie.Need-returns-4
-returns-4 c = let e = c .before .segments .ensures ∙ ap (λ (b : Basis). segmentsOf b (length (c .before .before .before .before .before .before .before .before .args .knots .now))) (c .before .before .basis-of .ensures) ∙ ap (λ (n : ℕ). segmentsOf (basisOf (c .before .before .before .before .before .before .before .before .args .k)) n) (sym (long (c .before .before .before .before .before .before .before .before .args .knots .now))) in
-    (as-text (past-last (c .before .before .before .before .before .before .before .before .args .k) (c .before .before .before .before .before .before .before .before .args .up) (heldAll (c .before .before .before .before .before .before .before .before .args .rows .now)) (heldAll (c .before .before .before .before .before .before .before .before .args .knots .now)) (c .before .before .before .before .before .before .before .before .args .i) (c .before .before .before .before .before .before .before .before .pre .1 .0 .is) (c .before .before .before .before .before .before .first-row .ensures .0) (c .before .before .before .before .row-step .ensures .0) (c .before .before .before .before .before .if1 .left) (c .before .before .before .if2 .left) e (c .if3 .left)) (nothing _ _), omega arith)
+returns-4 c =
+    let at-basis-of = c .before .before in
+    let at-if2 = at-basis-of .before in
+    let at-row-step = at-if2 .before in
+    let at-if1 = at-row-step .before in
+    let at-first-row = at-if1 .before in
+    let start = at-first-row .before .before in
+    let e = c .before .segments .ensures ∙ ap (λ (b : Basis). segmentsOf b (length (start .args .knots .now))) (at-basis-of .basis-of .ensures) ∙ ap (λ (n
+    : ℕ). segmentsOf (basisOf (start .args .k)) n) (sym (long (start .args .knots .now))) in (
+      as-text (past-last (start .args .k) (start .args .up)
+          (heldAll (start .args .rows .now)) (heldAll (start .args .knots .now)) (start .args .i) (start .pre .1 .0 .is) (at-first-row .first-row .ensures .0)
+          (at-row-step .row-step .ensures .0) (at-if1 .if1 .left) (at-if2 .if2 .left) e (c .if3 .left)) (nothing _ _),
+      omega arith,
+    )
 
 pub put-bend-spec : {M : Type 1} → statement M
 put-bend-spec =

@@ -21,16 +21,29 @@ slice-aggregate-put-number : tie.Need-slice-aggregate-put-number
 slice-aggregate-put-number c = search needs
 
 add-put-number : tie.Need-add-put-number
-add-put-number c = omega (arith, c .before .before .before .before .before .pre .0, c .before .before .before .before .before .pre .1 .0 .rows, long (c .before .before .before .before .before .args .rows .now))
+add-put-number c =
+    let start = c .before .before .before .before .before in
+    omega (arith, start .pre .0, start .pre .1 .0 .rows, long (start .args .rows .now))
 
 put-number-requires : tie.Need-put-number-requires
-put-number-requires c κs = (omega arith, (omega (arith, c .before .before .before .before .before .pre .0, c .before .before .before .before .before .pre .1 .0 .rows, long (c .before .before .before .before .before .args .rows .now)), omega arith))
+put-number-requires c κs =
+    let start = c .before .before .before .before .before in
+    (omega arith, (omega (arith, start .pre .0, start .pre .1 .0 .rows, long (start .args .rows .now)), omega arith))
 
 same-length : tie.Need-same-length
 same-length c = search needs
 
 returns : tie.Need-returns
-returns c = (as-text (says-turns (c .before .before .before .before .before .before .before .before .args .k) (c .before .before .before .before .before .before .before .before .args .up) (heldAll (c .before .before .before .before .before .before .before .before .args .rows .now)) (heldAll (c .before .before .before .before .before .before .before .before .args .knots .now)) (c .before .before .before .before .before .before .before .before .args .i) (c .before .before .before .before .before .before .before .before .args .s) (c .before .before .before .before .before .before .before .before .pre .1 .0 .is) (c .before .before .before .before .before .before .is-turning .ensures) (c .before .before .before .before .before .if1 .taken)) (c .before .before .put-number .ensures .0), omega (arith, c .before .before .put-number .ensures .1))
+returns c =
+    let at-put-number = c .before .before in
+    let at-if1 = at-put-number .before .before .before in
+    let at-is-turning = at-if1 .before in
+    let start = at-is-turning .before .before in (
+      as-text (says-turns (start .args .k) (start .args .up) (heldAll (start .args .rows .now)) (heldAll (start .args .knots .now)) (start .args .i)
+          (start .args .s) (start .pre .1 .0 .is) (at-is-turning .is-turning .ensures) (at-if1 .if1 .taken)) (at-put-number .put-number .ensures .0),
+      omega
+          (arith, at-put-number .put-number .ensures .1),
+    )
 
 basis-of-requires : tie.Need-basis-of-requires
 basis-of-requires c κs = search needs
@@ -44,19 +57,44 @@ slice-aggregate-put-number-2 : tie.Need-slice-aggregate-put-number-2
 slice-aggregate-put-number-2 c = search needs
 
 add-put-number-2 : tie.Need-add-put-number-2
-add-put-number-2 c = omega (arith, c .before .before .before .before .before .before .before .before .pre .0, c .before .before .before .before .before .before .before .before .pre .1 .0 .rows, long (c .before .before .before .before .before .before .before .before .args .rows .now))
+add-put-number-2 c =
+    let start = c .before .before .before .before .before .before .before .before in
+    omega (arith, start .pre .0, start .pre .1 .0 .rows, long (start .args .rows .now))
 
 put-number-requires-2 : tie.Need-put-number-requires-2
-put-number-requires-2 c κs = (omega arith, (omega (arith, c .before .before .before .before .before .before .before .before .pre .0, c .before .before .before .before .before .before .before .before .pre .1 .0 .rows, long (c .before .before .before .before .before .before .before .before .args .rows .now)), omega arith))
+put-number-requires-2 c κs =
+    let start = c .before .before .before .before .before .before .before .before in
+    (omega arith, (omega (arith, start .pre .0, start .pre .1 .0 .rows, long (start .args .rows .now)), omega arith))
 
 same-length-2 : tie.Need-same-length-2
 same-length-2 c = search needs
 
 returns-2 : tie.Need-returns-2
-returns-2 c = (as-text (says-falls (c .before .before .before .before .before .before .before .before .before .before .before .args .k) (c .before .before .before .before .before .before .before .before .before .before .before .args .up) (heldAll (c .before .before .before .before .before .before .before .before .before .before .before .args .rows .now)) (heldAll (c .before .before .before .before .before .before .before .before .before .before .before .args .knots .now)) (c .before .before .before .before .before .before .before .before .before .before .before .args .i) (c .before .before .before .before .before .before .before .before .before .before .before .args .s) (c .before .before .before .before .before .before .before .before .before .before .before .pre .1 .0 .is) (c .before .before .before .before .before .before .before .before .before .is-turning .ensures) (c .before .before .before .before .before .before .before .basis-of .ensures) (c .before .before .before .before .before .before .is-falling .ensures) (c .before .before .before .before .before .before .before .before .if1 .left) (c .before .before .before .before .before .if2 .taken)) (c .before .before .put-number2 .ensures .0), omega (arith, c .before .before .put-number2 .ensures .1))
+returns-2 c =
+    let at-put-number2 = c .before .before in
+    let at-if2 = at-put-number2 .before .before .before in
+    let at-is-falling = at-if2 .before in
+    let at-basis-of = at-is-falling .before in
+    let at-if1 = at-basis-of .before in
+    let at-is-turning = at-if1 .before in
+    let start = at-is-turning .before .before in (
+      as-text (says-falls (start .args .k) (start .args .up) (heldAll (start .args .rows .now)) (heldAll (start .args .knots .now)) (start .args .i)
+          (start .args .s) (start .pre .1 .0 .is) (at-is-turning .is-turning .ensures) (at-basis-of .basis-of .ensures) (at-is-falling .is-falling .ensures)
+          (at-if1 .if1 .left) (at-if2 .if2 .taken)) (at-put-number2 .put-number2 .ensures .0),
+      omega (arith, at-put-number2 .put-number2 .ensures .1),
+    )
 
 returns-3 : tie.Need-returns-3
-returns-3 c = (as-text (says-nothing (c .before .before .before .before .before .before .args .k) (c .before .before .before .before .before .before .args .up) (heldAll (c .before .before .before .before .before .before .args .rows .now)) (heldAll (c .before .before .before .before .before .before .args .knots .now)) (c .before .before .before .before .before .before .args .i) (c .before .before .before .before .before .before .args .s) (c .before .before .before .before .before .before .pre .1 .0 .is) (c .before .before .before .before .is-turning .ensures) (c .before .before .basis-of .ensures) (c .before .is-falling .ensures) (c .before .before .before .if1 .left) (c .if2 .left)) (nothing _ _), omega arith)
+returns-3 c =
+    let at-basis-of = c .before .before in
+    let at-if1 = at-basis-of .before in
+    let at-is-turning = at-if1 .before in
+    let start = at-is-turning .before .before in (
+      as-text (says-nothing (start .args .k) (start .args .up) (heldAll (start .args .rows .now)) (heldAll (start .args .knots .now)) (start .args .i)
+          (start .args .s) (start .pre .1 .0 .is) (at-is-turning .is-turning .ensures) (at-basis-of .basis-of .ensures) (c .before .is-falling .ensures)
+          (at-if1 .if1 .left) (c .if2 .left)) (nothing _ _),
+      omega arith,
+    )
 
 pub put-bend-of-spec : {M : Type 1} → statement M
 put-bend-of-spec =

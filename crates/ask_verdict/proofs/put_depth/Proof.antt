@@ -17,7 +17,12 @@ same-length : tie.Need-same-length
 same-length c = search needs
 
 returns : tie.Need-returns
-returns c = (as-text (ap (λ (n : ℕ). roundedText 3 n) (c .before .before .before .to-bits .ensures)) (c .before .before .put-rounded .ensures .0), c .before .before .put-rounded .ensures .1)
+returns c =
+    let at-put-rounded = c .before .before in
+    let at-to-bits = at-put-rounded .before in (
+      as-text (ap (λ (n : ℕ). roundedText 3 n) (at-to-bits .to-bits .ensures)) (at-put-rounded .put-rounded .ensures .0),
+      at-put-rounded .put-rounded .ensures .1,
+    )
 
 pub put-depth-spec : {M : Type 1} → statement M
 put-depth-spec =

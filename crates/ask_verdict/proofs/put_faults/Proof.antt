@@ -24,23 +24,43 @@ basis-of-requires : tie.Need-basis-of-requires
 basis-of-requires c κs = search needs
 
 way-taken-requires : tie.Need-way-taken-requires
-way-taken-requires c κs = let d = c .before .before .before .pre .0 in let e = long (c .before .before .before .args .knots .now) in (omega (arith, d .enough, e), (omega (arith, d .few, e), d .small))
+way-taken-requires c κs =
+    let start = c .before .before .before in
+    let d = start .pre .0 in let e = long (start .args .knots .now) in (omega (arith, d .enough, e), (omega (arith, d .few, e), d .small))
 
 put-rows-requires : tie.Need-put-rows-requires
 put-rows-requires c κs = search needs
 
 put-flat-requires : tie.Need-put-flat-requires
-put-flat-requires c κs = omega (arith, c .before .before .before .put-rows .ensures .1, c .before .before .before .put-rows .ensures .0 .long, c .before .before .before .before .before .before .before .before .before .pre .0 .rows, long (c .before .before .before .before .before .before .before .before .before .args .rows .now))
+put-flat-requires c κs =
+    let at-put-rows = c .before .before .before in
+    let start = at-put-rows .before .before .before .before .before .before in
+    omega (arith, at-put-rows .put-rows .ensures .1, at-put-rows .put-rows .ensures .0 .long, start .pre .0 .rows, long (start .args .rows .now))
 
 same-length : tie.Need-same-length
 same-length c = search needs
 
 returns : tie.Need-returns
-returns c = let z = heldAll (c .before .before .before .before .before .before .before .before .before .before .before .before .args .rows .now) in
-    let ls = labelsTo (c .before .before .before .before .before .before .before .before .before .before .before .before .args .labels .now) (length (c .before .before .before .before .before .before .before .before .before .before .before .before .args .rows .now)) in (
-      all-rows (c .before .before .before .before .before .before .before .before .before .before .before .before .args .k) (c .before .before .before .before .before .before .before .before .way-taken .result) z ls (way-there (c .before .before .before .before .before .before .before .before .before .before .before .before .args .k) z (heldAll (c .before .before .before .before .before .before .before .before .before .before .before .before .args .knots .now)) (c .before .before .before .before .before .before .before .before .before .before .before .before .pre .0 .is) (c .before .before .before .before .before .before .before .before .before .basis-of .ensures) (c .before .before .before .before .before .before .before .before .way-taken .ensures))
-          (as-text (ap (λ (n : ℕ). faultsText (faultsTo (c .before .before .before .before .before .before .before .before .before .before .before .before .args .k) (c .before .before .before .before .before .before .before .before .way-taken .result) z ls n)) (sym (long (c .before .before .before .before .before .before .before .before .before .before .before .before .args .rows .now)))) (c .before .before .before .before .before .before .put-rows .ensures .0)) (c .before .before .put-flat .ensures .0),
-      omega (arith, c .before .before .before .before .before .before .put-rows .ensures .1, c .before .before .put-flat .ensures .1, c .before .before .before .before .before .before .before .before .before .before .before .before .pre .0 .rows, long (c .before .before .before .before .before .before .before .before .before .before .before .before .args .rows .now)),
+returns c =
+    let at-put-flat = c .before .before in
+    let at-put-rows = at-put-flat .before .before .before .before in
+    let at-way-taken = at-put-rows .before .before in
+    let at-basis-of = at-way-taken .before in
+    let start = at-basis-of .before .before .before in
+    let z = heldAll (start .args .rows .now) in let ls = labelsTo (start .args .labels .now) (length (start .args .rows .now)) in (
+      all-rows
+          (start .args .k) (at-way-taken .way-taken .result) z ls (way-there (start .args .k) z (heldAll (start .args .knots .now)) (start .pre .0 .is)
+          (at-basis-of .basis-of .ensures) (at-way-taken .way-taken .ensures)) (as-text (ap (λ (n : ℕ). faultsText (faultsTo (start .args .k)
+          (at-way-taken .way-taken .result) z ls n)) (sym (long (start .args .rows .now)))) (at-put-rows .put-rows .ensures .0))
+          (at-put-flat .put-flat .ensures .0),
+      omega (
+        arith,
+        at-put-rows .put-rows .ensures .1,
+        at-put-flat .put-flat .ensures .1,
+        start .pre .0 .rows,
+        long
+            (start .args .rows .now),
+      ),
     )
 
 pub put-faults-spec : {M : Type 1} → statement M

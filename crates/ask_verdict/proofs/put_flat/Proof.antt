@@ -33,7 +33,16 @@ same-length : tie.Need-same-length
 same-length c = search needs
 
 returns-3 : tie.Need-returns-3
-returns-3 c = rw (c .before .before .before .before .before .enum-told3 .given .1) (as-text (one-text flat) (c .before .before .put-word .ensures), omega (arith, c .before .before .put-word .ensures .next))
+returns-3 c =
+    let at-put-word = c .before .before in
+    let at-enum-told3 = at-put-word .before .before .before in
+    rw (at-enum-told3 .enum-told3 .given .1) (
+      as-text (one-text flat) (at-put-word .put-word .ensures),
+      omega (
+        arith,
+        at-put-word .put-word .ensures .next,
+      ),
+    )
 
 pub put-flat-spec : {M : Type 1} → statement M
 put-flat-spec =

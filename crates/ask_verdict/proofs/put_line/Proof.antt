@@ -24,7 +24,18 @@ same-length : tie.Need-same-length
 same-length c = search needs
 
 returns : tie.Need-returns
-returns c = (then (c .before .before .before .before .before .before .before .before .before .before .put-word .ensures) (then (c .before .before .before .before .before .before .put-decimal .ensures .0) (c .before .before .put-reason .ensures .0)), omega (arith, c .before .before .before .before .before .before .before .before .before .before .put-word .ensures .next, c .before .before .before .before .before .before .put-decimal .ensures .1, c .before .before .put-reason .ensures .1))
+returns c =
+    let at-put-reason = c .before .before in
+    let at-put-decimal = at-put-reason .before .before .before .before in
+    let at-put-word = at-put-decimal .before .before .before .before in (
+      then (at-put-word .put-word .ensures) (then (at-put-decimal .put-decimal .ensures .0) (at-put-reason .put-reason .ensures .0)),
+      omega (
+        arith,
+        at-put-word .put-word .ensures .next,
+        at-put-decimal .put-decimal .ensures .1,
+        at-put-reason .put-reason .ensures .1,
+      ),
+    )
 
 pub put-line-spec : {M : Type 1} → statement M
 put-line-spec =

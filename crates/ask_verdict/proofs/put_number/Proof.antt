@@ -21,7 +21,18 @@ same-length : tie.Need-same-length
 same-length c = search needs
 
 returns : tie.Need-returns
-returns c = (then (c .before .before .before .before .before .before .before .before .before .before .put-word .ensures) (then (c .before .before .before .before .before .before .put-decimal .ensures .0) (c .before .before .put-byte .ensures)), omega (arith, c .before .before .before .before .before .before .before .before .before .before .put-word .ensures .next, c .before .before .before .before .before .before .put-decimal .ensures .1, c .before .before .put-byte .ensures .next))
+returns c =
+    let at-put-byte = c .before .before in
+    let at-put-decimal = at-put-byte .before .before .before .before in
+    let at-put-word = at-put-decimal .before .before .before .before in (
+      then (at-put-word .put-word .ensures) (then (at-put-decimal .put-decimal .ensures .0) (at-put-byte .put-byte .ensures)),
+      omega (
+        arith,
+        at-put-word .put-word .ensures .next,
+        at-put-decimal .put-decimal .ensures .1,
+        at-put-byte .put-byte .ensures .next,
+      ),
+    )
 
 pub put-number-spec : {M : Type 1} → statement M
 put-number-spec =

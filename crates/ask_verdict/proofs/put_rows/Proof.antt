@@ -16,19 +16,69 @@ use Rattle.ask_verdict.proofs.put_rows.Statement.{statement}
 use Rattle.ask_verdict.proofs.put_rows.Tie as tie
 
 abbrev Inv-loop : tie.InvT-loop
-Inv-loop k w rows knots labels out₀ at r₀ i₀ out r i = (i ≤ length rows) × (Wrote out₀ at (faultsText (faultsTo k w (heldAll rows) (labelsTo labels (length rows)) i)) out r × (r ≤ at + 30 * i))
+Inv-loop k w rows knots labels out₀ at r₀ i₀ out r i =
+    (i ≤ length rows) × (Wrote out₀ at (faultsText (faultsTo k w (heldAll rows) (labelsTo labels (length rows)) i)) out r × (r ≤ at + 30 * i))
 
 abbrev μ-loop : tie.MeasureT-loop
 μ-loop k w rows knots labels out₀ at r₀ i₀ out r i = length rows - i
 
 loop-holds : tie.Need-loop-holds Inv-loop μ-loop
-loop-holds c = (omega arith, (as-text (no-rows (c .before .before .args .k) (c .before .before .args .w) (heldAll (c .before .before .args .rows .now)) (labelsTo (c .before .before .args .labels .now) (length (c .before .before .args .rows .now)))) (nothing _ _), omega arith))
+loop-holds c =
+    let start = c .before .before in (
+      omega arith,
+      (
+        as-text (no-rows (start .args .k) (start .args .w) (heldAll (start .args .rows .now)) (labelsTo (start .args .labels .now) (length
+            (start .args .rows .now)))) (nothing _ _),
+        omega arith,
+      ),
+    )
 
 put-twice-requires : tie.Need-put-twice-requires Inv-loop μ-loop
-put-twice-requires c κs = let d = c .before .before .before .before .before .pre .0 .rows in (omega arith, (omega (arith, d, long (c .before .before .before .before .before .args .rows .now)), (c .before .before .before .before .before .pre .1 .0, omega (arith, d, long (c .before .before .before .before .before .args .rows .now), c .before .before .loop .inv .1 .1, c .before .before .loop .inv .1 .0 .long, c .before .before .before .before .before .pre .1 .1))))
+put-twice-requires c κs =
+    let at-loop = c .before .before in
+    let start = at-loop .before .before .before in
+    let d = start .pre .0 .rows in (
+      omega arith,
+      (
+        omega (arith, d, long (start .args .rows .now)),
+        (
+          start .pre .1 .0,
+          omega (
+            arith,
+            d,
+            long
+                (start .args .rows .now),
+            at-loop .loop .inv .1 .1,
+            at-loop .loop .inv .1 .0 .long,
+            start .pre .1 .1,
+          ),
+        ),
+      ),
+    )
 
 put-bent-requires : tie.Need-put-bent-requires Inv-loop μ-loop
-put-bent-requires c κs = let d = c .before .before .before .before .before .before .before .before .before .pre .0 .rows in (omega (arith, c .before .before .before .before .before .loop-test .taken), (c .before .before .before .before .before .before .before .before .before .pre .0, omega (arith, d, long (c .before .before .before .before .before .before .before .before .before .args .rows .now), c .before .before .before .before .before .loop-test .taken, c .before .before .before .put-twice .ensures .1, c .before .before .before .put-twice .ensures .0 .long, c .before .before .before .before .before .before .loop .inv .1 .1, c .before .before .before .before .before .before .loop .inv .1 .0 .long, c .before .before .before .before .before .before .before .before .before .pre .1 .1)))
+put-bent-requires c κs =
+    let at-put-twice = c .before .before .before in
+    let at-loop-test = at-put-twice .before .before in
+    let at-loop = at-loop-test .before in
+    let start = at-loop .before .before .before in
+    let d = start .pre .0 .rows in (
+      omega (arith, at-loop-test .loop-test .taken),
+      (
+        start .pre .0,
+        omega (
+          arith,
+          d,
+          long (start .args .rows .now),
+          at-loop-test .loop-test .taken,
+          at-put-twice .put-twice .ensures .1,
+          at-put-twice .put-twice .ensures .0 .long,
+          at-loop .loop .inv .1 .1,
+          at-loop .loop .inv .1 .0 .long,
+          start .pre .1 .1,
+        ),
+      ),
+    )
 
 add-i : tie.Need-add-i Inv-loop μ-loop
 add-i c = omega (arith, c .before .before .before .before .before .before .before .before .loop-test .taken)
@@ -37,19 +87,34 @@ loop-less : tie.Need-loop-less Inv-loop μ-loop
 loop-less c = search needs
 
 loop-again : tie.Need-loop-again Inv-loop μ-loop
-loop-again c = (
-  omega (arith, c .before .before .before .before .before .before .before .before .loop-test .taken),
-  (
-    row-more (c .before .before .before .before .before .before .before .before .before .before .before .before .args .k) (c .before .before .before .before .before .before .before .before .before .before .before .before .args .w) (heldAll (c .before .before .before .before .before .before .before .before .before .before .before .before .args .rows .now)) (labelsTo (c .before .before .before .before .before .before .before .before .before .before .before .before .args .labels .now) (length (c .before .before .before .before .before .before .before .before .before .before .before .before .args .rows .now))) (c .before .before .before .before .before .before .before .before .before .loop .i) (c .before .before .before .before .before .before .before .before .before .loop .inv .1 .0) (c .before .before .before .before .before .before .put-twice .ensures .0) (c .before .before .put-bent .ensures .0),
-    omega (arith, c .before .before .before .before .before .before .put-twice .ensures .1, c .before .before .put-bent .ensures .1, c .before .before .before .before .before .before .before .before .before .loop .inv .1 .1),
-  ),
-)
+loop-again c =
+    let at-put-bent = c .before .before in
+    let at-put-twice = at-put-bent .before .before .before .before in
+    let at-loop-test = at-put-twice .before .before in
+    let at-loop = at-loop-test .before in
+    let start = at-loop .before .before .before in (
+      omega (arith, at-loop-test .loop-test .taken),
+      (
+        row-more (start .args .k) (start .args .w) (heldAll (start .args .rows .now)) (labelsTo
+            (start .args .labels .now) (length (start .args .rows .now))) (at-loop .loop .i) (at-loop .loop .inv .1 .0) (at-put-twice .put-twice .ensures .0)
+            (at-put-bent .put-bent .ensures .0),
+        omega (arith, at-put-twice .put-twice .ensures .1, at-put-bent .put-bent .ensures .1, at-loop .loop .inv .1 .1),
+      ),
+    )
 
 same-length : tie.Need-same-length Inv-loop μ-loop
 same-length c = search needs
 
 returns : tie.Need-returns Inv-loop μ-loop
-returns c = let e : c .before .loop .i ≡ length (c .before .before .before .before .args .rows .now) = omega arith in ((rw e at (c .before .loop .inv .1 .0)), omega (arith, c .before .loop .inv .1 .1))
+returns c =
+    let start = c .before .before .before .before in
+    let e : c .before .loop .i ≡ length (start .args .rows .now) = omega arith in (
+      (rw e at (c .before .loop .inv .1 .0)),
+      omega (
+        arith,
+        c .before .loop .inv .1 .1,
+      ),
+    )
 
 pub put-rows-spec : {M : Type 1} → statement M
 put-rows-spec =

@@ -39,14 +39,31 @@ same-length : tie.Need-same-length
 same-length c = search needs
 
 returns : tie.Need-returns
-returns c = (
-  as-text (twice-text (labelsTo (c .before .before .before .before .before .before .before .before .before .before .before .before .before .before .before .before .before .before .args .labels .now) (c .before .before .before .before .before .before .before .before .before .before .before .before .before .before .before .before .before .before .args .n)) (c .before .before .before .before .before .before .before .before .before .before .before .before .before .before .before .before .before .before .args .i) (c .before .before .before .before .before .before .before .before .before .before .before .before .before .before .before .first-same .result) (c .before .before .before .before .before .before .before .before .before .before .before .before .before .before .before .first-same .ensures .0) (c .before .before .before .before .before .before .before .before .before .before .before .before .before .before .if1 .taken))
-      (then (c .before .before .before .before .before .before .before .before .before .before .before .put-word .ensures) (then (c .before .before .before .before .before .before .before .put-decimal .ensures .0) (c .before .before .put-number .ensures .0))),
-  omega (arith, c .before .before .before .before .before .before .before .before .before .before .before .put-word .ensures .next, c .before .before .before .before .before .before .before .put-decimal .ensures .1, c .before .before .put-number .ensures .1),
-)
+returns c =
+    let at-put-number = c .before .before in
+    let at-put-decimal = at-put-number .before .before .before .before .before in
+    let at-put-word = at-put-decimal .before .before .before .before in
+    let at-if1 = at-put-word .before .before .before in
+    let at-first-same = at-if1 .before in
+    let start = at-first-same .before .before .before in (
+      as-text (twice-text (labelsTo (start .args .labels .now) (start .args .n)) (start .args .i) (at-first-same .first-same .result)
+          (at-first-same .first-same .ensures .0) (at-if1 .if1 .taken)) (then (at-put-word .put-word .ensures) (then (at-put-decimal .put-decimal .ensures .0)
+          (at-put-number .put-number .ensures .0))),
+      omega (
+        arith,
+        at-put-word .put-word .ensures .next,
+        at-put-decimal .put-decimal .ensures .1,
+        at-put-number .put-number .ensures .1,
+      ),
+    )
 
 returns-2 : tie.Need-returns-2
-returns-2 c = (as-text (once-text (labelsTo (c .before .before .before .before .args .labels .now) (c .before .before .before .before .args .n)) (c .before .before .before .before .args .i) (c .before .first-same .result) (c .before .first-same .ensures .0) (c .if1 .left)) (nothing _ _), omega arith)
+returns-2 c =
+    let start = c .before .before .before .before in (
+      as-text (once-text (labelsTo (start .args .labels .now) (start .args .n)) (start .args .i) (c .before .first-same .result)
+          (c .before .first-same .ensures .0) (c .if1 .left)) (nothing _ _),
+      omega arith,
+    )
 
 pub put-twice-spec : {M : Type 1} → statement M
 put-twice-spec =

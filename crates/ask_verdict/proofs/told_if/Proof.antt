@@ -36,12 +36,16 @@ part-told-of-end-2 : tie.Need-part-told-of-end-2
 part-told-of-end-2 c = search needs
 
 told-of-requires : tie.Need-told-of-requires
-told-of-requires c κs = let e : c .before .before .before .before .before .before .before .before .before .before .args .n - 0 ≡ c .before .before .before .before .before .before .before .before .before .before .args .n = omega arith in
-    let l : length (take (c .before .before .before .before .before .before .before .before .before .before .args .n) (c .before .before .before .before .before .before .before .before .before .before .args .rows .now)) ≡ c .before .before .before .before .before .before .before .before .before .before .args .n = length-take-le (c .before .before .before .before .before .before .before .before .before .before .args .n) (c .before .before .before .before .before .before .before .before .before .before .args .rows .now) (omega (arith, c .before .before .before .before .before .before .before .before .before .before .pre .0, c .before .before .before .before .before .before .before .before .before .before .pre .1 .1 .0)) in
-    let q : length (heldAll (take (c .before .before .before .before .before .before .before .before .before .before .args .n) (c .before .before .before .before .before .before .before .before .before .before .args .rows .now))) ≡ c .before .before .before .before .before .before .before .before .before .before .args .n = long (take (c .before .before .before .before .before .before .before .before .before .before .args .n) (c .before .before .before .before .before .before .before .before .before .before .args .rows .now)) ∙ l in
-    rw e (
-      drawing-drawn (c .before .before .before .before .before .k .given .0 .0) (heldAll (take (c .before .before .before .before .before .before .before .before .before .before .args .n) (c .before .before .before .before .before .before .before .before .before .before .args .rows .now))) (omega (arith, q, c .before .before .before .before .before .before .before .before .before .before .pre .0)) (ap (suits (Drawn (c .before .before .before .before .before .k .given .0 .0))) q ∙ (rw (c .before .before .before .before .before .k .given .1) at (c .before .before .before .before .before .before .before .before .before .before .pre .1 .0))) (rw (c .before .before .before .before .before .k .given .1) at (c .before .before .before .before .before .before .before .before .before .before .pre .1 .1 .1 .0)),
-      (c .before .before .before .before .before .before .before .before .before .before .pre .1 .1 .1 .1 .0, (c .before .before .before .before .before .before .before .before .before .before .pre .1 .1 .1 .1 .1 .0, c .before .before .before .before .before .before .before .before .before .before .pre .1 .1 .1 .1 .1 .1)),
+told-of-requires c κs =
+    let at-k = c .before .before .before .before .before in
+    let start = at-k .before .before .before .before .before in
+    let e : start .args .n - 0 ≡ start .args .n = omega arith in let l : length (take (start .args .n) (start .args .rows .now)) ≡ start .args .n =
+    length-take-le (start .args .n) (start .args .rows .now) (omega (arith, start .pre .0, start .pre .1 .1 .0)) in let q : length (heldAll (take
+    (start .args .n) (start .args .rows .now))) ≡ start .args .n = long (take (start .args .n) (start .args .rows .now)) ∙ l in rw e (
+      drawing-drawn
+          (at-k .k .given .0 .0) (heldAll (take (start .args .n) (start .args .rows .now))) (omega (arith, q, start .pre .0)) (ap (suits (Drawn
+          (at-k .k .given .0 .0))) q ∙ (rw (at-k .k .given .1) at (start .pre .1 .0))) (rw (at-k .k .given .1) at (start .pre .1 .1 .1 .0)),
+      (start .pre .1 .1 .1 .1 .0, (start .pre .1 .1 .1 .1 .1 .0, start .pre .1 .1 .1 .1 .1 .1)),
     )
 
 enum-told : tie.Need-enum-told
@@ -51,7 +55,22 @@ slice-aggregate-told-monotone : tie.Need-slice-aggregate-told-monotone
 slice-aggregate-told-monotone c = search needs
 
 told-monotone-requires : tie.Need-told-monotone-requires
-told-monotone-requires c κs = (c .before .before .before .before .before .before .before .before .pre .0, ((rw (c .before .before .before .enum-told .given .1) at (c .before .before .before .before .before .before .before .before .pre .1 .0)), (c .before .before .before .before .before .before .before .before .pre .1 .1 .0, ((rw (c .before .before .before .enum-told .given .1) at (c .before .before .before .before .before .before .before .before .pre .1 .1 .1 .0)), (search needs, c .before .before .before .before .before .before .before .before .pre .1 .1 .1 .1)))))
+told-monotone-requires c κs =
+    let at-enum-told = c .before .before .before in
+    let start = at-enum-told .before .before .before .before .before in (
+      start .pre .0,
+      (
+        (rw (at-enum-told .enum-told .given .1) at (start .pre .1 .0)),
+        (
+          start .pre .1 .1 .0,
+          (
+            (rw (at-enum-told .enum-told .given .1) at
+                (start .pre .1 .1 .1 .0)),
+            (search needs, start .pre .1 .1 .1 .1),
+          ),
+        ),
+      ),
+    )
 
 same-length : tie.Need-same-length
 same-length c = search needs
@@ -60,10 +79,14 @@ same-length-2 : tie.Need-same-length-2
 same-length-2 c = search needs
 
 returns : tie.Need-returns
-returns c = let e : c .before .before .before .before .before .before .before .before .before .before .before .before .before .before .before .args .n - 0 ≡ c .before .before .before .before .before .before .before .before .before .before .before .before .before .before .before .args .n = omega arith in
-    let l : length (take (c .before .before .before .before .before .before .before .before .before .before .before .before .before .before .before .args .n) (c .before .before .before .before .before .before .before .before .before .before .before .before .before .before .before .args .rows .now)) ≡ c .before .before .before .before .before .before .before .before .before .before .before .before .before .before .before .args .n = length-take-le (c .before .before .before .before .before .before .before .before .before .before .before .before .before .before .before .args .n) (c .before .before .before .before .before .before .before .before .before .before .before .before .before .before .before .args .rows .now) (omega (arith, c .before .before .before .before .before .before .before .before .before .before .before .before .before .before .before .pre .0, c .before .before .before .before .before .before .before .before .before .before .before .before .before .before .before .pre .1 .1 .0)) in
-    let q : length (heldAll (take (c .before .before .before .before .before .before .before .before .before .before .before .before .before .before .before .args .n) (c .before .before .before .before .before .before .before .before .before .before .before .before .before .before .before .args .rows .now))) ≡ c .before .before .before .before .before .before .before .before .before .before .before .before .before .before .before .args .n = long (take (c .before .before .before .before .before .before .before .before .before .before .before .before .before .before .before .args .n) (c .before .before .before .before .before .before .before .before .before .before .before .before .before .before .before .args .rows .now)) ∙ l in
-    rw (c .before .before .before .before .before .before .before .before .before .before .k .given .1) (rw (e, l) at (c .before .before .before .before .told-of .ensures))
+returns c =
+    let at-told-of = c .before .before .before .before in
+    let at-k = at-told-of .before .before .before .before .before .before in
+    let start = at-k .before .before .before .before .before in
+    let e : start .args .n - 0 ≡ start .args .n = omega arith in let l : length (take (start .args .n) (start .args .rows .now)) ≡ start .args .n =
+    length-take-le (start .args .n) (start .args .rows .now) (omega (arith, start .pre .0, start .pre .1 .1 .0)) in let q : length (heldAll (take
+    (start .args .n) (start .args .rows .now))) ≡ start .args .n = long (take (start .args .n) (start .args .rows .now)) ∙ l in rw (at-k .k .given .1) (rw
+    (e, l) at (at-told-of .told-of .ensures))
 
 same-length-3 : tie.Need-same-length-3
 same-length-3 c = search needs
@@ -72,7 +95,10 @@ same-length-4 : tie.Need-same-length-4
 same-length-4 c = search needs
 
 returns-2 : tie.Need-returns-2
-returns-2 c = rw (c .before .before .before .before .before .before .before .before .before .enum-told .given .1) (c .before .before .before .before .before .told-monotone .ensures)
+returns-2 c =
+    let at-told-monotone = c .before .before .before .before .before in
+    let at-enum-told = at-told-monotone .before .before .before .before in
+    rw (at-enum-told .enum-told .given .1) (at-told-monotone .told-monotone .ensures)
 
 pub told-if-spec : {M : Type 1} → statement M
 told-if-spec =

@@ -49,28 +49,49 @@ part-told-of-start-2 : tie.Need-part-told-of-start-2
 part-told-of-start-2 c = search needs
 
 part-told-of-end-2 : tie.Need-part-told-of-end-2
-part-told-of-end-2 c = let e : c .before .before .before .before .before .before .before .before .before .args .n - 0 ≡ c .before .before .before .before .before .before .before .before .before .args .n = omega arith in
-    let d : 2 * c .before .before .before .before .before .before .before .before .before .args .n - 0 ≡ 2 * c .before .before .before .before .before .before .before .before .before .args .n = omega arith in
-    let l : length (take (c .before .before .before .before .before .before .before .before .before .args .n) (c .before .before .before .before .before .before .before .before .before .args .rows .now)) ≡ c .before .before .before .before .before .before .before .before .before .args .n = length-take-le (c .before .before .before .before .before .before .before .before .before .args .n) (c .before .before .before .before .before .before .before .before .before .args .rows .now) (omega (arith, c .before .before .before .before .before .before .before .before .before .pre .0, c .before .before .before .before .before .before .before .before .before .pre .1 .1 .0)) in
-    let q : length (heldAll (take (c .before .before .before .before .before .before .before .before .before .args .n) (c .before .before .before .before .before .before .before .before .before .args .rows .now))) ≡ c .before .before .before .before .before .before .before .before .before .args .n = long (take (c .before .before .before .before .before .before .before .before .before .args .n) (c .before .before .before .before .before .before .before .before .before .args .rows .now)) ∙ l in
-    let z = heldAll (take (c .before .before .before .before .before .before .before .before .before .args .n) (c .before .before .before .before .before .before .before .before .before .args .rows .now)) in
-    let s : suits Monotone (length z) ≡ true = ap (suits Monotone) q ∙ c .before .before .before .before .before .before .before .before .before .pre .1 .0 in
-    let j : c .before .before .before .monotone .last .1 .0 ≡ leftOf z (c .before .before .before .before .before .before .before .before .before .args .whole .now) = rw e at (c .before .before .before .monotone .ensures .1) in
-    let t : heldAll (take (2 * c .before .before .before .before .before .before .before .before .before .args .n) (c .before .before .before .monotone .last .1 .0)) ≡ tableOf z = subst (λ (x : ℕ). heldAll (take (2 * x) (c .before .before .before .monotone .last .1 .0)) ≡ tableOf z) q (table-there z s (c .before .before .before .before .before .before .before .before .before .pre .1 .1 .1 .0) (c .before .before .before .before .before .before .before .before .before .args .whole .now) (c .before .before .before .monotone .last .1 .0) (c .before .before .before .before .before .before .before .before .before .pre .1 .1 .1 .1 .0) j) in
-    let w : length (take (2 * c .before .before .before .before .before .before .before .before .before .args .n) (c .before .before .before .monotone .last .1 .0)) ≡ 2 * c .before .before .before .before .before .before .before .before .before .args .n = sym (long (take (2 * c .before .before .before .before .before .before .before .before .before .args .n) (c .before .before .before .monotone .last .1 .0))) ∙ ap length t ∙ table-long z ∙ ap (λ (x : ℕ). 2 * x) q in
-    omega (arith, there-room (2 * c .before .before .before .before .before .before .before .before .before .args .n) (c .before .before .before .monotone .last .1 .0) w)
+part-told-of-end-2 c =
+    let at-monotone = c .before .before .before in
+    let start = at-monotone .before .before .before .before .before .before in
+    let e : start .args .n - 0 ≡ start .args .n = omega arith in let d : 2 * start .args .n - 0 ≡ 2 * start .args .n = omega arith in let l : length (take
+    (start .args .n) (start .args .rows .now)) ≡ start .args .n = length-take-le (start .args .n) (start .args .rows .now) (omega (
+      arith,
+      start .pre .0,
+      start .pre .1 .1 .0,
+    )) in let q : length (heldAll (take (start .args .n) (start .args .rows .now))) ≡ start .args .n = long (take (start .args .n)
+    (start .args .rows .now)) ∙ l in let z = heldAll (take (start .args .n) (start .args .rows .now)) in let s : suits Monotone (length z) ≡ true = ap
+    (suits Monotone) q ∙ start .pre .1 .0 in let j : at-monotone .monotone .last .1 .0 ≡ leftOf z (start .args .whole .now) = rw e at
+    (at-monotone .monotone .ensures .1) in let t : heldAll (take (2 * start .args .n) (at-monotone .monotone .last .1 .0)) ≡ tableOf z = subst (λ (x : ℕ).
+    heldAll (take (2 * x) (at-monotone .monotone .last .1 .0)) ≡ tableOf z) q (table-there z s (start .pre .1 .1 .1 .0) (start .args .whole .now)
+    (at-monotone .monotone .last .1 .0) (start .pre .1 .1 .1 .1 .0) j) in let w : length (take (2 * start .args .n) (at-monotone .monotone .last .1 .0)) ≡
+    2 * start .args .n = sym (long (take (2 * start .args .n) (at-monotone .monotone .last .1 .0))) ∙ ap length t ∙ table-long z ∙ ap (λ (x : ℕ). 2 * x) q
+    in omega (arith, there-room (2 * start .args .n) (at-monotone .monotone .last .1 .0) w)
 
 told-of-requires : tie.Need-told-of-requires
-told-of-requires c κs = let e : c .before .before .before .before .before .before .before .before .before .before .before .before .args .n - 0 ≡ c .before .before .before .before .before .before .before .before .before .before .before .before .args .n = omega arith in
-    let d : 2 * c .before .before .before .before .before .before .before .before .before .before .before .before .args .n - 0 ≡ 2 * c .before .before .before .before .before .before .before .before .before .before .before .before .args .n = omega arith in
-    let l : length (take (c .before .before .before .before .before .before .before .before .before .before .before .before .args .n) (c .before .before .before .before .before .before .before .before .before .before .before .before .args .rows .now)) ≡ c .before .before .before .before .before .before .before .before .before .before .before .before .args .n = length-take-le (c .before .before .before .before .before .before .before .before .before .before .before .before .args .n) (c .before .before .before .before .before .before .before .before .before .before .before .before .args .rows .now) (omega (arith, c .before .before .before .before .before .before .before .before .before .before .before .before .pre .0, c .before .before .before .before .before .before .before .before .before .before .before .before .pre .1 .1 .0)) in
-    let q : length (heldAll (take (c .before .before .before .before .before .before .before .before .before .before .before .before .args .n) (c .before .before .before .before .before .before .before .before .before .before .before .before .args .rows .now))) ≡ c .before .before .before .before .before .before .before .before .before .before .before .before .args .n = long (take (c .before .before .before .before .before .before .before .before .before .before .before .before .args .n) (c .before .before .before .before .before .before .before .before .before .before .before .before .args .rows .now)) ∙ l in
-    let z = heldAll (take (c .before .before .before .before .before .before .before .before .before .before .before .before .args .n) (c .before .before .before .before .before .before .before .before .before .before .before .before .args .rows .now)) in
-    let s : suits Monotone (length z) ≡ true = ap (suits Monotone) q ∙ c .before .before .before .before .before .before .before .before .before .before .before .before .pre .1 .0 in
-    let j : c .before .before .before .before .before .before .monotone .last .1 .0 ≡ leftOf z (c .before .before .before .before .before .before .before .before .before .before .before .before .args .whole .now) = rw e at (c .before .before .before .before .before .before .monotone .ensures .1) in
-    let t : heldAll (take (2 * c .before .before .before .before .before .before .before .before .before .before .before .before .args .n) (c .before .before .before .before .before .before .monotone .last .1 .0)) ≡ tableOf z = subst (λ (x : ℕ). heldAll (take (2 * x) (c .before .before .before .before .before .before .monotone .last .1 .0)) ≡ tableOf z) q (table-there z s (c .before .before .before .before .before .before .before .before .before .before .before .before .pre .1 .1 .1 .0) (c .before .before .before .before .before .before .before .before .before .before .before .before .args .whole .now) (c .before .before .before .before .before .before .monotone .last .1 .0) (c .before .before .before .before .before .before .before .before .before .before .before .before .pre .1 .1 .1 .1 .0) j) in
-    let w : length (take (2 * c .before .before .before .before .before .before .before .before .before .before .before .before .args .n) (c .before .before .before .before .before .before .monotone .last .1 .0)) ≡ 2 * c .before .before .before .before .before .before .before .before .before .before .before .before .args .n = sym (long (take (2 * c .before .before .before .before .before .before .before .before .before .before .before .before .args .n) (c .before .before .before .before .before .before .monotone .last .1 .0))) ∙ ap length t ∙ table-long z ∙ ap (λ (x : ℕ). 2 * x) q in
-    rw (e, d) (drawing-monotone z s (c .before .before .before .before .before .before .before .before .before .before .before .before .pre .1 .1 .1 .0) _ t, (c .before .before .before .before .before .before .before .before .before .before .before .before .pre .1 .1 .1 .1 .1 .0, (c .before .before .before .before .before .before .before .before .before .before .before .before .pre .1 .1 .1 .1 .1 .1 .0, c .before .before .before .before .before .before .before .before .before .before .before .before .pre .1 .1 .1 .1 .1 .1 .1)))
+told-of-requires c κs =
+    let at-monotone = c .before .before .before .before .before .before in
+    let start = at-monotone .before .before .before .before .before .before in
+    let e : start .args .n - 0 ≡ start .args .n = omega arith in let d : 2 * start .args .n - 0 ≡ 2 * start .args .n = omega arith in let l : length (take
+    (start .args .n) (start .args .rows .now)) ≡ start .args .n = length-take-le (start .args .n) (start .args .rows .now) (omega (
+      arith,
+      start .pre .0,
+      start .pre .1 .1 .0,
+    )) in let q : length (heldAll (take (start .args .n) (start .args .rows .now))) ≡ start .args .n = long (take (start .args .n)
+    (start .args .rows .now)) ∙ l in let z = heldAll (take (start .args .n) (start .args .rows .now)) in let s : suits Monotone (length z) ≡ true = ap
+    (suits Monotone) q ∙ start .pre .1 .0 in let j : at-monotone .monotone .last .1 .0 ≡ leftOf z (start .args .whole .now) = rw e at
+    (at-monotone .monotone .ensures .1) in let t : heldAll (take (2 * start .args .n) (at-monotone .monotone .last .1 .0)) ≡ tableOf z = subst (λ (x : ℕ).
+    heldAll (take (2 * x) (at-monotone .monotone .last .1 .0)) ≡ tableOf z) q (table-there z s (start .pre .1 .1 .1 .0) (start .args .whole .now)
+    (at-monotone .monotone .last .1 .0) (start .pre .1 .1 .1 .1 .0) j) in let w : length (take (2 * start .args .n) (at-monotone .monotone .last .1 .0)) ≡
+    2 * start .args .n = sym (long (take (2 * start .args .n) (at-monotone .monotone .last .1 .0))) ∙ ap length t ∙ table-long z ∙ ap (λ (x : ℕ). 2 * x) q
+    in rw (e, d) (
+      drawing-monotone z s (start .pre .1 .1 .1 .0) _ t,
+      (
+        start .pre .1 .1 .1 .1 .1 .0,
+        (
+          start .pre .1 .1 .1 .1 .1 .1 .0,
+          start .pre .1 .1 .1 .1 .1 .1 .1,
+        ),
+      ),
+    )
 
 same-length : tie.Need-same-length
 same-length c = search needs
@@ -82,16 +103,23 @@ same-length-3 : tie.Need-same-length-3
 same-length-3 c = search needs
 
 returns : tie.Need-returns
-returns c = let e : c .before .before .before .before .before .before .before .before .before .before .before .before .before .before .before .before .before .args .n - 0 ≡ c .before .before .before .before .before .before .before .before .before .before .before .before .before .before .before .before .before .args .n = omega arith in
-    let d : 2 * c .before .before .before .before .before .before .before .before .before .before .before .before .before .before .before .before .before .args .n - 0 ≡ 2 * c .before .before .before .before .before .before .before .before .before .before .before .before .before .before .before .before .before .args .n = omega arith in
-    let l : length (take (c .before .before .before .before .before .before .before .before .before .before .before .before .before .before .before .before .before .args .n) (c .before .before .before .before .before .before .before .before .before .before .before .before .before .before .before .before .before .args .rows .now)) ≡ c .before .before .before .before .before .before .before .before .before .before .before .before .before .before .before .before .before .args .n = length-take-le (c .before .before .before .before .before .before .before .before .before .before .before .before .before .before .before .before .before .args .n) (c .before .before .before .before .before .before .before .before .before .before .before .before .before .before .before .before .before .args .rows .now) (omega (arith, c .before .before .before .before .before .before .before .before .before .before .before .before .before .before .before .before .before .pre .0, c .before .before .before .before .before .before .before .before .before .before .before .before .before .before .before .before .before .pre .1 .1 .0)) in
-    let q : length (heldAll (take (c .before .before .before .before .before .before .before .before .before .before .before .before .before .before .before .before .before .args .n) (c .before .before .before .before .before .before .before .before .before .before .before .before .before .before .before .before .before .args .rows .now))) ≡ c .before .before .before .before .before .before .before .before .before .before .before .before .before .before .before .before .before .args .n = long (take (c .before .before .before .before .before .before .before .before .before .before .before .before .before .before .before .before .before .args .n) (c .before .before .before .before .before .before .before .before .before .before .before .before .before .before .before .before .before .args .rows .now)) ∙ l in
-    let z = heldAll (take (c .before .before .before .before .before .before .before .before .before .before .before .before .before .before .before .before .before .args .n) (c .before .before .before .before .before .before .before .before .before .before .before .before .before .before .before .before .before .args .rows .now)) in
-    let s : suits Monotone (length z) ≡ true = ap (suits Monotone) q ∙ c .before .before .before .before .before .before .before .before .before .before .before .before .before .before .before .before .before .pre .1 .0 in
-    let j : c .before .before .before .before .before .before .before .before .before .before .before .monotone .last .1 .0 ≡ leftOf z (c .before .before .before .before .before .before .before .before .before .before .before .before .before .before .before .before .before .args .whole .now) = rw e at (c .before .before .before .before .before .before .before .before .before .before .before .monotone .ensures .1) in
-    let t : heldAll (take (2 * c .before .before .before .before .before .before .before .before .before .before .before .before .before .before .before .before .before .args .n) (c .before .before .before .before .before .before .before .before .before .before .before .monotone .last .1 .0)) ≡ tableOf z = subst (λ (x : ℕ). heldAll (take (2 * x) (c .before .before .before .before .before .before .before .before .before .before .before .monotone .last .1 .0)) ≡ tableOf z) q (table-there z s (c .before .before .before .before .before .before .before .before .before .before .before .before .before .before .before .before .before .pre .1 .1 .1 .0) (c .before .before .before .before .before .before .before .before .before .before .before .before .before .before .before .before .before .args .whole .now) (c .before .before .before .before .before .before .before .before .before .before .before .monotone .last .1 .0) (c .before .before .before .before .before .before .before .before .before .before .before .before .before .before .before .before .before .pre .1 .1 .1 .1 .0) j) in
-    let w : length (take (2 * c .before .before .before .before .before .before .before .before .before .before .before .before .before .before .before .before .before .args .n) (c .before .before .before .before .before .before .before .before .before .before .before .monotone .last .1 .0)) ≡ 2 * c .before .before .before .before .before .before .before .before .before .before .before .before .before .before .before .before .before .args .n = sym (long (take (2 * c .before .before .before .before .before .before .before .before .before .before .before .before .before .before .before .before .before .args .n) (c .before .before .before .before .before .before .before .before .before .before .before .monotone .last .1 .0))) ∙ ap length t ∙ table-long z ∙ ap (λ (x : ℕ). 2 * x) q in
-    rw (e, l) at (c .before .before .before .before .told-of .ensures)
+returns c =
+    let at-told-of = c .before .before .before .before in
+    let at-monotone = at-told-of .before .before .before .before .before .before .before in
+    let start = at-monotone .before .before .before .before .before .before in
+    let e : start .args .n - 0 ≡ start .args .n = omega arith in let d : 2 * start .args .n - 0 ≡ 2 * start .args .n = omega arith in let l : length (take
+    (start .args .n) (start .args .rows .now)) ≡ start .args .n = length-take-le (start .args .n) (start .args .rows .now) (omega (
+      arith,
+      start .pre .0,
+      start .pre .1 .1 .0,
+    )) in let q : length (heldAll (take (start .args .n) (start .args .rows .now))) ≡ start .args .n = long (take (start .args .n)
+    (start .args .rows .now)) ∙ l in let z = heldAll (take (start .args .n) (start .args .rows .now)) in let s : suits Monotone (length z) ≡ true = ap
+    (suits Monotone) q ∙ start .pre .1 .0 in let j : at-monotone .monotone .last .1 .0 ≡ leftOf z (start .args .whole .now) = rw e at
+    (at-monotone .monotone .ensures .1) in let t : heldAll (take (2 * start .args .n) (at-monotone .monotone .last .1 .0)) ≡ tableOf z = subst (λ (x : ℕ).
+    heldAll (take (2 * x) (at-monotone .monotone .last .1 .0)) ≡ tableOf z) q (table-there z s (start .pre .1 .1 .1 .0) (start .args .whole .now)
+    (at-monotone .monotone .last .1 .0) (start .pre .1 .1 .1 .1 .0) j) in let w : length (take (2 * start .args .n) (at-monotone .monotone .last .1 .0)) ≡
+    2 * start .args .n = sym (long (take (2 * start .args .n) (at-monotone .monotone .last .1 .0))) ∙ ap length t ∙ table-long z ∙ ap (λ (x : ℕ). 2 * x) q
+    in rw (e, l) at (at-told-of .told-of .ensures)
 
 pub told-monotone-spec : {M : Type 1} → statement M
 told-monotone-spec =

@@ -24,10 +24,26 @@ same-length : tie.Need-same-length
 same-length c = search needs
 
 returns : tie.Need-returns
-returns c = (faults-told (c .before .before .before .before .before .before .before .before .args .k) (heldAll (c .before .before .before .before .before .before .before .before .args .rows .now)) (labelsTo (c .before .before .before .before .before .before .before .before .args .labels .now) (length (c .before .before .before .before .before .before .before .before .args .rows .now))) (c .before .before .before .put-faults .ensures .0) (c .if1 .taken), (c .before .before .before .put-faults .ensures .1, (not-asked (c .before .before .before .before .before .before .before .before .args .k) (heldAll (c .before .before .before .before .before .before .before .before .args .rows .now)) (labelsTo (c .before .before .before .before .before .before .before .before .args .labels .now) (length (c .before .before .before .before .before .before .before .before .args .rows .now))) (c .before .before .before .put-faults .ensures .0) (c .if1 .taken), omega arith)))
+returns c =
+    let at-put-faults = c .before .before .before in
+    let start = at-put-faults .before .before .before .before .before in (
+      faults-told (start .args .k) (heldAll (start .args .rows .now)) (labelsTo (start .args .labels .now) (length (start .args .rows .now)))
+          (at-put-faults .put-faults .ensures .0) (c .if1 .taken),
+      (
+        at-put-faults .put-faults .ensures .1,
+        (
+          not-asked (start .args .k) (heldAll
+              (start .args .rows .now)) (labelsTo (start .args .labels .now) (length (start .args .rows .now))) (at-put-faults .put-faults .ensures .0)
+              (c .if1 .taken),
+          omega arith,
+        ),
+      ),
+    )
 
 fill-requires : tie.Need-fill-requires
-fill-requires c κs = (c .before .before .before .before .before .before .before .before .before .pre .0 .small, omega (arith, c .before .before .before .before .before .before .before .before .before .pre .0 .few, long (c .before .before .before .before .before .before .before .before .before .args .whole .now), c .before .before .before .before .before .before .before .before .before .pre .1 .1 .0))
+fill-requires c κs =
+    let start = c .before .before .before .before .before .before .before .before .before in
+    (start .pre .0 .small, omega (arith, start .pre .0 .few, long (start .args .whole .now), start .pre .1 .1 .0))
 
 basis-of-requires : tie.Need-basis-of-requires
 basis-of-requires c κs = search needs
@@ -39,17 +55,40 @@ part-curve-ends-start : tie.Need-part-curve-ends-start
 part-curve-ends-start c = search needs
 
 part-curve-ends-end : tie.Need-part-curve-ends-end
-part-curve-ends-end c = omega (arith, c .before .before .before .before .fill .ensures .1, c .before .before .before .before .before .before .before .before .before .before .before .before .before .before .pre .0 .few, long (c .before .before .before .before .before .before .before .before .before .before .before .before .before .before .args .whole .now), c .before .before .before .before .before .before .before .before .before .before .before .before .before .before .pre .1 .1 .0)
+part-curve-ends-end c =
+    let at-fill = c .before .before .before .before in
+    let start = at-fill .before .before .before .before .before .before .before .before .before .before in
+    omega (arith, at-fill .fill .ensures .1, start .pre .0 .few, long (start .args .whole .now), start .pre .1 .1 .0)
 
 segments-requires : tie.Need-segments-requires
-segments-requires c κs = omega (arith, c .before .before .before .before .before .before .before .before .before .before .before .before .before .before .before .pre .0 .enough, long (c .before .before .before .before .before .before .before .before .before .before .before .before .before .before .before .args .whole .now))
+segments-requires c κs =
+    let start = c .before .before .before .before .before .before .before .before .before .before .before .before .before .before .before in
+    omega (arith, start .pre .0 .enough, long (start .args .whole .now))
 
 curve-ends-requires : tie.Need-curve-ends-requires
-curve-ends-requires c κs = let l = cut-long (c .before .before .before .before .before .before .before .before .before .before .before .before .before .before .before .before .args .whole .now) _ (c .before .before .before .before .before .before .fill .ensures .0) in
-    (c .segments .ensures ∙ ap (λ (n : ℕ). segmentsOf (c .before .before .before .basis-of .result) n) (sym l), (omega (arith, l, c .before .before .before .before .before .before .before .before .before .before .before .before .before .before .before .before .pre .0 .enough, long (c .before .before .before .before .before .before .before .before .before .before .before .before .before .before .before .before .args .whole .now)), omega (arith, l, c .before .before .before .before .before .before .before .before .before .before .before .before .before .before .before .before .pre .0 .few, long (c .before .before .before .before .before .before .before .before .before .before .before .before .before .before .before .before .args .whole .now))))
+curve-ends-requires c κs =
+    let at-basis-of = c .before .before .before in
+    let at-fill = at-basis-of .before .before .before in
+    let start = at-fill .before .before .before .before .before .before .before .before .before .before in
+    let l = cut-long (start .args .whole .now) _ (at-fill .fill .ensures .0) in (
+      c .segments .ensures ∙ ap (λ (n : ℕ). segmentsOf
+          (at-basis-of .basis-of .result) n) (sym l),
+      (
+        omega (arith, l, start .pre .0 .enough, long (start .args .whole .now)),
+        omega (
+          arith,
+          l,
+          start .pre .0 .few,
+          long (start .args .whole .now),
+        ),
+      ),
+    )
 
 put-fine-requires : tie.Need-put-fine-requires
-put-fine-requires c κs = (omega (arith, c .before .before .before .before .before .before .before .before .before .before .before .before .before .before .before .before .before .before .pre .0 .rows, long (c .before .before .before .before .before .before .before .before .before .before .before .before .before .before .before .before .before .before .args .rows .now)), omega (arith, c .before .before .before .before .before .before .before .before .before .before .before .before .before .put-faults .ensures .0 .long, c .before .before .before .before .before .before .before .before .before .before .before .before .before .before .before .before .before .before .pre .1 .1 .1))
+put-fine-requires c κs =
+    let at-put-faults = c .before .before .before .before .before .before .before .before .before .before .before .before .before in
+    let start = at-put-faults .before .before .before .before .before in
+    (omega (arith, start .pre .0 .rows, long (start .args .rows .now)), omega (arith, at-put-faults .put-faults .ensures .0 .long, start .pre .1 .1 .1))
 
 same-length-2 : tie.Need-same-length-2
 same-length-2 c = search needs
@@ -58,16 +97,33 @@ same-length-3 : tie.Need-same-length-3
 same-length-3 c = search needs
 
 returns-2 : tie.Need-returns-2
-returns-2 c = let z = heldAll (c .before .before .before .before .before .before .before .before .before .before .before .before .before .before .before .before .before .before .before .before .before .args .rows .now) in
-    let l = cut-long (c .before .before .before .before .before .before .before .before .before .before .before .before .before .before .before .before .before .before .before .before .before .args .whole .now) _ (c .before .before .before .before .before .before .before .before .before .before .before .fill .ensures .0) in
-    let d = ends-are (c .before .before .before .before .before .before .before .before .before .before .before .before .before .before .before .before .before .before .before .before .before .args .k) z (heldAll (c .before .before .before .before .before .before .before .before .before .before .before .before .before .before .before .before .before .before .before .before .before .args .whole .now)) (c .before .before .before .before .before .before .before .before .before .before .before .before .before .before .before .before .before .before .before .before .before .pre .0 .is) (c .before .before .before .before .before .before .before .before .basis-of .ensures) (cut-doubles (c .before .before .before .before .before .before .before .before .before .before .before .before .before .before .before .before .before .before .before .before .before .args .whole .now) _ (c .before .before .before .before .before .before .before .before .before .before .before .fill .ensures .0))
-    (c .before .before .before .before .before .segments .ensures ∙ ap (λ (n : ℕ). segmentsOf (c .before .before .before .before .before .before .before .before .basis-of .result) n) (sym l)) (c .before .before .before .before .curve-ends .ensures) in (
-      fine-told (c .before .before .before .before .before .before .before .before .before .before .before .before .before .before .before .before .before .before .before .before .before .args .k) (heldAll (c .before .before .before .before .before .before .before .before .before .before .before .before .before .before .before .before .before .before .before .before .before .args .rows .now)) (labelsTo (c .before .before .before .before .before .before .before .before .before .before .before .before .before .before .before .before .before .before .before .before .before .args .labels .now) (length (c .before .before .before .before .before .before .before .before .before .before .before .before .before .before .before .before .before .before .before .before .before .args .rows .now))) (c .before .before .before .before .before .before .before .before .before .before .before .before .before .before .before .before .put-faults .ensures .0) (c .before .before .before .before .before .before .before .before .before .before .before .before .before .if1 .left) (sym (long (c .before .before .before .before .before .before .before .before .before .before .before .before .before .before .before .before .before .before .before .before .before .args .rows .now))) d (c .before .before .put-fine .ensures .0),
+returns-2 c =
+    let at-put-fine = c .before .before in
+    let at-curve-ends = at-put-fine .before .before in
+    let at-segments = at-curve-ends .before in
+    let at-basis-of = at-segments .before .before .before in
+    let at-fill = at-basis-of .before .before .before in
+    let at-if1 = at-fill .before .before in
+    let at-put-faults = at-if1 .before .before .before in
+    let start = at-put-faults .before .before .before .before .before in
+    let z = heldAll (start .args .rows .now) in let l = cut-long (start .args .whole .now) _ (at-fill .fill .ensures .0) in let d = ends-are
+    (start .args .k) z (heldAll (start .args .whole .now)) (start .pre .0 .is) (at-basis-of .basis-of .ensures) (cut-doubles (start .args .whole .now) _
+    (at-fill .fill .ensures .0)) (at-segments .segments .ensures ∙ ap (λ (n : ℕ). segmentsOf (at-basis-of .basis-of .result) n) (sym l))
+    (at-curve-ends .curve-ends .ensures) in (
+      fine-told (start .args .k) (heldAll (start .args .rows .now)) (labelsTo (start .args .labels .now) (length
+          (start .args .rows .now))) (at-put-faults .put-faults .ensures .0) (at-if1 .if1 .left) (sym (long (start .args .rows .now))) d
+          (at-put-fine .put-fine .ensures .0),
       (
-        c .before .before .put-fine .ensures .1,
+        at-put-fine .put-fine .ensures .1,
         (
-          may-be-asked (c .before .before .before .before .before .before .before .before .before .before .before .before .before .before .before .before .before .before .before .before .before .args .k) (heldAll (c .before .before .before .before .before .before .before .before .before .before .before .before .before .before .before .before .before .before .before .before .before .args .rows .now)) (labelsTo (c .before .before .before .before .before .before .before .before .before .before .before .before .before .before .before .before .before .before .before .before .before .args .labels .now) (length (c .before .before .before .before .before .before .before .before .before .before .before .before .before .before .before .before .before .before .before .before .before .args .rows .now))) (c .before .before .before .before .before .before .before .before .before .before .before .before .before .before .before .before .put-faults .ensures .0) (c .before .before .before .before .before .before .before .before .before .before .before .before .before .if1 .left) (c .before .before .before .before .before .before .before .before .basis-of .ensures) (c .before .before .before .before .before .before .before .before .before .before .before .fill .ensures .0 ∙ ap (λ (y : List ℤ). map doubleOf y) (c .before .before .before .before .before .before .before .before .before .before .before .before .before .before .before .before .before .before .before .before .before .pre .0 .is)),
-          omega (arith, c .before .before .before .before .before .before .before .before .before .before .before .before .before .before .before .before .before .before .before .before .before .pre .0 .few, long (c .before .before .before .before .before .before .before .before .before .before .before .before .before .before .before .before .before .before .before .before .before .args .whole .now)),
+          may-be-asked (start .args .k) (heldAll (start .args .rows .now)) (labelsTo
+              (start .args .labels .now) (length (start .args .rows .now))) (at-put-faults .put-faults .ensures .0) (at-if1 .if1 .left)
+              (at-basis-of .basis-of .ensures) (at-fill .fill .ensures .0 ∙ ap (λ (y : List ℤ). map doubleOf y) (start .pre .0 .is)),
+          omega (
+            arith,
+            start .pre .0 .few,
+            long (start .args .whole .now),
+          ),
         ),
       ),
     )

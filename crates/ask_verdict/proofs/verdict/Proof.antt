@@ -25,8 +25,19 @@ is-suited-requires : tie.Need-is-suited-requires
 is-suited-requires c κs = search needs
 
 told-if-requires : tie.Need-told-if-requires
-told-if-requires c κs = let m : c .before .before .before .before .before .h .given .0 .1 .0 + 2 ≤ lastLine = rw (c .before .before .before .before .before .h .given .1) at (c .before .before .before .before .before .before .before .before .before .before .pre .0) in
-    (omega arith, (sym (c .before .before .before .is-suited .ensures) ∙ c .before .before .if1 .taken, (c .before .before .before .before .before .before .before .before .before .before .pre .1 .0, ((rw (c .before .before .before .before .before .h .given .1) at (c .before .before .before .before .before .before .before .before .before .before .pre .1 .1 .0)), c .before .before .before .before .before .before .before .before .before .before .pre .1 .1 .1))))
+told-if-requires c κs =
+    let at-if1 = c .before .before in
+    let at-is-suited = at-if1 .before in
+    let at-h = at-is-suited .before .before in
+    let start = at-h .before .before .before .before .before in
+    let m : at-h .h .given .0 .1 .0 + 2 ≤ lastLine = rw (at-h .h .given .1) at (start .pre .0) in (
+      omega arith,
+      (
+        sym (at-is-suited .is-suited .ensures) ∙
+            at-if1 .if1 .taken,
+        (start .pre .1 .0, ((rw (at-h .h .given .1) at (start .pre .1 .1 .0)), start .pre .1 .1 .1)),
+      ),
+    )
 
 same-length : tie.Need-same-length
 same-length c = search needs
@@ -35,45 +46,112 @@ same-length-2 : tie.Need-same-length-2
 same-length-2 c = search needs
 
 returns : tie.Need-returns
-returns c = let m : c .before .before .before .before .before .before .before .before .before .before .h .given .0 .1 .0 + 2 ≤ lastLine = rw (c .before .before .before .before .before .before .before .before .before .before .h .given .1) at (c .before .before .before .before .before .before .before .before .before .before .before .before .before .before .before .pre .0) in
-    let n = c .before .before .before .before .before .before .before .before .before .before .h .given .0 .1 .0 in
-    let l : length (heldAll (take n (c .before .before .before .before .before .before .before .before .before .before .before .before .before .before .before .args .rows .now))) ≡ n = long (take n (c .before .before .before .before .before .before .before .before .before .before .before .before .before .before .before .args .rows .now)) ∙ length-take-le n (c .before .before .before .before .before .before .before .before .before .before .before .before .before .before .before .args .rows .now) (omega (arith, c .before .before .before .before .before .before .before .before .before .before .before .before .before .before .before .pre .1 .0)) in
-    let s = sym (c .before .before .before .before .before .before .before .before .is-suited .ensures) ∙ c .before .before .before .before .before .before .before .if1 .taken in
-    rw (c .before .before .before .before .before .before .before .before .before .before .h .given .1) (suited-text _ _ _ n l s (c .before .before .before .before .told-if .ensures .0), (c .before .before .before .before .told-if .ensures .1 .0, (suited-asked _ _ _ n l s (c .before .before .before .before .told-if .ensures .1 .1 .0), c .before .before .before .before .told-if .ensures .1 .1 .1)))
+returns c =
+    let at-told-if = c .before .before .before .before in
+    let at-if1 = at-told-if .before .before .before in
+    let at-is-suited = at-if1 .before in
+    let at-h = at-is-suited .before .before in
+    let start = at-h .before .before .before .before .before in
+    let m : at-h .h .given .0 .1 .0 + 2 ≤ lastLine = rw (at-h .h .given .1) at (start .pre .0) in let n = at-h .h .given .0 .1 .0 in let l : length
+    (heldAll (take n (start .args .rows .now))) ≡ n = long (take n (start .args .rows .now)) ∙ length-take-le n (start .args .rows .now) (omega (
+      arith,
+      start .pre .1 .0,
+    )) in let s = sym (at-is-suited .is-suited .ensures) ∙ at-if1 .if1 .taken in rw (at-h .h .given .1) (
+      suited-text _ _ _ n l s
+          (at-told-if .told-if .ensures .0),
+      (
+        at-told-if .told-if .ensures .1 .0,
+        (
+          suited-asked _ _ _ n l s (at-told-if .told-if .ensures .1 .1 .0),
+          at-told-if .told-if .ensures .1 .1 .1,
+        ),
+      ),
+    )
 
 slice-aggregate-put-number : tie.Need-slice-aggregate-put-number
 slice-aggregate-put-number c = search needs
 
 put-number-requires : tie.Need-put-number-requires
-put-number-requires c κs = let m : c .before .before .before .before .before .h .given .0 .1 .0 + 2 ≤ lastLine = rw (c .before .before .before .before .before .h .given .1) at (c .before .before .before .before .before .before .before .before .before .before .pre .0) in (omega arith, (omega arith, omega (arith, c .before .before .before .before .before .before .before .before .before .before .pre .1 .1 .1 .1 .1)))
+put-number-requires c κs =
+    let at-h = c .before .before .before .before .before in
+    let start = at-h .before .before .before .before .before in
+    let m : at-h .h .given .0 .1 .0 + 2 ≤ lastLine = rw (at-h .h .given .1) at (start .pre .0) in (
+      omega arith,
+      (
+        omega arith,
+        omega (
+          arith,
+          start .pre .1 .1 .1 .1 .1,
+        ),
+      ),
+    )
 
 enum-known-h-2 : tie.Need-enum-known-h-2
 enum-known-h-2 c = search needs
 
 put-line-requires-2 : tie.Need-put-line-requires-2
-put-line-requires-2 c κs = let m : c .before .before .h2 .given .0 .0 ≤ lastLine = rw (c .before .before .h2 .given .1) at (c .before .before .before .before .before .before .before .pre .0) in (m, c .before .before .before .before .before .before .before .pre .1 .1 .1 .1 .1)
+put-line-requires-2 c κs =
+    let at-h2 = c .before .before in
+    let start = at-h2 .before .before .before .before .before in
+    let m : at-h2 .h2 .given .0 .0 ≤ lastLine = rw (at-h2 .h2 .given .1) at (start .pre .0) in (m, start .pre .1 .1 .1 .1 .1)
 
 same-length-3 : tie.Need-same-length-3
 same-length-3 c = search needs
 
 returns-2 : tie.Need-returns-2
-returns-2 c = rw (c .before .before .before .before .enum-told .given .1) (missing-text (c .before .before .put-line .ensures .0), (c .before .before .put-line .ensures .1, (missing-asked, omega arith)))
+returns-2 c =
+    let at-put-line = c .before .before in
+    let at-enum-told = at-put-line .before .before in
+    rw (at-enum-told .enum-told .given .1) (
+      missing-text (at-put-line .put-line .ensures .0),
+      (
+        at-put-line .put-line .ensures .1,
+        (
+          missing-asked,
+          omega
+              arith,
+        ),
+      ),
+    )
 
 same-length-4 : tie.Need-same-length-4
 same-length-4 c = search needs
 
 returns-3 : tie.Need-returns-3
-returns-3 c = let m : c .before .before .before .before .before .before .before .before .h .given .0 .1 .0 + 2 ≤ lastLine = rw (c .before .before .before .before .before .before .before .before .h .given .1) at (c .before .before .before .before .before .before .before .before .before .before .before .before .before .pre .0) in
-    let n = c .before .before .before .before .before .before .before .before .h .given .0 .1 .0 in
-    let l : length (heldAll (take n (c .before .before .before .before .before .before .before .before .before .before .before .before .before .args .rows .now))) ≡ n = long (take n (c .before .before .before .before .before .before .before .before .before .before .before .before .before .args .rows .now)) ∙ length-take-le n (c .before .before .before .before .before .before .before .before .before .before .before .before .before .args .rows .now) (omega (arith, c .before .before .before .before .before .before .before .before .before .before .before .before .before .pre .1 .0)) in
-    let s = sym (c .before .before .before .before .before .before .is-suited .ensures) ∙ c .before .before .before .before .before .if1 .left in
-    rw (c .before .before .before .before .before .before .before .before .h .given .1) (unsuited-text _ _ _ n l s (c .before .before .put-number .ensures .0), (omega (arith, c .before .before .put-number .ensures .1), (unsuited-asked _ _ _ n l s, omega arith)))
+returns-3 c =
+    let at-put-number = c .before .before in
+    let at-if1 = at-put-number .before .before .before in
+    let at-is-suited = at-if1 .before in
+    let at-h = at-is-suited .before .before in
+    let start = at-h .before .before .before .before .before in
+    let m : at-h .h .given .0 .1 .0 + 2 ≤ lastLine = rw (at-h .h .given .1) at (start .pre .0) in let n = at-h .h .given .0 .1 .0 in let l : length
+    (heldAll (take n (start .args .rows .now))) ≡ n = long (take n (start .args .rows .now)) ∙ length-take-le n (start .args .rows .now) (omega (
+      arith,
+      start .pre .1 .0,
+    )) in let s = sym (at-is-suited .is-suited .ensures) ∙ at-if1 .if1 .left in rw (at-h .h .given .1) (
+      unsuited-text _ _ _ n l s
+          (at-put-number .put-number .ensures .0),
+      (omega (arith, at-put-number .put-number .ensures .1), (unsuited-asked _ _ _ n l s, omega arith)),
+    )
 
 same-length-5 : tie.Need-same-length-5
 same-length-5 c = search needs
 
 returns-4 : tie.Need-returns-4
-returns-4 c = rw (c .before .before .before .before .before .h2 .given .1) (faulty-text _ _ (c .before .before .put-line2 .ensures .0), (c .before .before .put-line2 .ensures .1, (faulty-asked _ _, omega arith)))
+returns-4 c =
+    let at-put-line2 = c .before .before in
+    let at-h2 = at-put-line2 .before .before .before in
+    rw (at-h2 .h2 .given .1) (
+      faulty-text _ _ (at-put-line2 .put-line2 .ensures .0),
+      (
+        at-put-line2 .put-line2 .ensures .1,
+        (
+          faulty-asked _ _,
+          omega
+              arith,
+        ),
+      ),
+    )
 
 pub verdict-spec : {M : Type 1} → statement M
 verdict-spec =
