@@ -22,14 +22,36 @@ halve-requires c κs = search needs
 
 last-tries-requires : tie.Need-last-tries-requires
 last-tries-requires c κs =
-    let p = c .before .before .before .before .before .before .before .before .before .pre in
-    let few = c .before .halve .ensures .1 .1 (c .if2 .taken) in
-    (p .0, (p .1 .0, (p .1 .1 .0, (p .1 .1 .1 .0, (omega (arith, c .before .halve .ensures .1 .0), omega (arith, few, c .before .before .before .before .before .bits .ensures .1))))))
+    let at-bits = c .before .before .before .before .before in
+    let start = at-bits .before .before .before .before in
+    let p = start .pre in let few = c .before .halve .ensures .1 .1 (c .if2 .taken) in (
+      p .0,
+      (
+        p .1 .0,
+        (
+          p .1 .1 .0,
+          (
+            p .1 .1 .1 .0,
+            (
+              omega (
+                arith,
+                c .before .halve .ensures .1 .0,
+              ),
+              omega (arith, few, at-bits .bits .ensures .1),
+            ),
+          ),
+        ),
+      ),
+    )
 
 returns-2 : tie.Need-returns-2
 returns-2 c =
-    let a = c .before .before .before .before .before .before .before .before .before .before .args in
-    found-last (a .how) (a .b) (a .knots .now) (a .y) (a .precision) (a .limit) (a .rising) (a .k) (c .before .before .before .before .before .before .before .before .if1 .left) (c .before .before .before .before .before .before .bits .ensures .0) (c .before .before .halve .ensures .0) (c .before .if2 .taken) (c .last-tries .ensures)
+    let at-halve = c .before .before in
+    let at-bits = at-halve .before .before .before .before in
+    let at-if1 = at-bits .before .before in
+    let start = at-if1 .before .before in
+    let a = start .args in found-last (a .how) (a .b) (a .knots .now) (a .y) (a .precision) (a .limit) (a .rising) (a .k) (at-if1 .if1 .left)
+    (at-bits .bits .ensures .0) (at-halve .halve .ensures .0) (c .before .if2 .taken) (c .last-tries .ensures)
 
 ground-of-requires : tie.Need-ground-of-requires
 ground-of-requires c κs = search needs
@@ -45,9 +67,12 @@ array-read-t31 c = search needs
 
 returns-3 : tie.Need-returns-3
 returns-3 c =
-    let a = c .before .before .before .before .before .before .before .before .before .before .args in
-    let g = c .before .if2 .left in
-    found-in (a .how) (a .b) (a .knots .now) (a .y) (a .precision) (a .limit) (a .rising) (a .k) (c .before .before .before .before .before .before .before .before .if1 .left) (c .before .before .before .before .before .before .bits .ensures .0) (c .before .before .halve .ensures .0) (omega (arith, g)) (c .ground-of .ensures)
+    let at-halve = c .before .before in
+    let at-bits = at-halve .before .before .before .before in
+    let at-if1 = at-bits .before .before in
+    let start = at-if1 .before .before in
+    let a = start .args in let g = c .before .if2 .left in found-in (a .how) (a .b) (a .knots .now) (a .y) (a .precision) (a .limit) (a .rising) (a .k)
+    (at-if1 .if1 .left) (at-bits .bits .ensures .0) (at-halve .halve .ensures .0) (omega (arith, g)) (c .ground-of .ensures)
 
 pub find-spec : {M : Type 1} → statement M
 find-spec =

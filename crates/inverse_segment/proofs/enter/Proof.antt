@@ -18,14 +18,18 @@ entered-requires c κs = search needs
 
 returns : tie.Need-returns
 returns c =
-    let a = c .before .before .before .before .before .before .args in
-    tried-inside (a .how) (a .b) (a .cv .now) (a .y) (a .precision) (a .limit) (a .n) (c .before .before .before .before .ends-in .ensures) (c .before .before .encloses .ensures)
-    (c .before .if1 .taken) (c .entered .ensures)
+    let at-encloses = c .before .before in
+    let at-ends-in = at-encloses .before .before in
+    let start = at-ends-in .before .before in
+    let a = start .args in tried-inside (a .how) (a .b) (a .cv .now) (a .y) (a .precision) (a .limit) (a .n) (at-ends-in .ends-in .ensures)
+    (at-encloses .encloses .ensures) (c .before .if1 .taken) (c .entered .ensures)
 
 returns-2 : tie.Need-returns-2
 returns-2 c =
-    let a = c .before .before .before .before .before .args in
-    tried-outside (a .how) (a .b) (a .cv .now) (a .y) (a .precision) (a .limit) (a .n) (c .before .before .before .ends-in .ensures) (c .before .encloses .ensures) (c .if1 .left)
+    let at-ends-in = c .before .before .before in
+    let start = at-ends-in .before .before in
+    let a = start .args in tried-outside (a .how) (a .b) (a .cv .now) (a .y) (a .precision) (a .limit) (a .n) (at-ends-in .ends-in .ensures)
+    (c .before .encloses .ensures) (c .if1 .left)
 
 pub enter-spec : {M : Type 1} → statement M
 enter-spec = tie.close (tie.spec ends-in-requires encloses-requires add-entered entered-requires returns returns-2)

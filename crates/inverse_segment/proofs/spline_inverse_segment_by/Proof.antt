@@ -32,11 +32,13 @@ enum-told-2 c = search needs
 
 returns : tie.Need-returns
 returns c =
-    let a = c .before .before .before .before .before .before .before .args in
-    off-is (ruleOf (a .how)) (a .b) (a .y) (a .cv .now) (a .limit) (a .precision) (c .before .before .before .before .before .segment-verdict .ensures)
-    (c .before .before .before .enum-told .given .1)
-    (on-curve (a .how) (a .b) (a .cv .now) (a .cv .now) (a .y) (a .precision) (a .limit) 0 0 (from-first (a .b) (a .cv .now)) (c .before .before .enter .ensures))
-    (c .enum-told2 .given .1)
+    let at-enter = c .before .before in
+    let at-enum-told = at-enter .before in
+    let at-segment-verdict = at-enum-told .before .before in
+    let start = at-segment-verdict .before .before in
+    let a = start .args in off-is (ruleOf (a .how)) (a .b) (a .y) (a .cv .now) (a .limit) (a .precision) (at-segment-verdict .segment-verdict .ensures)
+    (at-enum-told .enum-told .given .1) (on-curve (a .how) (a .b) (a .cv .now) (a .cv .now) (a .y) (a .precision) (a .limit) 0 0 (from-first (a .b)
+    (a .cv .now)) (at-enter .enter .ensures)) (c .enum-told2 .given .1)
 
 place-of-requires : tie.Need-place-of-requires
 place-of-requires c κs = search needs

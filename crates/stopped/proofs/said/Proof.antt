@@ -66,14 +66,18 @@ found-requires c κs = search needs
 
 returns-6 : tie.Need-returns-6
 returns-6 c =
-    let a = c .before .before .before .before .before .before .before .before .before .before .before .before .before .before .args in
-    let x = timedOf (a .span) (a .i) in
-    let q = c .before .before .before .before .before .before .before .before .before .before .before .before .segments .ensures in
-    let h = c .before .before .before .before .before .before .before .before .before .before .before .curve-ends .ensures in
-    said-between (a .b) (a .knots .now) (a .y) x q h (c .before .before .before .before .before .before .before .before .before .if1 .left)
-    (c .before .before .before .before .before .before .before .if2 .left) (c .before .before .before .before .before .if3 .left)
-    (sym (c .before .before .before .before .is-before .ensures) ∙ c .before .before .before .if4 .left) (sym (c .before .before .is-beyond .ensures) ∙ c .before .if5 .left)
-    (c .found .ensures)
+    let at-is-beyond = c .before .before in
+    let at-if4 = at-is-beyond .before in
+    let at-is-before = at-if4 .before in
+    let at-if3 = at-is-before .before in
+    let at-if2 = at-if3 .before .before in
+    let at-if1 = at-if2 .before .before in
+    let at-curve-ends = at-if1 .before .before in
+    let at-segments = at-curve-ends .before in
+    let start = at-segments .before .before in
+    let a = start .args in let x = timedOf (a .span) (a .i) in let q = at-segments .segments .ensures in let h = at-curve-ends .curve-ends .ensures in
+    said-between (a .b) (a .knots .now) (a .y) x q h (at-if1 .if1 .left) (at-if2 .if2 .left) (at-if3 .if3 .left) (sym (at-is-before .is-before .ensures) ∙
+    at-if4 .if4 .left) (sym (at-is-beyond .is-beyond .ensures) ∙ c .before .if5 .left) (c .found .ensures)
 
 pub said-spec : {M : Type 1} → statement M
 said-spec =

@@ -30,18 +30,26 @@ said-requires c κs =
 
 returns : tie.Need-returns
 returns c =
-    let a = c .before .before .before .before .before .before .before .args in
-    let ended = sym (c .before .before .is-by-end .ensures) ∙ c .before .if2 .taken in
-    at-ends (a .t) (a .y) (a .knots .now) (a .check) (sym (c .before .before .before .before .before .is-span .ensures) ∙ c .before .before .before .before .if1 .taken) (c .before .before .before .spline-inverse-by .ensures) ended (c .said .ensures)
+    let at-is-by-end = c .before .before in
+    let at-spline-inverse-by = at-is-by-end .before in
+    let at-if1 = at-spline-inverse-by .before in
+    let at-is-span = at-if1 .before in
+    let start = at-is-span .before .before in
+    let a = start .args in let ended = sym (at-is-by-end .is-by-end .ensures) ∙ c .before .if2 .taken in at-ends (a .t) (a .y) (a .knots .now) (a .check)
+    (sym (at-is-span .is-span .ensures) ∙ at-if1 .if1 .taken) (at-spline-inverse-by .spline-inverse-by .ensures) ended (c .said .ensures)
 
 found-requires : tie.Need-found-requires
 found-requires c κs = (sym (c .before .before .before .before .is-span .ensures) ∙ c .before .before .before .if1 .taken)
 
 returns-2 : tie.Need-returns-2
 returns-2 c =
-    let a = c .before .before .before .before .before .before .before .args in
-    let searched = sym (c .before .before .is-by-end .ensures) ∙ c .before .if2 .left in
-    elsewhere (a .t) (a .y) (a .knots .now) (a .check) (sym (c .before .before .before .before .before .is-span .ensures) ∙ c .before .before .before .before .if1 .taken) (c .before .before .before .spline-inverse-by .ensures) searched (c .found .ensures)
+    let at-is-by-end = c .before .before in
+    let at-spline-inverse-by = at-is-by-end .before in
+    let at-if1 = at-spline-inverse-by .before in
+    let at-is-span = at-if1 .before in
+    let start = at-is-span .before .before in
+    let a = start .args in let searched = sym (at-is-by-end .is-by-end .ensures) ∙ c .before .if2 .left in elsewhere (a .t) (a .y) (a .knots .now)
+    (a .check) (sym (at-is-span .is-span .ensures) ∙ at-if1 .if1 .taken) (at-spline-inverse-by .spline-inverse-by .ensures) searched (c .found .ensures)
 
 without-span-requires : tie.Need-without-span-requires
 without-span-requires c κs = search needs

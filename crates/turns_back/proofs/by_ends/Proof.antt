@@ -27,15 +27,17 @@ enum-told-3 c = search needs
 
 returns : tie.Need-returns
 returns c =
-    let a = c .before .before .before .before .args in
-    let z = heldAll (a .knots .now) in
-    by-way (startOf (a .b) z) (endOf (a .b) z) (a .b) z (sym (c .before .enum-told .given .1) ∙ c .before .before .before .way-taken .ensures) (c .in-direction .ensures)
+    let at-way-taken = c .before .before .before in
+    let start = at-way-taken .before in
+    let a = start .args in let z = heldAll (a .knots .now) in by-way (startOf (a .b) z) (endOf (a .b) z) (a .b) z (sym (c .before .enum-told .given .1) ∙
+    at-way-taken .way-taken .ensures) (c .in-direction .ensures)
 
 returns-2 : tie.Need-returns-2
 returns-2 c =
-    let a = c .before .before .before .before .args in
-    let z = heldAll (a .knots .now) in
-    by-way (startOf (a .b) z) (endOf (a .b) z) (a .b) z (sym (c .before .enum-told2 .given .1) ∙ c .before .before .before .way-taken .ensures) (c .in-direction2 .ensures)
+    let at-way-taken = c .before .before .before in
+    let start = at-way-taken .before in
+    let a = start .args in let z = heldAll (a .knots .now) in by-way (startOf (a .b) z) (endOf (a .b) z) (a .b) z (sym (c .before .enum-told2 .given .1) ∙
+    at-way-taken .way-taken .ensures) (c .in-direction2 .ensures)
 
 returns-3 : tie.Need-returns-3
 returns-3 c =

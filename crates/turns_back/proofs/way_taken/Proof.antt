@@ -26,45 +26,41 @@ end-requires c κs = search needs
 
 returns : tie.Need-returns
 returns c =
-    let o = c .before .before .before .before .before .before in
-    let a = o .args in
-    let z = heldAll (a .knots .now) in
-    let f = c .before .before .before .before .before .four-from in
-    let m = c .before .before .before .before .last in
-    let l = c .before .before .before .four-from2 in
-    let s = c .before .before .start in
-    let e = c .before .end in
-    let p = starts-so (a .b) z (s .result) (f .result .k0) (f .result .k1) (f .result .k2) (f .result .k3) (f .ensures) (s .ensures) in
-    let q = ends-so (a .b) z (e .result) (m .result) (l .result .k0) (l .result .k1) (l .result .k2) (l .result .k3) (m .ensures .0 ∙ ap (λ (n : ℕ). (segmentsOf (a .b) n - 1) * stepOf (a .b)) (sym (long (a .knots .now)))) (l .ensures) (e .ensures) in
-    upwards (s .result) (e .result) p q (c .if1 .taken)
+    let at-start = c .before .before in
+    let at-four-from2 = at-start .before in
+    let at-last = at-four-from2 .before in
+    let at-four-from = at-last .before in
+    let o = c .before .before .before .before .before .before in let a = o .args in let z = heldAll (a .knots .now) in let f = at-four-from .four-from in
+    let m = at-last .last in let l = at-four-from2 .four-from2 in let s = at-start .start in let e = c .before .end in let p = starts-so (a .b) z
+    (s .result) (f .result .k0) (f .result .k1) (f .result .k2) (f .result .k3) (f .ensures) (s .ensures) in let q = ends-so (a .b) z (e .result)
+    (m .result) (l .result .k0) (l .result .k1) (l .result .k2) (l .result .k3) (m .ensures .0 ∙ ap (λ (n : ℕ). (segmentsOf (a .b) n - 1) * stepOf (a .b))
+    (sym (long (a .knots .now)))) (l .ensures) (e .ensures) in upwards (s .result) (e .result) p q (c .if1 .taken)
 
 returns-2 : tie.Need-returns-2
 returns-2 c =
-    let o = c .before .before .before .before .before .before .before in
-    let a = o .args in
-    let z = heldAll (a .knots .now) in
-    let f = c .before .before .before .before .before .before .four-from in
-    let m = c .before .before .before .before .before .last in
-    let l = c .before .before .before .before .four-from2 in
-    let s = c .before .before .before .start in
-    let e = c .before .before .end in
-    let p = starts-so (a .b) z (s .result) (f .result .k0) (f .result .k1) (f .result .k2) (f .result .k3) (f .ensures) (s .ensures) in
-    let q = ends-so (a .b) z (e .result) (m .result) (l .result .k0) (l .result .k1) (l .result .k2) (l .result .k3) (m .ensures .0 ∙ ap (λ (n : ℕ). (segmentsOf (a .b) n - 1) * stepOf (a .b)) (sym (long (a .knots .now)))) (l .ensures) (e .ensures) in
-    downwards (s .result) (e .result) p q (c .if2 .taken)
+    let at-end = c .before .before in
+    let at-start = at-end .before in
+    let at-four-from2 = at-start .before in
+    let at-last = at-four-from2 .before in
+    let at-four-from = at-last .before in
+    let o = c .before .before .before .before .before .before .before in let a = o .args in let z = heldAll (a .knots .now) in let f =
+    at-four-from .four-from in let m = at-last .last in let l = at-four-from2 .four-from2 in let s = at-start .start in let e = at-end .end in let p =
+    starts-so (a .b) z (s .result) (f .result .k0) (f .result .k1) (f .result .k2) (f .result .k3) (f .ensures) (s .ensures) in let q = ends-so (a .b) z
+    (e .result) (m .result) (l .result .k0) (l .result .k1) (l .result .k2) (l .result .k3) (m .ensures .0 ∙ ap (λ (n : ℕ). (segmentsOf (a .b) n - 1) *
+    stepOf (a .b)) (sym (long (a .knots .now)))) (l .ensures) (e .ensures) in downwards (s .result) (e .result) p q (c .if2 .taken)
 
 returns-3 : tie.Need-returns-3
 returns-3 c =
-    let o = c .before .before .before .before .before .before .before in
-    let a = o .args in
-    let z = heldAll (a .knots .now) in
-    let f = c .before .before .before .before .before .before .four-from in
-    let m = c .before .before .before .before .before .last in
-    let l = c .before .before .before .before .four-from2 in
-    let s = c .before .before .before .start in
-    let e = c .before .before .end in
-    let p = starts-so (a .b) z (s .result) (f .result .k0) (f .result .k1) (f .result .k2) (f .result .k3) (f .ensures) (s .ensures) in
-    let q = ends-so (a .b) z (e .result) (m .result) (l .result .k0) (l .result .k1) (l .result .k2) (l .result .k3) (m .ensures .0 ∙ ap (λ (n : ℕ). (segmentsOf (a .b) n - 1) * stepOf (a .b)) (sym (long (a .knots .now)))) (l .ensures) (e .ensures) in
-    level (s .result) (e .result) p q (c .before .if1 .left) (c .if2 .left)
+    let at-end = c .before .before in
+    let at-start = at-end .before in
+    let at-four-from2 = at-start .before in
+    let at-last = at-four-from2 .before in
+    let at-four-from = at-last .before in
+    let o = c .before .before .before .before .before .before .before in let a = o .args in let z = heldAll (a .knots .now) in let f =
+    at-four-from .four-from in let m = at-last .last in let l = at-four-from2 .four-from2 in let s = at-start .start in let e = at-end .end in let p =
+    starts-so (a .b) z (s .result) (f .result .k0) (f .result .k1) (f .result .k2) (f .result .k3) (f .ensures) (s .ensures) in let q = ends-so (a .b) z
+    (e .result) (m .result) (l .result .k0) (l .result .k1) (l .result .k2) (l .result .k3) (m .ensures .0 ∙ ap (λ (n : ℕ). (segmentsOf (a .b) n - 1) *
+    stepOf (a .b)) (sym (long (a .knots .now)))) (l .ensures) (e .ensures) in level (s .result) (e .result) p q (c .before .if1 .left) (c .if2 .left)
 
 pub way-taken-spec : {M : Type 1} → statement M
 way-taken-spec =

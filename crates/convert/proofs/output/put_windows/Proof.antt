@@ -94,8 +94,8 @@ loop-again c =
 few-windows : (c : tie.After-loop Inv-loop μ-loop)
     → (length (c .before .before .before .before .before .before .before .before .before .args .knots .now) - 4) / c .before .before .before .before .before .before .before .before .before .args .step * c .before .before .before .before .before .before .before .before .before .args .stride ≤ 16384
 few-windows c =
-    few-steps _ _ _ (c .before .before .before .before .before .before .before .before .before .pre .1 .1 .1 .1 .0)
-    (c .before .before .before .before .before .before .before .before .before .pre .1 .1 .0)
+    let start = c .before .before .before .before .before .before .before .before .before in
+    few-steps _ _ _ (start .pre .1 .1 .1 .1 .0) (start .pre .1 .1 .0)
 
 mul-result : tie.Need-mul-result Inv-loop μ-loop
 mul-result c = let h = few-windows c in omega arith

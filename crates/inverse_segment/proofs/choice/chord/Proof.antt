@@ -16,7 +16,9 @@ lerp-requires c κs = search needs
 
 returns : tie.Need-returns
 returns c =
-    λ limit i e. chord-is (weightingOf (c .before .before .before .args .how)) limit i _ _ _ e (c .before .before .weighed .ensures) (c .before .fraction .ensures)
+    let at-weighed = c .before .before in
+    let start = at-weighed .before in
+    λ limit i e. chord-is (weightingOf (start .args .how)) limit i _ _ _ e (at-weighed .weighed .ensures) (c .before .fraction .ensures)
     (c .lerp .ensures)
 
 pub chord-spec : {M : Type 1} → statement M

@@ -17,11 +17,13 @@ lerp-requires c κs = search needs
 
 returns : tie.Need-returns
 unfolding ofBits
-returns c = (
-  (λ limit i e d s ev k. round-width (ruleOf (c .before .before .before .before .args .how)) (hornerOf (c .before .before .before .before .args .w)) _ _ _ _ _ limit i s ev k
-      (sym (c .before .if1 .taken) ∙ c .before .before .is-narrow .ensures) (c .lerp .ensures)),
-  (omega arith, omega arith),
-)
+returns c =
+    let at-is-narrow = c .before .before in
+    let start = at-is-narrow .before .before in (
+      (λ limit i e d s ev k. round-width (ruleOf (start .args .how)) (hornerOf (start .args .w)) _ _ _ _ _ limit i s ev k (sym (c .before .if1 .taken) ∙
+          at-is-narrow .is-narrow .ensures) (c .lerp .ensures)),
+      (omega arith, omega arith),
+    )
 
 choose-requires : tie.Need-choose-requires
 choose-requires c κs = search needs
@@ -39,27 +41,36 @@ add-t25 : tie.Need-add-t25
 add-t25 c = search needs
 
 returns-2 : tie.Need-returns-2
-returns-2 c = (
-  (λ limit i e d s ev k. round-value (ruleOf (c .before .before .before .before .before .before .before .before .before .before .args .how)) (hornerOf (c .before .before .before .before .before .before .before .before .before .before .args .w)) _ _ _ _
-      _ limit i s ev k (sym (c .before .before .before .before .before .before .before .if1 .left)
-      ∙ c .before .before .before .before .before .before .before .before .is-narrow .ensures)
-      (c .before .before .before .before .before .before .choose .ensures limit i e d) (c .before .before .before .before .horner .ensures)
-      (c .before .before .before .moved .ensures .0) (c .before .before .magnitude .ensures) (c .before .if2 .taken)),
-  (omega arith, omega arith),
-)
+returns-2 c =
+    let at-magnitude = c .before .before in
+    let at-moved = at-magnitude .before in
+    let at-horner = at-moved .before in
+    let at-choose = at-horner .before .before in
+    let at-if1 = at-choose .before in
+    let at-is-narrow = at-if1 .before in
+    let start = at-is-narrow .before .before in (
+      (λ limit i e d s ev k. round-value (ruleOf (start .args .how)) (hornerOf (start .args .w)) _ _ _ _ _ limit i s ev k (sym (at-if1 .if1 .left) ∙
+          at-is-narrow .is-narrow .ensures) (at-choose .choose .ensures limit i e d) (at-horner .horner .ensures) (at-moved .moved .ensures .0)
+          (at-magnitude .magnitude .ensures) (c .before .if2 .taken)),
+      (omega arith, omega arith),
+    )
 
 add-t26 : tie.Need-add-t26
 add-t26 c = search needs
 
 returns-3 : tie.Need-returns-3
-returns-3 c = (
-  (λ limit i e d s ev k. round-next (ruleOf (c .before .before .before .before .before .before .before .before .before .args .how)) (hornerOf (c .before .before .before .before .before .before .before .before .before .args .w)) _ _ _ _ _ limit i
-      s ev k (sym (c .before .before .before .before .before .before .if1 .left)
-      ∙ c .before .before .before .before .before .before .before .is-narrow .ensures)
-      (c .before .before .before .before .before .choose .ensures limit i e d) (c .before .before .before .horner .ensures)
-      (c .before .before .moved .ensures .0) (c .before .magnitude .ensures) (c .if2 .left)),
-  (omega (arith, c .before .before .moved .ensures .1), omega arith),
-)
+returns-3 c =
+    let at-moved = c .before .before in
+    let at-horner = at-moved .before in
+    let at-choose = at-horner .before .before in
+    let at-if1 = at-choose .before in
+    let at-is-narrow = at-if1 .before in
+    let start = at-is-narrow .before .before in (
+      (λ limit i e d s ev k. round-next (ruleOf (start .args .how)) (hornerOf (start .args .w)) _ _ _ _ _ limit i s ev k (sym (at-if1 .if1 .left) ∙
+          at-is-narrow .is-narrow .ensures) (at-choose .choose .ensures limit i e d) (at-horner .horner .ensures) (at-moved .moved .ensures .0)
+          (c .before .magnitude .ensures) (c .if2 .left)),
+      (omega (arith, at-moved .moved .ensures .1), omega arith),
+    )
 
 pub round-spec : {M : Type 1} → statement M
 round-spec =

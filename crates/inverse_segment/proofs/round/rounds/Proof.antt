@@ -56,15 +56,12 @@ stopped-requires c κs = search needs
 
 returns : tie.Need-returns Inv-loop μ-loop
 returns c =
-    let r = c .before .before .before .before in
-    let l = r .before .before .before in
-    let a = l .before .args in
-    λ s ev k. c .stopped .ensures
-    ∙ led-done (ruleOf (a .how)) (hornerOf (a .w)) (a .y) (a .precision) (a .rising) (a .limit) (start (a .first)) (a .n) (l .loop .i) (l .loop .count)
-    (l .loop .st) (omega arith) (l .loop .inv .6)
-    (r .round .ensures .0 (a .limit) (l .loop .i) (regula-falsi-is (a .limit) (l .loop .i) (l .loop .st) (r .before .uses-regula-falsi .ensures) (l .loop .inv .1))
-    (l .loop .inv .5))
-    (c .before .before .t2 .given .1) s ev k
+    let at-t2 = c .before .before in
+    let at-before = at-t2 .before in
+    let r = c .before .before .before .before in let l = r .before .before .before in let a = l .before .args in λ s ev k. c .stopped .ensures ∙ led-done
+    (ruleOf (a .how)) (hornerOf (a .w)) (a .y) (a .precision) (a .rising) (a .limit) (start (a .first)) (a .n) (l .loop .i) (l .loop .count) (l .loop .st)
+    (omega arith) (l .loop .inv .6) (r .round .ensures .0 (a .limit) (l .loop .i) (regula-falsi-is (a .limit) (l .loop .i) (l .loop .st)
+    (r .before .uses-regula-falsi .ensures) (l .loop .inv .1)) (l .loop .inv .5)) (at-t2 .t2 .given .1) s ev k
 
 add-i : tie.Need-add-i Inv-loop μ-loop
 add-i c = omega arith
@@ -75,21 +72,18 @@ loop-less c = omega arith
 loop-again : tie.Need-loop-again Inv-loop μ-loop
 unfolding ofBits
 loop-again c =
-    let r = c .before .before .before in
-    let l = r .before .before .before in
-    let a = l .before .args in
-    let h : countAfter (r .round .result) ≤ l .loop .count + 1 = r .round .ensures .1 .1 in
-    let g : repeatsAfter (r .round .result) ≤ l .loop .st .repeats + 1 = r .round .ensures .1 .0 in (
+    let at-before = c .before .before in
+    let r = c .before .before .before in let l = r .before .before .before in let a = l .before .args in let h : countAfter (r .round .result) ≤
+    l .loop .count + 1 = r .round .ensures .1 .1 in let g : repeatsAfter (r .round .result) ≤ l .loop .st .repeats + 1 = r .round .ensures .1 .0 in (
       omega arith,
       l .loop .inv .1,
       omega arith,
       omega (arith, rw (c .before .t .given .1) at g),
       omega (arith, rw (c .before .t .given .1) at h),
       next-width (l .loop .i) (l .loop .inv .5),
-      led-on (ruleOf (a .how)) (hornerOf (a .w)) (a .y) (a .precision) (a .rising) (a .limit) (start (a .first)) (a .n) (l .loop .i) (l .loop .count) (l .loop .st)
-          (omega arith) (l .loop .inv .6)
-          (r .round .ensures .0 (a .limit) (l .loop .i) (regula-falsi-is (a .limit) (l .loop .i) (l .loop .st) (r .before .uses-regula-falsi .ensures)
-          (l .loop .inv .1)) (l .loop .inv .5)) (c .before .t .given .1),
+      led-on (ruleOf (a .how)) (hornerOf (a .w)) (a .y) (a .precision) (a .rising) (a .limit) (start (a .first))
+          (a .n) (l .loop .i) (l .loop .count) (l .loop .st) (omega arith) (l .loop .inv .6) (r .round .ensures .0 (a .limit) (l .loop .i) (regula-falsi-is
+          (a .limit) (l .loop .i) (l .loop .st) (r .before .uses-regula-falsi .ensures) (l .loop .inv .1)) (l .loop .inv .5)) (c .before .t .given .1),
     )
 
 lerp-requires : tie.Need-lerp-requires Inv-loop μ-loop
