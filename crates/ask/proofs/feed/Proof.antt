@@ -105,34 +105,31 @@ loop-less c = search needs
 
 loop-again : tie.Need-loop-again Inv-loop μ-loop
 loop-again c =
-    let at-line = c .before .before .before .before .before .before .before in
-    let at-if2 = at-line .before .before .before .before .before .before in
-    let at-cut = at-if2 .before .before .before in
-    let at-loop = at-cut .before .before .before .before in
-    let start = at-loop .before .before .before .before .before .before in
-    let l = at-loop .loop in let k = at-cut .cut in let w = at-line .line .ensures in let t = at-if2 .if2 .taken in (
-      omega (
-        arith,
-        l .inv .0,
-        k .ensures .after,
-      ),
-      omega (arith, t),
+    let l = c .before .before .before .before .before .before .before .before .before .before .before .before .before .before .before .before .before
+    .before .before .before .loop in let k = c .before .before .before .before .before .before .before .before .before .before .before .before .before
+    .before .before .before .cut in let w = c .before .before .before .before .before .before .before .line .ensures in let t = c .before .before .before
+    .before .before .before .before .before .before .before .before .before .before .if2 .taken in (
+      omega (arith, l .inv .0, k .ensures .after),
+      omega
+          (arith, t),
       omega (arith, l .inv .2),
       omega (arith, w .1 .1 .0 .long, w .1 .1 .1),
-      omega (
-        arith,
-        w .1 .1 .1,
-        l .inv .4,
-        k .ensures .after,
-      ),
-      fed-line askProgram (start .args .chunk .now) (start .args .from) (k .result .stop) (omega (arith, l .inv .0, k .ensures .after))
-          t (fed-stretch askProgram (start .args .chunk .now) (start .args .from) (l .i) (k .result .stop) (l .inv .0) (l .inv .1) (l .inv .5) (k .ensures))
-          (k .ensures .end t) (w .0) (w .1 .1 .0),
+      omega (arith, w .1 .1 .1, l .inv .4, k .ensures .after),
+      fed-line
+          askProgram (c .before .before .before .before .before .before .before .before .before .before .before .before .before .before .before .before .before
+          .before .before .before .before .before .before .before .before .before .args .chunk .now) (c .before .before .before .before .before .before .before
+          .before .before .before .before .before .before .before .before .before .before .before .before .before .before .before .before .before .before
+          .before .args .from) (k .result .stop) (omega (arith, l .inv .0, k .ensures .after)) t (fed-stretch askProgram (c .before .before .before .before
+          .before .before .before .before .before .before .before .before .before .before .before .before .before .before .before .before .before .before
+          .before .before .before .before .args .chunk .now) (c .before .before .before .before .before .before .before .before .before .before .before .before
+          .before .before .before .before .before .before .before .before .before .before .before .before .before .before .args .from) (l .i) (k .result .stop)
+          (l .inv .0) (l .inv .1) (l .inv .5) (k .ensures)) (k .ensures .end t) (w .0) (w .1 .1 .0),
       search needs,
       search needs,
       search needs,
       w .1 .0,
-      l .inv .10,
+      l .inv
+          .10,
     )
 
 loop-less-2 : tie.Need-loop-less-2 Inv-loop μ-loop
