@@ -1,0 +1,1 @@
+// What a sheet without a fault promises: proofs/.
