@@ -4,11 +4,11 @@ use mathlib.Core.Bool.{Bool, true, false, not, cond, _&&_, _||_}
 use mathlib.Core.List.{List, [], _∷_, _++_}
 use Prim.Native.Nat.{ℕ, zero, suc, _+_, _-_, _*_, _/_, _%_, _≤_, _<_}
 use native.Mathlib.Omega.{arith}
-use borrow.Author.Tests.{ltb-true, ltb-false, le-leb, lt-ltb, eq-eqb}
+use borrow.Author.Tests.{ltb-true, ltb-false, le-leb, lt-ltb, eq-eqb, eqb-true, eqb-false}
 use lib.Dec.{T, leb, ltb, eqb}
 use lib.IntN.{ℤ, pos, _*ℤ_}
 use lib.Ieee.{Float}
-use lib.ListN.{length, drop}
+use lib.ListN.{length, drop, getD}
 use lib.Signed.{ltZ}
 use lib.Ieee.Fits.{and-i}
 use Rattle.error.specs.declared.Verdict.the-variants.{Passed}
@@ -34,7 +34,8 @@ use Rattle.ask_sheet.specs.declared.Kind.{Kind}
 use Rattle.ask_sheet.specs.declared.Kind.the-variants.{Drawn, Monotone}
 use Rattle.ask_sheet.specs.Sheet.{Sheet, unbegun, on, faulty}
 use Rattle.ask_verdict.specs.Curve.{basisOf, knotsOf, firstRow, rowStep, suits, doublesOf}
-use Rattle.ask_verdict.specs.Faults.{Fault, turns, falls, turnsAt, fallsAt, bendOf, segmentsIn, bendAt, bentAt, twiceAt, faultsTo, flatBy, wayIn, faultsOf}
+use Rattle.text.specs.Text.{same}
+use Rattle.ask_verdict.specs.Faults.{Fault, twice, turns, falls, sameFrom, firstSame, turnsAt, fallsAt, bendOf, segmentsIn, bendAt, bentAt, twiceAt, faultsTo, flatBy, wayIn, faultsOf}
 use Rattle.ask_verdict.specs.Told.{none, Asked, bad, fine, askedOf}
 
 -- ---- no fault in a list is none in its parts
@@ -60,6 +61,51 @@ row-silent k w z ls (suc n) i h e =
       where
         same : n ≤ i → n ≡ i
         same l = omega arith
+
+-- of the rows before n, row i has a label that stood nowhere before
+row-once : (k : Kind) (w : Way) (z : List ℤ) (ls : List (List ℕ)) (n i : ℕ) → i < n → none (faultsTo k w z ls n) ≡ true → none (twiceAt ls i) ≡ true
+unfolding faultsTo
+row-once k w z ls zero i h e = absurd (omega arith)
+row-once k w z ls (suc n) i h e =
+    go (ltb i n) refl (λ l. row-once k w z ls n i l (none-left (faultsTo k w z ls n) (twiceAt ls n ++ bentAt k w z n) e))
+    (none-left (twiceAt ls n) (bentAt k w z n) (none-right (faultsTo k w z ls n) (twiceAt ls n ++ bentAt k w z n) e))
+  where
+    go : (t : Bool) → ltb i n ≡ t → (i < n → none (twiceAt ls i) ≡ true) → none (twiceAt ls n) ≡ true → none (twiceAt ls i) ≡ true
+    go true q f g = f (ltb-true i n q)
+    go false q f g = subst (λ (m : ℕ). none (twiceAt ls m) ≡ true) (here (ltb-false i n q)) g
+      where
+        here : n ≤ i → n ≡ i
+        here l = omega arith
+
+-- the search for a label that comes to its end has met none that is the same
+none-same : (ls : List (List ℕ)) (l : List ℕ) (j m : ℕ) → j + m ≤ sameFrom ls l j m → (i : ℕ) → j ≤ i → i < j + m → same (getD ls i []) l ≡ false
+unfolding sameFrom
+none-same ls l j zero h i a b = absurd (omega arith)
+none-same ls l j (suc m) h i a b = go (same (getD ls j []) l) refl h (λ g. none-same ls l (suc j) m g i) (eqb i j) refl
+  where
+    go : (t : Bool) → same (getD ls j []) l ≡ t → j + suc m ≤ cond t j (sameFrom ls l (suc j) m)
+        → (suc j + m ≤ sameFrom ls l (suc j) m → suc j ≤ i → i < suc j + m → same (getD ls i []) l ≡ false) → (u : Bool) → eqb i j ≡ u
+        → same (getD ls i []) l ≡ false
+    go true p h f u q = absurd (omega arith)
+    go false p h f true q = subst (λ (n : ℕ). same (getD ls n []) l ≡ false) (sym (eqb-true i j q)) p
+    go false p h f false q = let x = eqb-false i j q in f (omega arith) (omega (arith, a, x)) (omega arith)
+
+once : (ls : List (List ℕ)) (j : ℕ) → none (twiceAt ls j) ≡ true → j ≤ firstSame ls j
+unfolding twiceAt
+once ls j e = go (ltb (firstSame ls j) j) refl e
+  where
+    go : (t : Bool) → ltb (firstSame ls j) j ≡ t → none (cond t (twice (firstSame ls j + 2) (j + 2) ∷ []) []) ≡ true → j ≤ firstSame ls j
+    go true q h = never (cc)
+    go false q h = ltb-false (firstSame ls j) j q
+
+-- no label of a sheet without a fault stands twice
+pub fine-labels-once : (k : Kind) (z : List ℤ) (ls : List (List ℕ)) → none (faultsOf k z ls) ≡ true → (i j : ℕ) → i < j → j < length z
+    → same (getD ls i []) (getD ls j []) ≡ false
+unfolding faultsOf firstSame
+fine-labels-once k z ls h i j a b =
+    let f = none-left (faultsTo k (wayIn k z) z ls (length z)) (flatBy (wayIn k z)) h in
+    let o : j ≤ sameFrom ls (getD ls j []) 0 j = once ls j (row-once k (wayIn k z) z ls (length z) j b f) in
+    none-same ls (getD ls j []) 0 j (omega (arith, o)) i (omega arith) (omega (arith, a))
 
 -- ---- the row at which a segment begins
 pub record Begins (k : Kind) (z : List ℤ) (s i : ℕ) : Type 0 where
