@@ -18,6 +18,7 @@ use Rattle.inverse.specs.declared.Ends.{Ends}
 use Rattle.inverse.specs.Curve.{ended, located}
 use Rattle.inverse.specs.EndRule.{EndRule, atLow, atHigh, curveRule}
 use Rattle.inverse.specs.Inverse.{inverseBy}
+use Rattle.inverse_order.specs.declared.EndsBy.{EndsBy}
 use Rattle.inverse_order.specs.declared.EndsBy.the-variants.{Curve}
 use Rattle.inverse_segment.specs.declared.Inversion.{Inversion}
 use Rattle.inverse_segment.specs.declared.Inversion.the-variants as I
@@ -52,6 +53,19 @@ silent R e ev g k y ε limit = go (atLow e y) (atHigh e y) _
     go false true i q = never (cc)
     go false false i q = (refl, refl)
 
+-- an inversion that answered by its end rule, whichever that is, was refused by no row
+pub no-row-applies : (m : EndsBy) (t : Table) (y : Float) (ks : List Float) (check : Bool) {i : Inversion}
+    → i ≡ inverseBy m Steady (t .basis) y ks check steadyLimit defaultPrecision → byEnd i ≡ true → first (stoppedUses t y ks check) ≡ Passed
+unfolding inverseBy
+no-row-applies m t y ks check {i} q h = go (first (stoppedUses t y ks check)) refl _ q
+  where
+    go : (v : Verdict) → first (stoppedUses t y ks check) ≡ v → (x : Inversion) → i ≡ inverted (first (stoppedUses t y ks check)) x
+        → first (stoppedUses t y ks check) ≡ Passed
+    go Passed e x w = e
+    go (Failed r) e x w =
+        let z : byEnd (I.Refused r) ≡ true = subst (λ (a : Inversion). byEnd a ≡ true) (w ∙ ap (λ (v : Verdict). inverted v x) e) h in
+        never (cc)
+
 module _ (t : Table) (y : Float) (ks : List Float) (check : Bool) (g : goodSpan (t .span) ≡ true) {i : Inversion}
     (q : i ≡ inverseBy Curve Steady (t .basis) y ks check steadyLimit defaultPrecision) where
   abbrev rule : EndRule
@@ -72,19 +86,9 @@ module _ (t : Table) (y : Float) (ks : List Float) (check : Bool) (g : goodSpan 
   passes e = good-verdict t (stoppedUses t y ks check) refl g ∙ e
 
   -- ---- by the end rule
-  pub no-row-applies : byEnd i ≡ true → first (stoppedUses t y ks check) ≡ Passed
-  no-row-applies h = go (first (stoppedUses t y ks check)) refl
-    where
-      go : (v : Verdict) → first (stoppedUses t y ks check) ≡ v → first (stoppedUses t y ks check) ≡ Passed
-      go Passed e = e
-      go (Failed r) e =
-          let w : i ≡ I.Refused r = by-verdict ∙ ap (λ (v : Verdict). inverted v answer) e in
-          let z : byEnd (I.Refused r) ≡ true = subst (λ (a : Inversion). byEnd a ≡ true) w h in
-          never (cc)
-
   pub at-ends : byEnd i ≡ true → {j : Job} → j ≡ saidOf (endsOf (t .basis) ks) y (timedOf (t .span) i) → j ≡ stoppedOf t y ks check
   at-ends h p =
-      p ∙ ap (λ (x : TableInversion). saidOf (endsOf (t .basis) ks) y x) (sym told) ∙ sym (passed t y ks check (passes (no-row-applies h)))
+      p ∙ ap (λ (x : TableInversion). saidOf (endsOf (t .basis) ks) y x) (sym told) ∙ sym (passed t y ks check (passes (no-row-applies Curve t y ks check q h)))
 
   -- ---- not by the end rule
   inside : first (stoppedUses t y ks check) ≡ Passed → byEnd i ≡ false → T (isBetween (ends t y ks check) y)

@@ -26,7 +26,7 @@ said-requires c κs =
     let ended = sym (c .before .is-by-end .ensures) ∙ c .if2 .taken in
     let p =
     admitted (a .t .basis) (a .y) (a .knots .now) (a .check) steadyLimit defaultPrecision
-    (no-row-applies (a .t) (a .y) (a .knots .now) (a .check) good (c .before .before .spline-inverse-by .ensures) ended) in (good, (p .long, p .short))
+    (no-row-applies _ (a .t) (a .y) (a .knots .now) (a .check) (c .before .before .spline-inverse-by .ensures) ended) in (good, (p .long, p .short))
 
 returns : tie.Need-returns
 returns c =
