@@ -61,15 +61,25 @@ pub const SEGMENTS: [usize; 33] = [
     1023, 1025, 2047, 4093,
 ];
 
-/// A plain generator: the same seed gives the same run.
+/// A plain generator: the same start gives the same run.
 pub struct Rng(pub u64);
 
+/// What the seed of a run adds to where its generators start: nothing for seed 0, far apart for any other two.
+pub fn scattered(seed: u64) -> u64 {
+    let z = (seed ^ (seed >> 30)).wrapping_mul(0xBF58_476D_1CE4_E5B9);
+    let z = (z ^ (z >> 27)).wrapping_mul(0x94D0_49BB_1331_11EB);
+    z ^ (z >> 31)
+}
+
 impl Rng {
+    /// The generator of one of several starts of a run, by the run's seed.
+    pub fn seeded(seed: u64, start: u64) -> Rng {
+        Rng(scattered(seed).wrapping_add(start))
+    }
+
     pub fn next(&mut self) -> u64 {
         self.0 = self.0.wrapping_add(0x9E37_79B9_7F4A_7C15);
-        let z = (self.0 ^ (self.0 >> 30)).wrapping_mul(0xBF58_476D_1CE4_E5B9);
-        let z = (z ^ (z >> 27)).wrapping_mul(0x94D0_49BB_1331_11EB);
-        z ^ (z >> 31)
+        scattered(self.0)
     }
 
     pub fn below(&mut self, n: usize) -> usize {

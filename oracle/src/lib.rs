@@ -14,6 +14,7 @@ pub mod stopped;
 pub mod strict;
 pub mod table;
 pub mod tally;
+pub mod turning;
 pub mod uneven;
 pub mod valve;
 pub mod whole;

@@ -3,16 +3,17 @@
 use crate::compare;
 use crate::inputs::{self, Rng, LIMITS, PRECISIONS, SEGMENTS};
 use crate::model::{Ends, Options, STEP};
+use crate::parts::Worker;
 use crate::tally::Tally;
 
 /// Inversions of a whole run whose answer took rounds; those that end at once come on top.
 pub const WANTED: u64 = 10_000_000;
 
 /// One worker's part.
-pub fn share(worker: usize, workers: usize) -> Tally {
+pub fn share(worker: Worker) -> Tally {
     let mut t = Tally::default();
-    let mut r = Rng(worker as u64 + 1);
-    while t.by_rounds() < WANTED.div_ceil(workers as u64) {
+    let mut r = worker.generator();
+    while t.by_rounds() < WANTED.div_ceil(worker.of as u64) {
         let b = r.below(STEP.len());
         let k = r.one_of(&SEGMENTS).min((4096 - 4) / STEP[b] + 1);
         curve(&mut t, &mut r, b, k);

@@ -38,6 +38,9 @@ calls! {
     TableConvertSplineStrict "table_convert_spline_strict",
     Stopped "stopped",
     Valve "valve",
+    TurnsBack "turns_back",
+    TurnsBackBy "turns_back_by",
+    Monotone "monotone",
 }
 
 impl Call {
@@ -62,7 +65,7 @@ impl Call {
 }
 
 /// An answer's column: 0 is plain, 1 to 20 the refusals, then the grounds, a number that stands for nothing, the
-/// checker's two words, and what is said of a stopped job.
+/// checker's two words, what is said of a stopped job, and whether a curve turns back.
 pub type Answer = usize;
 
 pub const PLAIN: Answer = 0;
@@ -71,7 +74,10 @@ const SPENT: Answer = 25;
 pub const NO_NUMBER: Answer = 26;
 pub const HOLDS: Answer = 27;
 pub const DIFFERS: Answer = 28;
-const ANSWERS: usize = 35;
+const FLAT: Answer = 29;
+const NEVER: Answer = 35;
+const AT_A_SEGMENT: Answer = 36;
+const ANSWERS: usize = 37;
 
 /// The column of a reply's number.
 pub fn of_reply(reply: u32) -> Answer {
@@ -90,6 +96,11 @@ pub fn of_job(job: u8) -> Answer {
     DIFFERS + job as usize
 }
 
+/// The column of whether a curve turns back, by its number from 0 to 2.
+pub fn of_turning(turning: u64) -> Answer {
+    [NEVER, AT_A_SEGMENT, FLAT][turning as usize]
+}
+
 fn name(a: Answer) -> String {
     match a {
         PLAIN => "answered".into(),
@@ -101,7 +112,9 @@ fn name(a: Answer) -> String {
         SPENT => "spent".into(),
         HOLDS => "holds".into(),
         DIFFERS => "differs".into(),
-        29..=34 => ["flat", "before", "not begun", "under way", "done", "beyond"][a - 29].into(),
+        FLAT..=34 => ["flat", "before", "not begun", "under way", "done", "beyond"][a - FLAT].into(),
+        NEVER => "never".into(),
+        AT_A_SEGMENT => "at a segment".into(),
         _ => "no such number".into(),
     }
 }

@@ -85,5 +85,9 @@ fn once(t: &mut Tally) {
     }
 }
 
-/// A curve of doubles is nothing to a valve.
-fn knots(_: &mut Tally, _: &mut Rng, _: usize, _: &[f64]) {}
+/// A curve of doubles is nothing to a valve: four knots of its own, some at the bounds, and any step.
+fn knots(t: &mut Tally, r: &mut Rng, _: usize, _: &[f64]) {
+    let four = [(); 4].map(|()| if r.below(16) == 0 { r.one_of(&KNOTS) } else { r.below(2_000_001) as i64 - 1_000_000 });
+    let step = r.below(258) as u16;
+    compare(t, step, &four);
+}

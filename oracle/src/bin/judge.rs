@@ -1,13 +1,14 @@
 //! `judge SIZE` compares the port with the crate and the model; SIZE is quick, long, or a number of rounds. `judge steady`
-//! holds inversions by the steady method to the model. `judge SIZE 2/8` runs the second of eight parts.
+//! holds inversions by the steady method to the model. `judge SIZE 2/8` runs the second of eight parts, and `seed=7` draws
+//! what is drawn from another seed than 0.
 
 use std::time::Instant;
 use std::{env, process, thread};
 
 use judge::compare;
-use judge::inputs::{self, Rng, AWKWARD, LIMITS, PRECISIONS, SEGMENTS};
+use judge::inputs::{self, scattered, Rng, AWKWARD, LIMITS, PRECISIONS, SEGMENTS};
 use judge::model::{self, Options, STEP};
-use judge::parts::PARTS;
+use judge::parts::{Worker, PARTS};
 use judge::port::{self, UNTOUCHED, UNTOUCHED_WHOLE};
 use judge::steady;
 use judge::tally::{Call, Tally, NO_NUMBER};
@@ -30,20 +31,21 @@ const CHECKED: Options = Options { check: true, ..Options::DEFAULT };
 
 fn main() {
     let words: Vec<String> = env::args().skip(1).collect();
-    let Some((run, part, parts)) = asked(&words) else {
-        eprintln!("usage: judge quick | long | steady | ROUNDS [PART/PARTS]");
+    let Some(Asked { run, part, parts, seed }) = asked(&words) else {
+        eprintln!("usage: judge quick | long | steady | ROUNDS [PART/PARTS] [seed=N]");
         process::exit(2);
     };
     let start = Instant::now();
     let threads = thread::available_parallelism().map_or(1, |n| n.get());
+    println!("Seed {seed}, part {part} of {parts}, {threads} threads.\n");
     let mut tally = Tally::default();
     thread::scope(|scope| {
         let shares: Vec<_> = (0..threads)
             .map(|thread| {
-                let worker = (part - 1) * threads + thread;
+                let worker = Worker { number: (part - 1) * threads + thread, of: parts * threads, seed };
                 scope.spawn(move || match run {
-                    Run::Everything(size) => share(part_of(size, part, parts), worker, parts * threads),
-                    Run::Steady => steady::share(worker, parts * threads),
+                    Run::Everything(size) => share(part_of(size, part, parts), worker),
+                    Run::Steady => steady::share(worker),
                 })
             })
             .collect();
@@ -53,22 +55,33 @@ fn main() {
     println!("No difference. {} s.", start.elapsed().as_secs());
 }
 
-/// What the words ask for: what is run, and which part of how many.
-fn asked(words: &[String]) -> Option<(Run, usize, usize)> {
-    let run = match words.first()?.as_str() {
+/// What is run, which part of how many, and from which seed.
+struct Asked {
+    run: Run,
+    part: usize,
+    parts: usize,
+    seed: u64,
+}
+
+/// What the words ask for.
+fn asked(words: &[String]) -> Option<Asked> {
+    let (what, more) = words.split_first()?;
+    let run = match what.as_str() {
         "quick" => Run::Everything(Size { awkward: 12, rounds: 12 }),
         "long" => Run::Everything(Size { awkward: AWKWARD.len(), rounds: 150 }),
         "steady" => Run::Steady,
         n => Run::Everything(Size { awkward: AWKWARD.len(), rounds: n.parse().ok()? }),
     };
-    let (part, parts) = match words.get(1) {
-        None => (1, 1),
-        Some(word) => {
+    let mut asked = Asked { run, part: 1, parts: 1, seed: 0 };
+    for word in more {
+        if let Some(seed) = word.strip_prefix("seed=") {
+            asked.seed = seed.parse().ok()?;
+        } else {
             let (part, parts) = word.split_once('/')?;
-            (part.parse().ok()?, parts.parse().ok()?)
+            (asked.part, asked.parts) = (part.parse().ok()?, parts.parse().ok()?);
         }
-    };
-    (1..=parts).contains(&part).then_some((run, part, parts))
+    }
+    (1..=asked.parts).contains(&asked.part).then_some(asked)
 }
 
 /// The rounds are dealt to the parts; the lists of awkward doubles are dealt to the workers one by one.
@@ -77,9 +90,9 @@ fn part_of(size: Size, part: usize, parts: usize) -> Size {
 }
 
 /// One worker's part of everything.
-fn share(size: Size, worker: usize, workers: usize) -> Tally {
+fn share(size: Size, worker: Worker) -> Tally {
     let mut t = Tally::default();
-    if worker == 0 {
+    if worker.number == 0 {
         lengths(&mut t);
         no_bases(&mut t);
         PARTS.iter().for_each(|part| (part.once)(&mut t));
@@ -87,15 +100,15 @@ fn share(size: Size, worker: usize, workers: usize) -> Tally {
     let mut all = Vec::new();
     for n in 0..4 {
         all.clear();
-        each_tuple(&AWKWARD[..4], n, &mut all, &mut |cv| short(&mut t, cv, &AWKWARD[..6], worker, workers));
+        each_tuple(&AWKWARD[..4], n, &mut all, &mut |cv| short(&mut t, cv, &AWKWARD[..6], worker));
     }
     for n in 4..9 {
         let of = [size.awkward, 8, 5, 4, 3][n - 4].min(size.awkward);
         all.clear();
         let ats = &AWKWARD[..if n == 4 { size.awkward } else { 12 }];
-        each_tuple(&AWKWARD[..of], n, &mut all, &mut |cv| short(&mut t, cv, ats, worker, workers));
+        each_tuple(&AWKWARD[..of], n, &mut all, &mut |cv| short(&mut t, cv, ats, worker));
     }
-    let mut r = Rng(worker as u64 + 1);
+    let mut r = worker.generator();
     for _ in 0..size.rounds {
         for k in SEGMENTS {
             for b in 0..6 {
@@ -119,9 +132,9 @@ fn each_tuple(of: &[f64], n: usize, so_far: &mut Vec<f64>, f: &mut impl FnMut(&[
 }
 
 /// Everything that can be asked of these few knots; little where the length alone decides.
-fn short(t: &mut Tally, knots: &[f64], ats: &[f64], worker: usize, workers: usize) {
+fn short(t: &mut Tally, knots: &[f64], ats: &[f64], worker: Worker) {
     let sum = knots.iter().fold(0u64, |h, k| (h ^ k.to_bits()).wrapping_mul(0x9E37_79B9_7F4A_7C15));
-    if (sum >> 40) as usize % workers != worker {
+    if (sum >> 40) as usize % worker.of != worker.number {
         return;
     }
     for b in 0..6 {
@@ -144,7 +157,7 @@ fn short(t: &mut Tally, knots: &[f64], ats: &[f64], worker: usize, workers: usiz
             compare::convert_spline(t, b, to, knots, room);
             compare::convert_segment(t, b, to, knots, [4, 5, 3, 0][(sum >> 52) as usize % 4]);
         }
-        PARTS.iter().for_each(|part| (part.knots)(t, &mut Rng(sum), b, knots));
+        PARTS.iter().for_each(|part| (part.knots)(t, &mut Rng(sum ^ scattered(worker.seed)), b, knots));
     }
 }
 
