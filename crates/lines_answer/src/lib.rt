@@ -38,7 +38,7 @@ pub struct SessionReply {
 }
 
 // The value at x.
-fn value_at(b: Basis, x: f64, knots: &[f64]) -> LineReply
+pub fn value_at(b: Basis, x: f64, knots: &[f64]) -> LineReply
     ensures reply { λ r. ⌜ ((l : List Float) → replyOf r l ≡ valueReply (splineOf b x (now (knots .entry)))) ⌝ }
     ensures lent { λ r. ⌜ lentOf r ≡ 0 ⌝ }
 {
@@ -107,7 +107,7 @@ fn bad_line(h: Session) -> SessionReply
 }
 
 // A record before the first curve.
-fn first(r: Record, table: &[f64], converted: &[f64]) -> SessionReply
+pub fn first(r: Record, table: &[f64], converted: &[f64]) -> SessionReply
     ensures { λ a. ⌜ Answers none r a (now (table .entry)) (now (converted .entry)) ⌝ }
 {
     match r {
@@ -126,7 +126,7 @@ fn first(r: Record, table: &[f64], converted: &[f64]) -> SessionReply
 }
 
 // A knot, where n stand in the table: into the next place, if there is one.
-fn add(t: Table, m: EndsBy, n: usize, x: f64, table: &mut [f64]) -> SessionReply
+pub fn add(t: Table, m: EndsBy, n: usize, x: f64, table: &mut [f64]) -> SessionReply
     requires count { ⌜ n ≤ places ⌝ }
     requires table { ⌜ length (now table) ≡ places ⌝ }
     ensures { λ a. ⌜ ((l : List Float) → Answers (on t m (take n (now (table .entry)))) (Knot x) a (now (table .exit)) l) ⌝ }
@@ -147,7 +147,14 @@ fn add(t: Table, m: EndsBy, n: usize, x: f64, table: &mut [f64]) -> SessionReply
 }
 
 // A span: in place of the one before, if it is good.
-fn spanned(t: Table, m: EndsBy, n: usize, s: u32, table: &[f64], converted: &[f64]) -> SessionReply
+pub fn spanned(
+    t: Table,
+    m: EndsBy,
+    n: usize,
+    s: u32,
+    table: &[f64],
+    converted: &[f64],
+) -> SessionReply
     requires { ⌜ n ≤ places ⌝ }
     ensures { λ a. ⌜ Answers (on t m (take n (now (table .entry)))) (Span s) a (now (table .entry)) (now (converted .entry)) ⌝ }
 {

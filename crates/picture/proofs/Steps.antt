@@ -1,4 +1,4 @@
--- The loops over points and knots, a pass at a time. Assumes nothing.
+-- The loops over points and knots, a pass at a time; what a record brings. Assumes nothing.
 use mathlib.Core.Path.{_≡_, refl}
 use mathlib.Core.List.{List}
 use Prim.Native.Nat.{ℕ, _+_}
@@ -12,15 +12,22 @@ use Rattle.picture_scale.specs.declared.Extent.{Extent}
 use Rattle.picture_scale.specs.Scale.{curveHeight, columnOf}
 use Rattle.picture_scale.specs.Words.{pointText}
 use Rattle.picture_notes.specs.declared.Fault.{Fault}
-use Rattle.picture_finds.specs.declared.Finds.{Finds}
-use Rattle.lines_answer.specs.Answer.{Curve}
+use Rattle.picture_notes.specs.declared.Fault.the-variants as F
+use Rattle.convert.specs.Conversion.{convertUses, convertedOf}
+use Rattle.error.specs.declared.Refusal.{Refusal}
+use Rattle.error.specs.declared.Verdict.the-variants.{Passed, Failed}
+use Rattle.error.specs.Refusals.{first}
+use Rattle.lines_answer.specs.Answer.{places, Curve, curveReply, replyTo}
 use Rattle.lines_answer.specs.Contract.{curveOf, Answers}
 use Rattle.lines_answer.specs.declared.SessionReply.{SessionReply}
 use Rattle.lines_machine.specs.Program.{Line}
 use Rattle.lines_reply.specs.Contract.{replyOf}
 use Rattle.lines.specs.Lines.{says}
 use Rattle.lines_record.specs.declared.Record.{Record}
-use Rattle.picture.specs.Program.{findsAfter, faultAfter, drawn}
+use Rattle.lines_record.specs.declared.Record.the-variants.{Curve as CurveOf, Span, Knot, Ends, At, Find, Turn, Bad}
+use Rattle.lines_reply.specs.Reply.{Reply}
+use Rattle.picture.specs.Program.{findsAfter, toldOf, faultIn, faultAfter, drawn}
+use Rattle.picture.specs.Contract.{Takes}
 use Rattle.picture.specs.Picture.{pointsText, knotText, knotsText}
 
 pub no-points : (b : Basis) (ks : List Float) (e : Extent) (p : ℕ) {o : List ℕ} {at : ℕ} → Wrote o at (pointsText b ks e p 0) o at
@@ -42,8 +49,34 @@ module _ (b : Basis) (ks : List Float) (e : Extent) {o o₁ o₂ : List ℕ} {at
   unfolding knotsText
   knots-go-on j s t = rw (add-one j) (then s t)
 
--- what is drawn after a line, part by part
-pub drawn-so : (o : Line) (f₀ : Finds) (g₀ : Fault) {r : Record} {c : Curve} {f : Finds} {g : Fault} {a : SessionReply} {table converted : List Float}
-    → r ≡ says o → Answers c r a table converted → f ≡ findsAfter f₀ r → ((l : List Float) → g ≡ faultAfter g₀ r (replyOf (a .told) l))
+-- ---- a record that was answered, or would have been
+pub answered : {c : Curve} {r : Record} {a : SessionReply} {table : List Float} → Answers c r a table table → toldOf c r ≡ replyTo c r → Takes c r a table
+answered {c} {r} {a} {table} w e = record { held = w .held; told = λ f. rw (w .told, e) refl; few = w .few }
+
+-- a conversion that would be refused is, and any other brings no fault
+pub not-turned : (b c : Basis) (ks : List Float) (f : Fault) (s : ℕ) → first (convertUses b c ks places) ≡ Passed
+    → f ≡ faultIn f (curveReply s c (convertedOf b c ks places))
+unfolding convertedOf
+not-turned b c ks f s e = rw e refl
+
+pub turn-refused : (b c : Basis) (ks : List Float) (f : Fault) (s : ℕ) (r : Refusal) → first (convertUses b c ks places) ≡ Failed r
+    → F.Is r ≡ faultIn f (curveReply s c (convertedOf b c ks places))
+unfolding convertedOf
+turn-refused b c ks f s r e = rw e refl
+
+-- ---- what is drawn after a line, part by part
+fault-so : (f : Fault) (r : Record) (a a′ : Reply) → ((g : Fault) → faultIn g a ≡ faultIn g a′) → faultAfter f r a ≡ faultAfter f r a′
+fault-so f (CurveOf c) a a′ h = refl
+fault-so f (Span s) a a′ h = h f
+fault-so f (Knot x) a a′ h = h f
+fault-so f (Ends k) a a′ h = h f
+fault-so f (At x) a a′ h = h f
+fault-so f (Find y) a a′ h = h f
+fault-so f (Turn c) a a′ h = h f
+fault-so f Bad a a′ h = h f
+
+pub drawn-so : (o : Line) (f₀ : List Float) (g₀ : Fault) {r : Record} {c : Curve} {f : List Float} {g : Fault} {a : SessionReply} {table : List Float}
+    → r ≡ says o → Takes c r a table → f ≡ findsAfter f₀ r → ((l : List Float) → g ≡ faultAfter g₀ r (replyOf (a .told) l))
     → record { curve = curveOf (a .held) table; finds = f; fault = g } ≡ drawn (record { curve = c; finds = f₀; fault = g₀ }) (says o)
-drawn-so o f₀ g₀ {r} {c} {f} {g} {a} {table} {converted} e w v u = rw (← e, w .held, v, u converted, w .told) refl
+drawn-so o f₀ g₀ {r} {c} {f} {g} {a} {table} e w v u =
+    rw (← e, w .held, v, u table, fault-so g₀ r (replyOf (a .told) table) (toldOf c r) (w .told)) refl

@@ -18,7 +18,6 @@ use Rattle.picture_scale.specs.Words.{pointText, dotText}
 use Rattle.picture_axes.specs.Axes.{depthsText, stretchOf, timesText, timeName}
 use Rattle.picture_notes.specs.declared.Fault.{Fault}
 use Rattle.picture_notes.specs.Notes.{noteText, faultText}
-use Rattle.picture_finds.specs.declared.Finds.{Finds}
 use Rattle.picture_finds.specs.Finds.{findsText}
 
 -- ---- the curve and the knots
@@ -37,20 +36,20 @@ unfoldable pub knotsText : Basis → List Float → Extent → ℕ → List ℕ
 knotsText b ks e zero = []
 knotsText b ks e (suc j) = knotsText b ks e j ++ knotText b (length ks) e j (getD ks j nan)
 
--- ---- the whole
+-- ---- the whole: the knots ks, and the targets l asked of them
 
-unfoldable pub curveText : EndsBy → Basis → List Float → Finds → List ℕ
-curveText m b ks f =
+unfoldable pub curveText : EndsBy → Basis → List Float → List Float → List ℕ
+curveText m b ks l =
     let n = length ks in let e = extentOf b ks in let s = stepOf 16 (e .hi - e .lo) in
     depthsText e s (aboveOf (e .lo) s)
     ++ bytes "<path class=\"k\" d=\"" ++ knotsText b ks e n
     ++ bytes "\"/>\n<polyline class=\"c\" points=\"" ++ pointsText b ks e (piecesOf b n) (piecesOf b n + 1) ++ bytes "\"/>\n"
-    ++ findsText m b ks e f
+    ++ findsText m b ks e l (length l)
 
 -- the curve, unless the table is refused
-abbrev pub bodyIn : EndsBy → Basis → List Float → Finds → Evaluation → List ℕ
-bodyIn m b ks f (E.Value v) = curveText m b ks f
-bodyIn m b ks f (E.Refused r) = noteText b (length ks) 0 (bytes "table") r
+abbrev pub bodyIn : EndsBy → Basis → List Float → List Float → Evaluation → List ℕ
+bodyIn m b ks l (E.Value v) = curveText m b ks l
+bodyIn m b ks l (E.Refused r) = noteText b (length ks) 0 (bytes "table") r
 
 unfoldable pub headText : List ℕ
 headText =
@@ -62,7 +61,7 @@ headText =
     ".p{stroke:#2e9e5b;stroke-width:120;stroke-linecap:round}.r{stroke:#e5484d;stroke-dasharray:60 40}text.r{fill:#e5484d;stroke:none}</style>\n"
     ++ bytes "<path d=\"M1000,400V5400H9600\"/><text x=\"1000\" y=\"300\">depth</text><text class=\"e\" x=\"9600\" y=\"5850\">"
 
-unfoldable pub pictureText : Table → EndsBy → List Float → Finds → Fault → List ℕ
-pictureText t m ks f fault =
+unfoldable pub pictureText : Table → EndsBy → List Float → List Float → Fault → List ℕ
+pictureText t m ks l fault =
     headText ++ timeName (t .span) ++ timesText (t .span) (stepOf 16 (stretchOf (t .span)))
-    ++ bodyIn m (t .basis) ks f (splineOf (t .basis) nought ks) ++ faultText (t .basis) (length ks) fault ++ bytes "</svg>\n"
+    ++ bodyIn m (t .basis) ks l (splineOf (t .basis) nought ks) ++ faultText (t .basis) (length ks) fault ++ bytes "</svg>\n"

@@ -4,6 +4,7 @@ ghost use lib.ListN.{length};
 ghost use Rattle.text.specs.Wrote.{Wrote};
 ghost use Rattle.lines_reply.specs.Contract.{longest};
 ghost use Rattle.picture_scale.specs.Bounds.{Open};
+ghost use Rattle.picture_finds.specs.Contract.{targetsOf};
 ghost use Rattle.picture.specs.Picture.{pointsText, knotText, knotsText, curveText, bodyIn, headText, pictureText};
 use basis::Basis;
 use inverse_order::EndsBy;
@@ -69,7 +70,7 @@ fn put_knots(out: &mut [u8], at: usize, b: Basis, knots: &[f64], e: Extent) -> u
 fn put_curve(out: &mut [u8], at: usize, m: EndsBy, b: Basis, knots: &[f64], f: Finds) -> usize
     requires most { ⌜ length (now knots) ≤ 4096 ⌝ }
     requires room { ⌜ at + 75000 ≤ length (now out) ⌝ }
-    ensures text { λ r. ⌜ Wrote (now (out .entry)) at (curveText m b (now (knots .entry)) f) (now (out .exit)) r ⌝ }
+    ensures text { λ r. ⌜ Wrote (now (out .entry)) at (curveText m b (now (knots .entry)) (targetsOf f)) (now (out .exit)) r ⌝ }
     ensures short { λ r. ⌜ r ≤ at + 75000 ⌝ }
 {
     let e = picture_scale::extent_of(b, knots);
@@ -103,7 +104,7 @@ fn put_body(
 ) -> usize
     requires most { ⌜ length (now knots) ≤ 4096 ⌝ }
     requires room { ⌜ at + 75000 ≤ length (now out) ⌝ }
-    ensures text { λ r. ⌜ Wrote (now (out .entry)) at (bodyIn m b (now (knots .entry)) f v) (now (out .exit)) r ⌝ }
+    ensures text { λ r. ⌜ Wrote (now (out .entry)) at (bodyIn m b (now (knots .entry)) (targetsOf f) v) (now (out .exit)) r ⌝ }
     ensures short { λ r. ⌜ r ≤ at + 75000 ⌝ }
 {
     match v {
@@ -164,7 +165,7 @@ pub fn put_picture(
 ) -> usize
     requires most { ⌜ length (now knots) ≤ 4096 ⌝ }
     requires room { ⌜ at + longest ≤ length (now out) ⌝ }
-    ensures text { λ r. ⌜ Wrote (now (out .entry)) at (pictureText t m (now (knots .entry)) f fault) (now (out .exit)) r ⌝ }
+    ensures text { λ r. ⌜ Wrote (now (out .entry)) at (pictureText t m (now (knots .entry)) (targetsOf f) fault) (now (out .exit)) r ⌝ }
     ensures short { λ r. ⌜ r ≤ at + longest ⌝ }
 {
     let b = t.basis;

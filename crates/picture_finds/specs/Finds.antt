@@ -1,10 +1,9 @@
 -- The last targets asked, and each find as bytes: the place, or the refusal. Definitions only.
-use mathlib.Core.Bool.{Bool, true, false, cond}
-use mathlib.Core.List.{List, [], _++_}
-use Prim.Native.Nat.{ℕ, _+_, _-_, min}
-use lib.Dec.{leb}
-use lib.ListN.{length}
-use lib.Ieee.{Float}
+use mathlib.Core.Bool.{Bool, true, false}
+use mathlib.Core.List.{List, [], _∷_, _++_}
+use Prim.Native.Nat.{ℕ, zero, suc, _+_}
+use lib.ListN.{length, take, getD}
+use lib.Ieee.{Float, nan}
 use Rattle.basis.specs.declared.Basis.{Basis}
 use Rattle.basis.specs.declared.Basis.the-variants.{Bspline, Bezier, CatmullRom, Hermite, Linear, Power}
 use Rattle.error.specs.declared.Refusal.the-variants.{OffCurve}
@@ -22,15 +21,10 @@ use Rattle.picture_scale.specs.declared.Extent.{Extent}
 use Rattle.picture_scale.specs.Scale.{heightOf, rowOf}
 use Rattle.picture_scale.specs.Words.{numbered}
 use Rattle.picture_notes.specs.Notes.{noteText}
-use Rattle.picture_finds.specs.declared.Finds.{Finds}
 
 -- y before the seven latest
-abbrev pub asked : Float → Finds → Finds
-asked y f = record { n = min 8 (f .n + 1); a = y; b = f .a; c = f .b; d = f .c; e = f .d; f = f .e; g = f .f; h = f .g }
-
--- none of them counts
-abbrev pub cleared : Finds → Finds
-cleared f = record { n = 0; a = f .a; b = f .b; c = f .c; d = f .d; e = f .e; f = f .f; g = f .g; h = f .h }
+abbrev pub asked : Float → List Float → List Float
+asked y l = take 8 (y ∷ l)
 
 -- ---- what is drawn of them
 
@@ -66,13 +60,11 @@ inDepths Power = false
 abbrev pub drawnOf : EndsBy → Basis → Float → List Float → Inversion
 drawnOf m b y ks = inverseBy m Steady b y ks (inDepths b) steadyLimit defaultPrecision
 
--- the find of y in a slot, if it is one of the n that were asked
-abbrev pub findText : EndsBy → Basis → List Float → Extent → ℕ → ℕ → Float → List ℕ
-findText m b ks e n slot y = cond (leb n (slot - 2)) [] (findIn b (length ks) e slot y (drawnOf m b y ks))
+-- the find of y, in a slot of its own
+abbrev pub findText : EndsBy → Basis → List Float → Extent → ℕ → Float → List ℕ
+findText m b ks e slot y = findIn b (length ks) e slot y (drawnOf m b y ks)
 
--- the last eight
-abbrev pub findsText : EndsBy → Basis → List Float → Extent → Finds → List ℕ
-findsText m b ks e f =
-    findText m b ks e (f .n) 2 (f .a) ++ findText m b ks e (f .n) 3 (f .b) ++ findText m b ks e (f .n) 4 (f .c)
-    ++ findText m b ks e (f .n) 5 (f .d) ++ findText m b ks e (f .n) 6 (f .e) ++ findText m b ks e (f .n) 7 (f .f)
-    ++ findText m b ks e (f .n) 8 (f .g) ++ findText m b ks e (f .n) 9 (f .h)
+-- the first i of those that were asked
+unfoldable pub findsText : EndsBy → Basis → List Float → Extent → List Float → ℕ → List ℕ
+findsText m b ks e l zero = []
+findsText m b ks e l (suc i) = findsText m b ks e l i ++ findText m b ks e (i + 2) (getD l i nan)

@@ -1,12 +1,12 @@
 // The last eight targets asked, and what is drawn of each, the place or the refusal.
 ghost use mathlib.Core.Path.{_≡_};
+ghost use mathlib.Core.List.{[]};
 ghost use Prim.Native.Nat.{_≤_, _+_, min};
 ghost use lib.ListN.{length};
 ghost use Rattle.text.specs.Wrote.{Wrote};
 ghost use Rattle.picture_scale.specs.Bounds.{Open};
 ghost use Rattle.picture_finds.specs.Finds.{
   asked,
-  cleared,
   placeColumn,
   markText,
   placeText,
@@ -15,6 +15,7 @@ ghost use Rattle.picture_finds.specs.Finds.{
   findText,
   findsText,
 };
+ghost use Rattle.picture_finds.specs.Contract.{targetsOf};
 use basis::Basis;
 use error::Refusal;
 use inverse::Options;
@@ -27,17 +28,18 @@ use inverse_segment::STEADY_LIMIT;
 use picture_scale::Extent;
 use picture_scale::words::put_number;
 
-// The last targets asked, `a` the latest; n of them, at most eight.
+// The last targets asked, the latest first; n of them, at most eight.
 pub struct Finds {
     pub n: usize,
-    pub a: f64,
-    pub b: f64,
-    pub c: f64,
-    pub d: f64,
-    pub e: f64,
-    pub f: f64,
-    pub g: f64,
-    pub h: f64,
+    pub ys: [f64; 8],
+}
+
+// None was asked.
+pub fn none() -> Finds
+    ensures { λ r. ⌜ targetsOf r ≡ [] ⌝ }
+{
+    let ys = [0.0; 8];
+    Finds { n: 0, ys: ys }
 }
 
 fn one_more(n: usize) -> usize
@@ -46,38 +48,14 @@ fn one_more(n: usize) -> usize
     if n < 8 { n + 1 } else { 8 }
 }
 
-// None of them counts.
-pub fn clear(f: Finds) -> Finds
-    ensures { λ r. ⌜ r ≡ cleared f ⌝ }
-{
-    Finds {
-        n: 0,
-        a: f.a,
-        b: f.b,
-        c: f.c,
-        d: f.d,
-        e: f.e,
-        f: f.f,
-        g: f.g,
-        h: f.h,
-    }
-}
-
 // y before the seven latest.
 pub fn ask(y: f64, f: Finds) -> Finds
-    ensures { λ r. ⌜ r ≡ asked y f ⌝ }
+    ensures { λ r. ⌜ targetsOf r ≡ asked y (targetsOf f) ⌝ }
 {
-    Finds {
-        n: one_more(f.n),
-        a: y,
-        b: f.a,
-        c: f.b,
-        d: f.c,
-        e: f.d,
-        f: f.e,
-        g: f.f,
-        h: f.g,
-    }
+    let n = one_more(f.n);
+    let l = f.ys;
+    let ys = [y, l[0], l[1], l[2], l[3], l[4], l[5], l[6]];
+    Finds { n: n, ys: ys }
 }
 
 fn place_column(x: f64) -> u64
@@ -164,21 +142,16 @@ fn put_find(
     b: Basis,
     knots: &[f64],
     e: Extent,
-    n: usize,
     slot: u64,
     y: f64,
 ) -> usize
     requires most { ⌜ length (now knots) ≤ 4096 ⌝ }
     requires open { ⌜ Open e ⌝ }
-    requires finds { ⌜ 2 ≤ slot ⌝ }
     requires slot { ⌜ slot ≤ 9 ⌝ }
     requires room { ⌜ at + 160 ≤ length (now out) ⌝ }
-    ensures text { λ r. ⌜ Wrote (now (out .entry)) at (findText m b (now (knots .entry)) e n slot y) (now (out .exit)) r ⌝ }
+    ensures text { λ r. ⌜ Wrote (now (out .entry)) at (findText m b (now (knots .entry)) e slot y) (now (out .exit)) r ⌝ }
     ensures short { λ r. ⌜ r ≤ at + 160 ⌝ }
 {
-    if n as u64 <= slot - 2 {
-        return at;
-    }
     let o = Options {
         check: is_in_depths(b),
         limit: STEADY_LIMIT,
@@ -211,16 +184,18 @@ pub fn put_finds(
     requires most { ⌜ length (now knots) ≤ 4096 ⌝ }
     requires open { ⌜ Open e ⌝ }
     requires room { ⌜ at + 1280 ≤ length (now out) ⌝ }
-    ensures text { λ r. ⌜ Wrote (now (out .entry)) at (findsText m b (now (knots .entry)) e f) (now (out .exit)) r ⌝ }
+    ensures text { λ r. ⌜ Wrote (now (out .entry)) at (findsText m b (now (knots .entry)) e (targetsOf f) (length (targetsOf f))) (now
+        (out .exit)) r ⌝ }
     ensures short { λ r. ⌜ r ≤ at + 1280 ⌝ }
 {
-    let n = f.n;
-    let a1 = put_find(&mut *out, at, m, b, knots, e, n, 2, f.a);
-    let a2 = put_find(&mut *out, a1, m, b, knots, e, n, 3, f.b);
-    let a3 = put_find(&mut *out, a2, m, b, knots, e, n, 4, f.c);
-    let a4 = put_find(&mut *out, a3, m, b, knots, e, n, 5, f.d);
-    let a5 = put_find(&mut *out, a4, m, b, knots, e, n, 6, f.e);
-    let a6 = put_find(&mut *out, a5, m, b, knots, e, n, 7, f.f);
-    let a7 = put_find(&mut *out, a6, m, b, knots, e, n, 8, f.g);
-    put_find(out, a7, m, b, knots, e, n, 9, f.h)
+    let n = doubles::whole::lesser(8, f.n);
+    let ys = f.ys;
+    let mut i = 0;
+    let mut a = at;
+    while i < n {
+        let y = ys[i];
+        a = put_find(&mut *out, a, m, b, knots, e, (i + 2) as u64, y);
+        i += 1;
+    }
+    a
 }

@@ -7,16 +7,9 @@ ghost use Rattle.lines_reply.specs.Contract.{longest};
 ghost use Rattle.lines_answer.specs.Answer.{places};
 
 // The whole input; its end is written where nothing failed.
-fn whole(
-    chunk: &mut [u8],
-    begun: &mut [u8],
-    table: &mut [f64],
-    converted: &mut [f64],
-    out: &mut [u8],
-)
+fn whole(chunk: &mut [u8], begun: &mut [u8], table: &mut [f64], out: &mut [u8])
     requires begun { ⌜ length (now begun) ≡ widest ⌝ }
     requires table { ⌜ length (now table) ≡ places ⌝ }
-    requires converted { ⌜ length (now converted) ≡ places ⌝ }
     requires room { ⌜ longest ≤ length (now out) ⌝ }
 {
     let mut st = picture::begin();
@@ -25,19 +18,18 @@ fn whole(
     while left > 0 {
         let got = stream::read(&mut *chunk);
         let n = got.n;
-        st = picture::feed(st, &chunk[0..n], &mut *begun, &mut *table, &mut *converted);
+        st = picture::feed(st, &chunk[0..n], &mut *begun, &mut *table);
         fine = got.fine;
         left = stream::left(left, got.more);
     }
-    let at = picture::finish(st, &begun[..], table, converted, &mut *out);
+    let at = picture::finish(st, &begun[..], table, &mut *out);
     stream::written(fine, &out[0..at]);
 }
 
 fn main() {
     let mut table = [0.0; 4096];
-    let mut converted = [0.0; 4096];
     let mut begun = [0u8; 64];
     let mut chunk = [0u8; 65536];
     let mut out = [0u8; 90145];
-    whole(&mut chunk, &mut begun, &mut table, &mut converted, &mut out);
+    whole(&mut chunk, &mut begun, &mut table, &mut out);
 }

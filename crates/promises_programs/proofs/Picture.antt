@@ -6,9 +6,19 @@ use denote.Ref.{now}
 use lib.ListN.{take}
 use lib.Ieee.{Float}
 use Rattle.picture.specs.declared.PictureReader.{PictureReader}
-use Rattle.picture.specs.Program.{nothingDrawn, endsWith, pictureProgram}
+use Rattle.picture.specs.Program.{Drawing, nothingDrawn, toldOf, faultAfter, endsWith, pictureProgram}
 use Rattle.picture.specs.Contract.{stateOf}
-use Rattle.lines_machine.specs.Program.{linesOf, outputOf}
+use Rattle.error.specs.declared.Refusal.{Refusal}
+use Rattle.error.proofs.First.{never}
+use Rattle.inverse_order.specs.declared.EndsBy.{EndsBy}
+use Rattle.lines.specs.Lines.{says}
+use Rattle.lines_answer.specs.Answer.{Curve, none, on, replyTo}
+use Rattle.lines_record.specs.declared.Record.{Record}
+use Rattle.lines_record.specs.declared.Record.the-variants.{Curve as CurveOf, Span, Knot, Ends, At, Find, Turn, Bad}
+use Rattle.lines_reply.specs.Reply.{refused}
+use Rattle.picture_notes.specs.declared.Fault.the-variants.{Is}
+use Rattle.table_span.specs.declared.Table.{Table}
+use Rattle.lines_machine.specs.Program.{Line, linesOf, outputOf}
 use Rattle.lines_machine.specs.Contract.{So}
 use Rattle.lines_machine.proofs.Feeding.{so-none, so-fed, so-ended}
 use Rattle.picture.proofs.begin.Reads as begin
@@ -26,7 +36,7 @@ pub data PictureSoFar : PictureReader → List ℕ → List Float → List ℕ �
 -- a whole run: the input is x, and all that the calls wrote, once the last has returned, is y
 pub data PictureRun : List ℕ → List ℕ → Type 0 where
   ended : (κs : _) (a : _) (z : _) (e : _) → finish.Learnt κs a z e → (x w : List ℕ) → PictureSoFar (a .0) (now (a .1 .0)) (now (a .1 .1 .0)) x w
-      → PictureRun x (w ++ take z (now (e .1 .1 .1 .1 .0)))
+      → PictureRun x (w ++ take z (now (e .1 .1 .1 .0)))
 
 so-far : (st : PictureReader) (line : List ℕ) (table : List Float) (x w : List ℕ) → PictureSoFar st line table x w
     → So pictureProgram nothingDrawn (stateOf st line table) x w
@@ -45,10 +55,36 @@ pub picture-feed-one-reply : OneReply feed.Learnt (λ κs z e z′ e′. stateOf
     (now (e′ .1 .1 .1 .0)))
 picture-feed-one-reply κs a z z′ e e′ p q = one (p .0 .state) (q .0 .state)
 
-pub picture-finish-one-reply : OneReply finish.Learnt (λ κs z e z′ e′. (z ≡ z′) × (now (e .1 .1 .1 .1 .0) ≡ now (e′ .1 .1 .1 .1 .0)))
+pub picture-finish-one-reply : OneReply finish.Learnt (λ κs z e z′ e′. (z ≡ z′) × (now (e .1 .1 .1 .0) ≡ now (e′ .1 .1 .1 .0)))
 picture-finish-one-reply κs a z z′ e e′ p q = wrote-one (p .0) (q .0)
 
 -- ---- bytes in, bytes out: the picture of what the whole listing leaves, and nothing before it
 pub picture-drawn : (x y : List ℕ) → PictureRun x y
     → (let d = stateAfter pictureProgram nothingDrawn (linesOf x) in y ≡ endsWith (d .curve) (d .finds) (d .fault))
 picture-drawn x y r = picture-writes x y r ∙ printed-at-the-end pictureProgram (λ s o. refl) nothingDrawn x
+
+-- ---- refusals
+-- a line that the line program refuses is the fault, but for a find of a curve: that is drawn at the end, as a place or as a refusal
+pub refused-told : (d : Drawing) (o : Line) (r : Refusal) → replyTo (d .curve) (says o) ≡ refused r
+    → ((t : Table) (m : EndsBy) (ks : List Float) (y : Float) → d .curve ≡ on t m ks → says o ≡ Find y → ⊥) → pictureProgram .after d o .fault ≡ Is r
+refused-told d o r h n = told (d .curve) (says o) h n
+  where
+    told : (c : Curve) (q : Record) → replyTo c q ≡ refused r → ((t : Table) (m : EndsBy) (ks : List Float) (y : Float) → c ≡ on t m ks → q ≡ Find y → ⊥)
+        → faultAfter (d .fault) q (toldOf c q) ≡ Is r
+    unfolding replyTo
+    told none (CurveOf b) h n = never (cc)
+    told none (Span s) h n = rw h refl
+    told none (Knot x) h n = rw h refl
+    told none (Ends k) h n = rw h refl
+    told none (At x) h n = rw h refl
+    told none (Find y) h n = rw h refl
+    told none (Turn b) h n = rw h refl
+    told none Bad h n = rw h refl
+    told (on t m ks) (CurveOf b) h n = never (cc)
+    told (on t m ks) (Span s) h n = rw h refl
+    told (on t m ks) (Knot x) h n = rw h refl
+    told (on t m ks) (Ends k) h n = never (cc)
+    told (on t m ks) (At x) h n = rw h refl
+    told (on t m ks) (Find y) h n = absurd (n t m ks y refl refl)
+    told (on t m ks) (Turn b) h n = rw h refl
+    told (on t m ks) Bad h n = rw h refl

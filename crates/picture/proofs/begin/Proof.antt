@@ -1,13 +1,15 @@
--- Every field is the definition's.
+-- Nothing is read, and nothing was asked.
 use mathlib.Core.Path.{refl}
 use native.Mathlib.Omega.{arith}
-use lib.Ieee.{ofBits}
+use borrow.Author.Needs.{needs}
 use Rattle.picture.proofs.begin.Statement.{statement}
 use Rattle.picture.proofs.begin.Tie as tie
 
+none-requires : tie.Need-none-requires
+none-requires c κs = search needs
+
 returns : tie.Need-returns
-unfolding ofBits
-returns c = (λ b t. refl, omega arith)
+returns c = (λ b t. rw (c .none .ensures) refl, omega arith)
 
 pub begin-spec : {M : Type 1} → statement M
-begin-spec = tie.close (tie.spec returns)
+begin-spec = tie.close (tie.spec none-requires returns)

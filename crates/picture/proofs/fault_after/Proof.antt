@@ -34,17 +34,20 @@ fault-in-requires-4 c κs = search needs
 enum-told-6 : tie.Need-enum-told-6
 enum-told-6 c = search needs
 
+fault-in-requires-5 : tie.Need-fault-in-requires-5
+fault-in-requires-5 c κs = search needs
+
 enum-told-7 : tie.Need-enum-told-7
 enum-told-7 c = search needs
 
-fault-in-requires-5 : tie.Need-fault-in-requires-5
-fault-in-requires-5 c κs = search needs
+fault-in-requires-6 : tie.Need-fault-in-requires-6
+fault-in-requires-6 c κs = search needs
 
 enum-told-8 : tie.Need-enum-told-8
 enum-told-8 c = search needs
 
-fault-in-requires-6 : tie.Need-fault-in-requires-6
-fault-in-requires-6 c κs = search needs
+fault-in-requires-7 : tie.Need-fault-in-requires-7
+fault-in-requires-7 c κs = search needs
 
 returns : tie.Need-returns
 returns c = λ l. rw (c .enum-told .given .1) refl
@@ -62,13 +65,13 @@ returns-5 : tie.Need-returns-5
 returns-5 c = λ l. rw (c .before .enum-told5 .given .1) (c .fault-in4 .ensures l)
 
 returns-6 : tie.Need-returns-6
-returns-6 c = λ l. rw (c .enum-told6 .given .1) refl
+returns-6 c = λ l. rw (c .before .enum-told6 .given .1) (c .fault-in5 .ensures l)
 
 returns-7 : tie.Need-returns-7
-returns-7 c = λ l. rw (c .before .enum-told7 .given .1) (c .fault-in5 .ensures l)
+returns-7 c = λ l. rw (c .before .enum-told7 .given .1) (c .fault-in6 .ensures l)
 
 returns-8 : tie.Need-returns-8
-returns-8 c = λ l. rw (c .before .enum-told8 .given .1) (c .fault-in6 .ensures l)
+returns-8 c = λ l. rw (c .before .enum-told8 .given .1) (c .fault-in7 .ensures l)
 
 pub fault-after-spec : {M : Type 1} → statement M
 fault-after-spec =
@@ -84,10 +87,11 @@ fault-after-spec =
     enum-told-5
     fault-in-requires-4
     enum-told-6
-    enum-told-7
     fault-in-requires-5
-    enum-told-8
+    enum-told-7
     fault-in-requires-6
+    enum-told-8
+    fault-in-requires-7
     returns
     returns-2
     returns-3

@@ -17,16 +17,16 @@ use Rattle.picture.proofs.feed.Statement.{statement}
 use Rattle.picture.proofs.feed.Tie as tie
 
 abbrev Inv-loop : tie.InvT-loop
-Inv-loop chunk begun₀ table₀ converted₀ len₀ held₀ i₀ begun table converted len held i =
-    (i ≤ length chunk) × (length begun ≡ widest) × (length table ≡ places) × (length converted ≡ places) × (countOf held ≤ places)
+Inv-loop chunk begun₀ table₀ len₀ held₀ i₀ begun table len held i =
+    (i ≤ length chunk) × (length begun ≡ widest) × (length table ≡ places) × (countOf held ≤ places)
     × Fed pictureProgram (stateAt (openOf len₀ begun₀) (drawingOf held₀ table₀)) (take i chunk) (stateAt (openOf len begun) (drawingOf held table)) [] 0 [] 0
     × (length chunk < 2 ^ 64)
 
 abbrev μ-loop : tie.MeasureT-loop
-μ-loop chunk begun₀ table₀ converted₀ len₀ held₀ i₀ begun table converted len held i = length chunk - i
+μ-loop chunk begun₀ table₀ len₀ held₀ i₀ begun table len held i = length chunk - i
 
 loop-holds : tie.Need-loop-holds Inv-loop μ-loop
-loop-holds c = (omega arith, omega arith, omega arith, omega arith, search needs, fed-none pictureProgram _ [] 0, omega arith)
+loop-holds c = (omega arith, omega arith, omega arith, search needs, fed-none pictureProgram _ [] 0, omega arith)
 
 cut-requires : tie.Need-cut-requires Inv-loop μ-loop
 cut-requires c κs = search needs
@@ -35,32 +35,24 @@ line-requires : tie.Need-line-requires Inv-loop μ-loop
 line-requires c κs = search needs
 
 add-i : tie.Need-add-i Inv-loop μ-loop
-add-i c = omega (
-  arith,
-  c .before .before .before .before .before .before .before .before .if1 .taken,
-  c .before .before .before .before .before
-      .before .before .before .before .before .before .before .before .before .loop .inv .6,
-)
+add-i c = omega arith
 
 loop-less : tie.Need-loop-less Inv-loop μ-loop
 loop-less c = omega arith
 
 loop-again : tie.Need-loop-again Inv-loop μ-loop
-loop-again c = let x = c .before .before .before .before .before .before .before .before .before .before .before .before .before .before .before
-    .before .before .before .before .before .args .chunk .now in
-    let l = c .before .before .before .before .before .before .before .before .before .before .before .before .before .before .loop in
-    let k = c .before .before .before .before .before .before .before .before .before .before .before .cut in
-    let w = c .before .before .before .before .line .ensures in
-    let t = c .before .before .before .before .before .before .before .before .if1 .taken in (
-      omega (arith, t),
-      omega (arith, l .inv .1),
-      omega (arith, l .inv .2),
-      omega (arith, l .inv .3),
+loop-again c = let x = c .before .before .before .before .before .before .before .before .before .before .before .before .before .before .before .before .args .chunk .now in
+    let l = c .before .before .before .before .before .before .before .before .before .before .before .loop in
+    let k = c .before .before .before .before .before .before .before .before .cut in
+    let w = c .before .before .line .ensures in (
+      omega arith,
+      omega arith,
+      omega arith,
       w .1,
-      fed-line pictureProgram x 0 (k .result .stop) (omega arith) t
-          (fed-stretch pictureProgram x 0 (l .i) (k .result .stop) (omega arith) (l .inv .0) (l .inv .5) (k .ensures)) (k .ensures .end t)
+      fed-line pictureProgram x 0 (k .result .stop) (omega arith) (omega arith)
+          (fed-stretch pictureProgram x 0 (l .i) (k .result .stop) (omega arith) (l .inv .0) (l .inv .4) (k .ensures)) (k .ensures .end (omega arith))
           (w .0) (nothing [] 0),
-      l .inv .6,
+      l .inv .5,
     )
 
 loop-less-2 : tie.Need-loop-less-2 Inv-loop μ-loop
@@ -72,11 +64,9 @@ loop-again-2 c = let l = c .before .before .before .before .before .before .loop
       omega arith,
       omega arith,
       omega arith,
-      omega arith,
-      l .inv .4,
-      fed-stretch pictureProgram (c .before .before .before .before .before .before .before .before .before .before .before
-          .before .args .chunk .now) 0 (l .i) (k .result .stop) (omega arith) (l .inv .0) (l .inv .5) (k .ensures),
-      l .inv .6,
+      l .inv .3,
+      fed-stretch pictureProgram (c .before .before .before .before .before .before .before .before .before .before .before .args .chunk .now) 0 (l .i) (k .result .stop) (omega arith) (l .inv .0) (l .inv .4) (k .ensures),
+      l .inv .5,
     )
 
 same-length : tie.Need-same-length Inv-loop μ-loop
@@ -85,14 +75,11 @@ same-length c = omega arith
 same-length-2 : tie.Need-same-length-2 Inv-loop μ-loop
 same-length-2 c = omega arith
 
-same-length-3 : tie.Need-same-length-3 Inv-loop μ-loop
-same-length-3 c = omega arith
-
 returns : tie.Need-returns Inv-loop μ-loop
 returns c = let l = c .before .loop in (
-  fed-all pictureProgram (c .before .before .before .before .before .before .before .args .chunk .now) (l .i)
-      (omega arith) (l .inv .5),
-  l .inv .4,
+  fed-all pictureProgram (c .before .before .before .before .before .before .args .chunk .now) (l .i)
+      (omega arith) (l .inv .4),
+  l .inv .3,
 )
 
 pub feed-spec : {M : Type 1} → statement M
@@ -111,5 +98,4 @@ feed-spec =
     loop-again-2
     same-length
     same-length-2
-    same-length-3
     returns)

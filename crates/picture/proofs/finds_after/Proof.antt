@@ -7,8 +7,8 @@ use Rattle.picture.proofs.finds_after.Tie as tie
 enum-told : tie.Need-enum-told
 enum-told c = search needs
 
-clear-requires : tie.Need-clear-requires
-clear-requires c κs = search needs
+none-requires : tie.Need-none-requires
+none-requires c κs = search needs
 
 enum-told-2 : tie.Need-enum-told-2
 enum-told-2 c = search needs
@@ -35,7 +35,7 @@ enum-told-7 : tie.Need-enum-told-7
 enum-told-7 c = search needs
 
 returns : tie.Need-returns
-returns c = rw (c .before .enum-told .given .1) (c .clear .ensures)
+returns c = rw (c .before .enum-told .given .1) (c .none .ensures)
 
 returns-2 : tie.Need-returns-2
 returns-2 c = rw (c .enum-told2 .given .1) refl
@@ -63,7 +63,7 @@ finds-after-spec =
     tie.close
     (tie.spec
     enum-told
-    clear-requires
+    none-requires
     enum-told-2
     enum-told-3
     enum-told-4

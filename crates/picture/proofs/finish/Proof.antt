@@ -18,7 +18,7 @@ same-length-2 : tie.Need-same-length-2
 same-length-2 c = search needs
 
 returns : tie.Need-returns
-returns c = let a = c .before .before .before .before .before .before .before .before .before .before .before .args in (
+returns c = let a = c .before .before .before .before .before .before .before .before .before .before .args in (
   end-none pictureProgram (a .st .len) (a .begun .now) (drawingOf (a .st .held) (a .table .now)) (omega arith) (c .before .before .end .ensures .0),
   omega (arith, c .before .before .end .ensures .1),
 )
@@ -35,17 +35,12 @@ same-length-3 c = search needs
 same-length-4 : tie.Need-same-length-4
 same-length-4 c = search needs
 
-same-length-5 : tie.Need-same-length-5
-same-length-5 c = search needs
-
 returns-2 : tie.Need-returns-2
-returns-2 c = let a = c .before .before .before .before .before .before .before .before .before .before .before .before .before .before .before
-    .before .before .before .args in (
-      end-some pictureProgram (a .st .len) (a .begun .now) (drawingOf (a .st .held) (a .table .now)) (omega arith) (c .before .before .before
-          .before .before .before .before .before .before .before .before .before .before .before .before .before .before .before .pre .0)
-          (c .before .before .before .before .before .before .before .before .before .line .ensures .0) (nothing _ _) (c .before .before .end2 .ensures .0),
-      omega (arith, c .before .before .end2 .ensures .1),
-    )
+returns-2 c = let a = c .before .before .before .before .before .before .before .before .before .before .before .before .before .before .args in (
+  end-some pictureProgram (a .st .len) (a .begun .now) (drawingOf (a .st .held) (a .table .now)) (omega arith) (c .before .before .before .before .before .before .before .before .before .before .before .before .before .before .pre .0)
+      (c .before .before .before .before .before .before .before .line .ensures .0) (nothing _ _) (c .before .before .end2 .ensures .0),
+  omega (arith, c .before .before .end2 .ensures .1),
+)
 
 pub finish-spec : {M : Type 1} → statement M
 finish-spec =
@@ -59,5 +54,4 @@ finish-spec =
     end-requires-2
     same-length-3
     same-length-4
-    same-length-5
     returns-2)

@@ -1,273 +1,81 @@
--- Eight finds, one after another.
+-- The invariant: the first i finds stand from `at` on, at most 160 bytes each.
 use borrow.Author.Needs.{needs}
 use native.Mathlib.Omega.{arith}
-use mathlib.Core.Path.{_∙_}
-use Rattle.text.proofs.Writing.{then}
+use mathlib.Core.Path.{_≡_}
+use Prim.Native.Nat.{_+_, _*_, _-_, _≤_}
+use lib.ListN.{length, take, length-take}
+use Rattle.text.specs.Wrote.{Wrote}
+use Rattle.picture_finds.specs.Finds.{findsText}
+use Rattle.picture_finds.proofs.Targets.{at-most-eight, no-finds, finds-go-on}
 use Rattle.picture_finds.proofs.put_finds.Statement.{statement}
 use Rattle.picture_finds.proofs.put_finds.Tie as tie
 
-put-find-requires : tie.Need-put-find-requires
-put-find-requires c κs = search needs
+abbrev Inv-loop : tie.InvT-loop
+Inv-loop out₀ at m b knots e n ys i₀ a₀ out i a = (i ≤ n) × (n ≤ 8) × (a ≤ at + 160 * i) × Wrote out₀ at (findsText m b knots e (take n ys) i) out a
 
-put-find-requires-2 : tie.Need-put-find-requires-2
-put-find-requires-2 c κs = search needs
+abbrev μ-loop : tie.MeasureT-loop
+μ-loop out₀ at m b knots e n ys i₀ a₀ out i a = n - i
 
-put-find-requires-3 : tie.Need-put-find-requires-3
-put-find-requires-3 c κs = search needs
+lesser-requires : tie.Need-lesser-requires Inv-loop μ-loop
+lesser-requires c κs = search needs
 
-put-find-requires-4 : tie.Need-put-find-requires-4
-put-find-requires-4 c κs = search needs
+loop-holds : tie.Need-loop-holds Inv-loop μ-loop
+loop-holds c = (omega arith, omega arith, omega arith, no-finds _ _ _ _ _)
 
-put-find-requires-5 : tie.Need-put-find-requires-5
-put-find-requires-5 c κs = (
-  c .before .before .before .before .before .before .before .before .before .before .before .before .before .before .before .before .before .before
-      .before .pre .0,
-  (
-    c .before .before .before .before .before .before .before .before .before .before .before .before .before .before .before .before .before
-        .before .before .pre .1 .0,
-    (
-      omega arith,
-      (
-        omega arith,
-        omega (
-          arith,
-          c .before .before .before .before .before .before .before .before .before .before .before .before .before .before .before .before
-              .before .before .before .pre .1 .1,
-          c .before .before .before .before .before .before .before .before .before .before .before .before .before .before .before
-              .put-find .ensures .1,
-          c .before .before .before .before .before .before .before .before .before .before .before .put-find2 .ensures .1,
-          c .before .before .before .before .before .before .before .put-find3 .ensures .1,
-          c .before .before .before .put-find4 .ensures .1,
-          c .before .before .before .before .before .before .before .before .before .before .before .before
-              .before .before .before .put-find .ensures .0 .long,
-          c .before .before .before .before .before .before .before .before .before .before .before
-              .put-find2 .ensures .0 .long,
-          c .before .before .before .before .before .before .before .put-find3 .ensures .0 .long,
-          c .before .before .before .put-find4 .ensures .0 .long,
-        ),
-      ),
-    ),
-  ),
+mul-y : tie.Need-mul-y Inv-loop μ-loop
+mul-y c = search needs
+
+array-read-y : tie.Need-array-read-y Inv-loop μ-loop
+array-read-y c = search needs
+
+add-put-find : tie.Need-add-put-find Inv-loop μ-loop
+add-put-find c = search needs
+
+put-find-requires : tie.Need-put-find-requires Inv-loop μ-loop
+put-find-requires c κs = let l = c .before .before .loop in (
+  c .before .before .before .before .before .before .before .pre .0,
+  (c .before .before .before .before .before .before .before .pre .1 .0, (omega (arith, l .inv .1), omega (arith, l .inv .2, l .inv .3 .long))),
 )
 
-put-find-requires-6 : tie.Need-put-find-requires-6
-put-find-requires-6 c κs = (
-  c .before .before .before .before .before .before .before .before .before .before .before .before .before .before .before .before .before .before
-      .before .before .before .before .before .pre .0,
-  (
-    c .before .before .before .before .before .before .before .before .before .before .before .before .before .before .before .before .before
-        .before .before .before .before .before .before .pre .1 .0,
-    (
-      omega arith,
-      (
-        omega arith,
-        omega (
-          arith,
-          c .before .before .before .before .before .before .before .before .before .before .before .before .before .before .before .before
-              .before .before .before .before .before .before .before .pre .1 .1,
-          c .before .before .before .before .before .before .before .before .before .before .before .before .before .before .before
-              .before .before .before .before .put-find .ensures .1,
-          c .before .before .before .before .before .before .before .before .before .before .before .before .before .before
-              .before .put-find2 .ensures .1,
-          c .before .before .before .before .before .before .before .before .before .before .before .put-find3
-              .ensures .1,
-          c .before .before .before .before .before .before .before .put-find4 .ensures .1,
-          c .before .before .before .put-find5 .ensures .1,
-          c .before .before .before .before .before .before .before .before .before .before .before
-              .before .before .before .before .before .before .before .before .put-find .ensures .0 .long,
-          c .before .before .before .before .before .before .before .before .before .before
-              .before .before .before .before .before .put-find2 .ensures .0 .long,
-          c .before .before .before .before .before .before .before .before .before
-              .before .before .put-find3 .ensures .0 .long,
-          c .before .before .before .before .before .before .before .put-find4
-              .ensures .0 .long,
-          c .before .before .before .put-find5 .ensures .0 .long,
-        ),
-      ),
-    ),
-  ),
+add-i : tie.Need-add-i Inv-loop μ-loop
+add-i c = search needs
+
+loop-less : tie.Need-loop-less Inv-loop μ-loop
+loop-less c = omega arith
+
+loop-again : tie.Need-loop-again Inv-loop μ-loop
+loop-again c = let l = c .before .before .before .before .before .loop in (
+  omega arith,
+  l .inv .1,
+  omega (arith, l .inv .2, c .before .before .put-find .ensures .1),
+  finds-go-on _ _ _ _ _ (c .before .before .before .before .before .before .before .lesser .result) (l .i) (omega arith) (l .inv .3) (c .before .before .put-find .ensures .0),
 )
 
-put-find-requires-7 : tie.Need-put-find-requires-7
-put-find-requires-7 c κs = (
-  c .before .before .before .before .before .before .before .before .before .before .before .before .before .before .before .before .before .before
-      .before .before .before .before .before .before .before .before .before .pre .0,
-  (
-    c .before .before .before .before .before .before .before .before .before .before .before .before .before .before .before .before .before
-        .before .before .before .before .before .before .before .before .before .before .pre .1 .0,
-    (
-      omega arith,
-      (
-        omega arith,
-        omega (
-          arith,
-          c .before .before .before .before .before .before .before .before .before .before .before .before .before .before .before .before
-              .before .before .before .before .before .before .before .before .before .before .before .pre .1 .1,
-          c .before .before .before .before .before .before .before .before .before .before .before .before .before .before .before
-              .before .before .before .before .before .before .before .before .put-find .ensures .1,
-          c .before .before .before .before .before .before .before .before .before .before .before .before .before .before
-              .before .before .before .before .before .put-find2 .ensures .1,
-          c .before .before .before .before .before .before .before .before .before .before .before .before .before
-              .before .before .put-find3 .ensures .1,
-          c .before .before .before .before .before .before .before .before .before .before .before .put-find4
-              .ensures .1,
-          c .before .before .before .before .before .before .before .put-find5 .ensures .1,
-          c .before .before .before .put-find6 .ensures .1,
-          c .before .before .before .before .before .before .before .before .before .before
-              .before .before .before .before .before .before .before .before .before .before
-              .before .before .before .put-find .ensures .0 .long,
-          c .before .before .before .before .before .before .before .before .before
-              .before .before .before .before .before .before .before .before .before
-              .before .put-find2 .ensures .0 .long,
-          c .before .before .before .before .before .before .before
-              .before .before .before .before .before .before .before
-              .before .put-find3 .ensures .0 .long,
-          c .before .before .before .before .before .before
-              .before .before .before .before .before
-              .put-find4 .ensures .0 .long,
-          c .before .before .before .before
-              .before .before .before .put-find5
-              .ensures .0 .long,
-          c .before .before .before
-              .put-find6 .ensures .0
-              .long,
-        ),
-      ),
-    ),
-  ),
-)
+same-length : tie.Need-same-length Inv-loop μ-loop
+same-length c = c .before .loop .inv .3 .long
 
-put-find-requires-8 : tie.Need-put-find-requires-8
-put-find-requires-8 c κs = (
-  c .before .before .before .before .before .before .before .before .before .before .before .before .before .before .before .before .before .before
-      .before .before .before .before .before .before .before .before .before .before .before .before .before .pre .0,
-  (
-    c .before .before .before .before .before .before .before .before .before .before .before .before .before .before .before .before .before
-        .before .before .before .before .before .before .before .before .before .before .before .before .before .before .pre .1 .0,
-    (
-      omega arith,
-      (
-        omega arith,
-        omega (
-          arith,
-          c .before .before .before .before .before .before .before .before .before .before .before .before .before .before .before
-              .before .before .before .before .before .before .before .before .before .before .before .before .before .before .before
-              .before .pre .1 .1,
-          c .before .before .before .before .before .before .before .before .before .before .before .before .before .before
-              .before .before .before .before .before .before .before .before .before .before .before .before .before
-              .put-find .ensures .1,
-          c .before .before .before .before .before .before .before .before .before .before .before .before
-              .before .before .before .before .before .before .before .before .before .before .before .put-find2
-              .ensures .1,
-          c .before .before .before .before .before .before .before .before .before .before .before
-              .before .before .before .before .before .before .before .before .put-find3 .ensures .1,
-          c .before .before .before .before .before .before .before .before .before .before
-              .before .before .before .before .before .put-find4 .ensures .1,
-          c .before .before .before .before .before .before .before .before .before
-              .before .before .put-find5 .ensures .1,
-          c .before .before .before .before .before .before .before .put-find6
-              .ensures .1,
-          c .before .before .before .put-find7 .ensures .1,
-          c .before .before .before .before .before .before .before
-              .before .before .before .before .before .before .before
-              .before .before .before .before .before .before
-              .before .before .before .before .before .before
-              .before .put-find .ensures .0 .long,
-          c .before .before .before .before
-              .before .before .before .before
-              .before .before .before .before
-              .before .before .before
-              .before .before .before
-              .before .before
-              .before .before
-              .before
-              .put-find2 .ensures .0 .long,
-          c .before .before .before .before .before .before .before .before .before .before .before .before .before .before .before .before .before .before
-              .before .put-find3 .ensures .0 .long,
-          c .before .before .before .before .before .before .before .before .before .before .before .before .before .before .before .put-find4 .ensures .0
-              .long,
-          c .before .before .before .before .before .before .before .before .before .before .before .put-find5 .ensures .0 .long,
-          c .before .before .before .before .before .before .before .put-find6 .ensures .0 .long,
-          c .before .before .before .put-find7 .ensures .0 .long,
-        ),
-      ),
-    ),
-  ),
-)
-
-same-length : tie.Need-same-length
-same-length c =
-    c .before .before .put-find8 .ensures .0 .long ∙ c .before .before .before .before .before .before .put-find7 .ensures .0 .long
-    ∙ c .before .before .before .before .before .before .before .before .before .before .put-find6 .ensures .0 .long
-    ∙ c .before .before .before .before .before .before .before .before .before .before .before .before .before .before .put-find5 .ensures .0 .long
-    ∙ c .before .before .before .before .before .before .before .before .before .before .before .before .before .before .before .before .before
-    .before .put-find4 .ensures .0 .long
-    ∙ c .before .before .before .before .before .before .before .before .before .before .before .before .before .before .before .before
-    .before .before .before .before .before .before .put-find3 .ensures .0 .long
-    ∙ c .before .before .before .before .before .before .before .before .before .before .before .before .before .before .before
-    .before .before .before .before .before .before .before .before .before .before .before .put-find2 .ensures .0 .long
-    ∙ c .before .before .before .before .before .before .before .before .before .before .before .before .before .before
-    .before .before .before .before .before .before .before .before .before .before .before .before .before .before
-    .before .before .put-find .ensures .0 .long
-
-returns : tie.Need-returns
-returns c = (
-  (then (then (then (then
-      (then (then (then (c .before .before .before .before .before .before .before .before .before .before .before .before .before .before .before .before
-      .before .before .before .before .before .before .before .before .before .before .before .before .before .before .put-find .ensures .0)
-      (c .before .before .before .before .before .before .before .before .before .before .before .before .before .before .before .before .before
-      .before .before .before .before .before .before .before .before .before .put-find2 .ensures .0))
-      (c .before .before .before .before .before .before .before .before .before .before .before .before .before .before .before .before
-      .before .before .before .before .before .before .put-find3 .ensures .0))
-      (c .before .before .before .before .before .before .before .before .before .before .before .before .before .before .before
-      .before .before .before .put-find4 .ensures .0))
-      (c .before .before .before .before .before .before .before .before .before .before .before .before .before .before
-      .put-find5 .ensures .0))
-      (c .before .before .before .before .before .before .before .before .before .before .put-find6 .ensures .0))
-      (c .before .before .before .before .before .before .put-find7 .ensures .0))
-      (c .before .before .put-find8 .ensures .0)),
-  omega (
-    arith,
-    c .before .before .before .before .before .before .before .before .before .before
-        .before .before .before .before .before .before .before .before .before .before
-        .before .before .before .before .before .before .before .before .before .before
-        .put-find .ensures .1,
-    c .before .before .before .before .before .before .before .before
-        .before .before .before .before .before .before .before .before
-        .before .before .before .before .before .before .before .before
-        .before .before .put-find2 .ensures .1,
-    c .before .before .before .before .before .before
-        .before .before .before .before .before .before
-        .before .before .before .before .before .before
-        .before .before .before .before .put-find3
-        .ensures .1,
-    c .before .before .before .before
-        .before .before .before .before
-        .before .before .before
-        .before .before .before
-        .before .before
-        .before .before
-        .put-find4
-        .ensures
-        .1,
-    c .before .before .before .before .before .before .before .before .before .before .before .before .before .before .put-find5 .ensures .1,
-    c .before .before .before .before .before .before .before .before .before .before .put-find6 .ensures .1,
-    c .before .before .before .before .before .before .put-find7 .ensures .1,
-    c .before .before .put-find8 .ensures .1,
-  ),
-)
+returns : tie.Need-returns Inv-loop μ-loop
+returns c = let l = c .before .loop in let f = c .before .before .before .before .before .before .args .f in
+    let n = c .before .before .before .lesser .result in
+    let h : length (f .ys) ≡ 8 = search needs in
+    let e : take n (f .ys) ≡ take (f .n) (f .ys) = rw (c .before .before .before .lesser .ensures) (at-most-eight (f .ys) h (f .n)) in
+    let z : l .i ≡ length (take (f .n) (f .ys)) = rw (length-take (f .n) (f .ys)) (omega (arith, h, c .before .before .before .lesser .ensures, l .inv .0)) in
+    (rw (← z) (rw e at (l .inv .3)), omega (arith, l .inv .2))
 
 pub put-finds-spec : {M : Type 1} → statement M
 put-finds-spec =
     tie.close
     (tie.spec
+    Inv-loop
+    μ-loop
+    lesser-requires
+    loop-holds
+    mul-y
+    array-read-y
+    add-put-find
     put-find-requires
-    put-find-requires-2
-    put-find-requires-3
-    put-find-requires-4
-    put-find-requires-5
-    put-find-requires-6
-    put-find-requires-7
-    put-find-requires-8
+    add-i
+    loop-less
+    loop-again
     same-length
     returns)

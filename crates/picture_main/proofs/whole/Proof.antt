@@ -10,11 +10,11 @@ use Rattle.picture_main.proofs.whole.Statement.{statement}
 use Rattle.picture_main.proofs.whole.Tie as tie
 
 abbrev Inv-loop : tie.InvT-loop
-Inv-loop chunk₀ begun₀ table₀ converted₀ out st₀ fine₀ left₀ chunk begun table converted st fine left =
-    (length chunk ≡ length chunk₀) × (length begun ≡ widest) × (length table ≡ places) × (length converted ≡ places) × (countOf (st .held) ≤ places)
+Inv-loop chunk₀ begun₀ table₀ out st₀ fine₀ left₀ chunk begun table st fine left =
+    (length chunk ≡ length chunk₀) × (length begun ≡ widest) × (length table ≡ places) × (countOf (st .held) ≤ places)
 
 abbrev μ-loop : tie.MeasureT-loop
-μ-loop chunk₀ begun₀ table₀ converted₀ out st₀ fine₀ left₀ chunk begun table converted st fine left = left
+μ-loop chunk₀ begun₀ table₀ out st₀ fine₀ left₀ chunk begun table st fine left = left
 
 begin-requires : tie.Need-begin-requires Inv-loop μ-loop
 begin-requires c κs = search needs
@@ -73,9 +73,6 @@ same-length-3 c = search needs
 same-length-4 : tie.Need-same-length-4 Inv-loop μ-loop
 same-length-4 c = search needs
 
-same-length-5 : tie.Need-same-length-5 Inv-loop μ-loop
-same-length-5 c = search needs
-
 returns : tie.Need-returns Inv-loop μ-loop
 returns c = search needs
 
@@ -104,5 +101,4 @@ whole-spec =
     same-length-2
     same-length-3
     same-length-4
-    same-length-5
     returns)
