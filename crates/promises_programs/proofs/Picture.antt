@@ -16,6 +16,7 @@ use Rattle.lines_answer.specs.Answer.{Curve, none, on, replyTo}
 use Rattle.lines_record.specs.declared.Record.{Record}
 use Rattle.lines_record.specs.declared.Record.the-variants.{Curve as CurveOf, Span, Knot, Ends, At, Find, Turn, Bad}
 use Rattle.lines_reply.specs.Reply.{refused}
+use Rattle.picture_notes.specs.declared.Fault.{Fault}
 use Rattle.picture_notes.specs.declared.Fault.the-variants.{Is}
 use Rattle.table_span.specs.declared.Table.{Table}
 use Rattle.lines_machine.specs.Program.{Line, linesOf, outputOf}
@@ -64,27 +65,27 @@ pub picture-drawn : (x y : List ℕ) → PictureRun x y
 picture-drawn x y r = picture-writes x y r ∙ printed-at-the-end pictureProgram (λ s o. refl) nothingDrawn x
 
 -- ---- refusals
--- a line that the line program refuses is the fault, but for a find of a curve: that is drawn at the end, as a place or as a refusal
+told : (f : Fault) (c : Curve) (q : Record) (r : Refusal) → replyTo c q ≡ refused r
+    → ((t : Table) (m : EndsBy) (ks : List Float) (y : Float) → c ≡ on t m ks → q ≡ Find y → ⊥) → faultAfter f q (toldOf c q) ≡ Is r
+unfolding replyTo
+told f none (CurveOf b) r h n = never (cc)
+told f none (Span s) r h n = rw h refl
+told f none (Knot x) r h n = rw h refl
+told f none (Ends k) r h n = rw h refl
+told f none (At x) r h n = rw h refl
+told f none (Find y) r h n = rw h refl
+told f none (Turn b) r h n = rw h refl
+told f none Bad r h n = rw h refl
+told f (on t m ks) (CurveOf b) r h n = never (cc)
+told f (on t m ks) (Span s) r h n = rw h refl
+told f (on t m ks) (Knot x) r h n = rw h refl
+told f (on t m ks) (Ends k) r h n = never (cc)
+told f (on t m ks) (At x) r h n = rw h refl
+told f (on t m ks) (Find y) r h n = absurd (n t m ks y refl refl)
+told f (on t m ks) (Turn b) r h n = rw h refl
+told f (on t m ks) Bad r h n = rw h refl
+
+-- a line that the line program refuses is the fault that is told; but a find of a curve is drawn at the end, its place or its refusal
 pub refused-told : (d : Drawing) (o : Line) (r : Refusal) → replyTo (d .curve) (says o) ≡ refused r
     → ((t : Table) (m : EndsBy) (ks : List Float) (y : Float) → d .curve ≡ on t m ks → says o ≡ Find y → ⊥) → pictureProgram .after d o .fault ≡ Is r
-refused-told d o r h n = told (d .curve) (says o) h n
-  where
-    told : (c : Curve) (q : Record) → replyTo c q ≡ refused r → ((t : Table) (m : EndsBy) (ks : List Float) (y : Float) → c ≡ on t m ks → q ≡ Find y → ⊥)
-        → faultAfter (d .fault) q (toldOf c q) ≡ Is r
-    unfolding replyTo
-    told none (CurveOf b) h n = never (cc)
-    told none (Span s) h n = rw h refl
-    told none (Knot x) h n = rw h refl
-    told none (Ends k) h n = rw h refl
-    told none (At x) h n = rw h refl
-    told none (Find y) h n = rw h refl
-    told none (Turn b) h n = rw h refl
-    told none Bad h n = rw h refl
-    told (on t m ks) (CurveOf b) h n = never (cc)
-    told (on t m ks) (Span s) h n = rw h refl
-    told (on t m ks) (Knot x) h n = rw h refl
-    told (on t m ks) (Ends k) h n = never (cc)
-    told (on t m ks) (At x) h n = rw h refl
-    told (on t m ks) (Find y) h n = absurd (n t m ks y refl refl)
-    told (on t m ks) (Turn b) h n = rw h refl
-    told (on t m ks) Bad h n = rw h refl
+refused-told d o r h n = told (d .fault) (d .curve) (says o) r h n
