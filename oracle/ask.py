@@ -1,9 +1,9 @@
 #!/usr/bin/env python3
-"""A second reading of what bin/ask prints: verdicts in whole numbers and fractions, depths in this language's doubles.
+"""A second reading of what bin/ask prints: verdicts in whole numbers and fractions, depths and places in this language's doubles.
     oracle/ask.py < SHEET           prints what bin/ask is to print
-    oracle/ask.py COUNT [SEED]      holds bin/ask to it on COUNT random sheets, good and bad; status 1 at the first difference
+    oracle/ask.py COUNT [SEED]      holds bin/ask to it on COUNT random sheets, good and bad, with questions; status 1 at the first difference
 ASK is the command that is held to it, where that is not bin/ask."""
-import os, random, re, shlex, struct, subprocess, sys
+import math, os, random, re, shlex, struct, subprocess, sys
 from fractions import Fraction
 
 ROOT = os.path.join(os.path.dirname(os.path.abspath(__file__)), '..')
@@ -149,6 +149,14 @@ def faults(sheet, curve):
 
 
 # ---- in doubles
+PRECISION = 1e-10
+ROUNDS = 64
+
+
+def between(lower, upper, t):
+    return lower + (upper - lower) * t
+
+
 class Doubles:
     def __init__(self, curve):
         self.curve = curve
@@ -163,15 +171,150 @@ class Doubles:
     def ends(self):
         return self.value(0, 0.0), self.value(self.curve.count - 1, 1.0)
 
+    def at(self, parameter):
+        """the depth at a parameter from 0 to 1"""
+        k = self.curve.count
+        scaled = parameter * k
+        s = min(math.floor(scaled), k - 1)
+        return self.value(s, scaled - s)
+
+    # how far a job had come that stopped at the depth y: by the curve's own ends and the steady method, without an order check
+    def stopped(self, y):
+        """a word; with `reached` the parameter and the segment, with `off` the count of evaluations"""
+        start, end = self.ends()
+        if start == end:
+            return ('flat',)
+        for word, there in (('start', y == start), ('end', y == end),
+                            ('before', y < start if start < end else y > start), ('beyond', y > end if start < end else y < end)):
+            if there:
+                return (word,)
+        self.made = 2
+        s, local = self.searched(y, start < end)
+        if s is None:
+            return ('off', self.made)
+        return ('reached', (s + local) * (1.0 / self.curve.count), s)
+
+    def searched(self, y, rising):
+        """the segment that was entered and the local place in it, or None twice: one by one up to 12 segments, by halving above"""
+        k = self.curve.count
+        tries = range(k)
+        if k > 12:
+            left, right = 0, k - 1
+            while left <= right:
+                middle = (left + right) // 2
+                start, local = self.entered(middle, y)
+                if local is not None:
+                    return middle, local
+                if not (y < start if rising else y > start):
+                    left = middle + 1
+                elif middle == 0:
+                    left = right = 0
+                    break
+                else:
+                    right = middle - 1
+            tries = range(max(left - 1, 0), min(right + 2, k))
+        for s in tries:
+            local = self.entered(s, y)[1]
+            if local is not None:
+                return s, local
+        return None, None
+
+    def entered(self, s, y):
+        """the value of the segment's start; and where its ends enclose y, the local place that the steady rounds come to"""
+        self.made += 2
+        v0, v1 = self.value(s, 0.0), self.value(s, 1.0)
+        rising = v0 < v1
+        if y < min(v0, v1) or y > max(v0, v1):
+            return v0, None
+        for v, local in ((v0, 0.0), (v1, 1.0)):
+            if abs(y - v) < 2.0 * PRECISION:
+                return v0, local
+        return v0, self.rounds(s, y, v0, v1, rising)
+
+    def rounds(self, s, y, v0, v1, rising):
+        lower, upper, moved, again, allowed = 0.0, 1.0, None, 0, 16.0
+        for _ in range(ROUNDS):
+            width = upper - lower
+            if width < max(PRECISION, width * 1e-12):
+                break
+            x = between(lower, upper, 0.5)
+            if width <= allowed:
+                # the end that stayed again is weighed half
+                if again and moved == 'lower':
+                    v1 = y + (v1 - y) * 0.5
+                elif again:
+                    v0 = y + (v0 - y) * 0.5
+                chord = between(lower, upper, (y - v0) / (v1 - v0)) if v1 != v0 else math.nan
+                if lower < chord < upper:
+                    x = chord
+            allowed *= 0.5
+            v = self.value(s, x)
+            self.made += 1
+            moves = 'lower' if (v < y) == rising else 'upper'
+            if moves == 'lower':
+                lower, v0 = x, v
+            else:
+                upper, v1 = x, v
+            again, moved = (again + 1 if moves == moved else 0), moves
+            if abs(v - y) < PRECISION:
+                return x
+        return between(lower, upper, 0.5)
+
 
 # ---- questions
-def reply(line, curve):
-    """the lines that a question gets: on a fine sheet `table` tells the table as a listing"""
-    if curve is None:
-        return ['refused\t13']
-    if line != b'table':
+NUMBER = re.compile(rb'[0-9]{1,5}')
+
+
+class Asked:
+    """what is asked of a fine sheet; the span in seconds, once a row was told"""
+
+    def __init__(self, sheet, curve):
+        self.sheet, self.curve, self.doubles, self.span = sheet, curve, Doubles(curve), None
+
+    def reply(self, line):
+        """the lines that a question gets"""
+        word, tab, field = line.partition(b'\t')
+        if line == b'table':
+            return ['curve\t' + self.curve.basis] + ['knot\t' + struct.pack('>d', k).hex().upper() for k in self.doubles.knots]
+        if word == b'find' and tab and len(line) <= 64 and thousandths(field) is not None:
+            return [self.find(double(thousandths(field)))]
+        if word in (b'row', b'at', b'every') and tab and NUMBER.fullmatch(field):
+            n = int(field)
+            if word == b'row':
+                return self.row(n)
+            if word == b'at':
+                return [self.at(n)] if self.span and n <= self.span else ['refused\t14']
+            if n >= 60:
+                return [self.at(i) for i in [*range(0, self.span, n), self.span]] if self.span else ['refused\t14']
         return ['refused\t12']
-    return ['curve\t' + curve.basis] + ['knot\t' + struct.pack('>d', k).hex().upper() for k in Doubles(curve).knots]
+
+    def row(self, n):
+        span = n * self.curve.count
+        if not 1 <= span <= 86400:
+            return ['refused\t14']
+        self.span = span
+        return []
+
+    def at(self, n):
+        return 'at\t%d\t%s' % (n, decimal(self.doubles.at(n / self.span), 3))
+
+    def find(self, y):
+        word, *told = self.doubles.stopped(y)
+        if word == 'flat':
+            return word
+        if word == 'off':
+            return 'refused\t11'
+        fields = [word, decimal(y, 3)]
+        if word == 'reached':
+            parameter, s = told
+            fields.append(str(math.floor(parameter * self.span)) if self.span else decimal(parameter, 6))
+            fields += [self.label(s), self.label(s + 1)]
+        return '\t'.join(fields)
+
+    def label(self, s):
+        """of the row at which segment s begins; the last segment of a Power sheet ends at no row"""
+        i = self.curve.row(s)
+        return self.sheet.labels[i].decode('latin1') if i < len(self.sheet.labels) else ''
 
 
 def verdict(sheet):
@@ -191,11 +334,12 @@ def printed(data):
     lines = data.split(b'\n')
     if lines[-1] == b'':
         lines.pop()
-    asked = lines.index(b'ask') if b'ask' in lines else len(lines)
-    sheet = Sheet(lines[:asked])
+    at = lines.index(b'ask') if b'ask' in lines else len(lines)
+    sheet = Sheet(lines[:at])
     out, curve = verdict(sheet)
-    for line in lines[asked + 1:]:
-        out += reply(line, curve)
+    asked = Asked(sheet, curve) if curve else None
+    for line in lines[at + 1:]:
+        out += asked.reply(line) if asked else ['refused\t13']
     return ''.join(line + '\n' for line in out).encode('latin1')
 
 
@@ -263,7 +407,26 @@ BAD_LINES = ['', '\t1', '1h', '1h\t', '1h\t1.', '1h\t.5', '1h\t1.2345', '1h\t1,5
              'sixteen bytes ..\t1', '1h\t' + '0' * 61, '1h\t' + '0' * 62, 'x' * 65, '\u00e9\t1', 'Monotone', '1h 1', ' \t0']
 
 
-QUESTIONS = ['table', 'table', 'table', '', 'ask', 'Table', 'table\t', 'table\t1', 'tabl', 'find\t1.5', 'salt', 'x' * 64, 'x' * 65]
+BAD_QUESTIONS = ['', 'ask', 'Table', 'table\t', 'table\t1', 'tabl', 'salt', 'x' * 64, 'x' * 65, 'find', 'find\t', 'find\t1.', 'find\t.5', 'find\t1.2345', 'find\t1,5', 'find\t1234567890',
+                 'find\t1\t', 'find 1', 'Find\t1', 'find\t+1', 'find\t--1', 'find\t1\r', 'find\t' + '0' * 59, 'row', 'row\t', 'row\t-1', 'row\t1.0', 'row\t123456', 'row\t000060', 'row\t60\t',
+                 'row\t60\r', 'row\t1h', 'rows\t60', 'at', 'at\t', 'at\t0.5', 'at\t123456', 'at\t-0', 'at\t1 ', 'every', 'every\t', 'every\t59', 'every\t0', 'every\t00059', 'every\t123456', 'every\t60\t1']
+
+
+def random_question(r, rows, text):
+    """rows are the sheet's thousandths; text spells a decimal"""
+    kind = r.choice(['find'] * 8 + ['at'] * 4 + ['row'] * 3 + ['every', 'table', 'bad'])
+    if kind == 'find':
+        low, high = (min(rows), max(rows)) if rows else (0, 1000)
+        n = r.choice([r.randint(low, high)] * 6 + [r.choice(rows or [0]), low - 1, high + 1, 0, 10**12 - 1, 1 - 10**12])
+        return 'find\t' + text(max(1 - 10**12, min(10**12 - 1, n)))
+    if kind == 'row':
+        count = max(len(rows), 1)
+        return 'row\t%s' % r.choice([3600, 900, 1, 0, '00060', r.randint(1, 86400 // count + 1), 86400 // count, 86400 // max(count - 1, 1), 86400 // max(count - 2, 1), 86400 // max(count - 3, 1), 86400, 86401, 99999])
+    if kind == 'at':
+        return 'at\t%s' % r.choice([r.randint(0, 3600), r.randint(0, 86400), 0, '007', 3600, 7200, 86400, 99999, 3599])
+    if kind == 'every':
+        return 'every\t%s' % r.choice([60, 61, 3600, 900, '00060', r.randint(60, 99999), r.randint(1000, 9999), 86400, 99999])
+    return 'table' if kind == 'table' else r.choice(BAD_QUESTIONS)
 
 
 def random_input(r):
@@ -280,7 +443,8 @@ def random_input(r):
     if r.random() < 0.01:
         whole = []
     if r.random() < 0.85:
-        whole += ['ask'] + [r.choice(QUESTIONS) for _ in range(r.randint(0, 4))]
+        rows = [n for n in (thousandths(line.partition('\t')[2].encode()) for line in lines) if n is not None]
+        whole += ['ask'] + [random_question(r, rows, lambda n: text_of(n, r)) for _ in range(r.randint(0, 12))]
     text = '\n'.join(whole) + ('\n' if whole and r.random() < 0.9 else '')
     return text.encode('utf-8')
 
