@@ -7,17 +7,17 @@ use native.Mathlib.Omega.{arith}
 use borrow.Author.Tests.{le-leb, lt-leb}
 use lib.Ieee.{Float}
 use lib.ListN.{take}
-use Rattle.basis.specs.declared.Basis.{Basis}
-use Rattle.error.specs.declared.Refusal.the-variants.{BadLine, BadSheet}
 use Rattle.text.specs.Text.{bytes, same, decText}
 use Rattle.text.specs.Wrote.{Wrote}
-use Rattle.text.proofs.Writing.{nothing}
-use Rattle.lines_reply.specs.Reply.{refusedText, curve, textOf}
-use Rattle.lines_machine.specs.Program.{widest, Line, so, over}
+use Rattle.lines_machine.specs.Program.{widest, Line}
 use Rattle.lines_machine.specs.Contract.{openOf}
+use Rattle.ask_sheet.specs.declared.Kind.{Kind}
 use Rattle.ask_sheet.specs.Sheet.{Sheet, afterOf}
 use Rattle.ask_verdict.specs.Told.{verdictOf, Asked, bad, fine, askedOf}
-use Rattle.ask.specs.Ask.{Asking, reading, told, isWord, isAsk, answerTo, tellsOf, nextOf, endsOf}
+use Rattle.ask_verdict.specs.Contract.{Asks}
+use Rattle.table_span.specs.Second.{day}
+use Rattle.ask_answers.specs.Answers.{answerText, spanAfter}
+use Rattle.ask.specs.Ask.{Asking, reading, told, isWord, isAsk, answerTo, afterAsk, tellsOf, nextOf, endsOf}
 
 pub as-text : {o o′ t t′ : List ℕ} {at r : ℕ} → t ≡ t′ → Wrote o at t o′ r → Wrote o at t′ o′ r
 as-text {o} {o′} {t} {t′} {at} {r} e w = subst (λ (x : List ℕ). Wrote o at x o′ r) e w
@@ -34,14 +34,22 @@ pub bad-text : (o : Line) → bytes "refused\t13\n" ≡ answerTo bad o
 unfolding answerTo decText
 bad-text o = refl
 
-module _ (b : Basis) (ks : List Float) (o : Line) {t : Bool} (is : t ≡ isWord (bytes "table") o) where
-  pub table-text : t ≡ true → textOf (curve b [] ks) ≡ answerTo (fine b ks) o
-  unfolding answerTo
-  table-text e = rw (sym is ∙ e) refl
+pub bad-after : (o : Line) → bad ≡ afterAsk bad o
+unfolding afterAsk
+bad-after o = refl
 
-  pub other-text : t ≡ false → bytes "refused\t12\n" ≡ answerTo (fine b ks) o
-  unfolding answerTo decText
-  other-text e = rw (sym is ∙ e) refl
+module _ (k : Kind) (ks : List Float) (ls : List (List ℕ)) (span : ℕ) (o : Line) where
+  pub fine-text : answerText k ks ls span o ≡ answerTo (fine k ks ls span) o
+  unfolding answerTo
+  fine-text = refl
+
+  pub fine-after : {n : ℕ} → n ≡ spanAfter k ks span o → fine k ks ls n ≡ afterAsk (fine k ks ls span) o
+  unfolding afterAsk
+  fine-after e = ap (λ (n : ℕ). fine k ks ls n) e
+
+-- another span, of a day at most
+pub asks-on : {rows n span span′ : ℕ} → Asks rows n span → span′ ≤ day → Asks rows n span′
+asks-on a h = record { fewRows = a .fewRows; enough = a .enough; few = a .few; short = h }
 
 -- ---- while the sheet is read
 module _ (s : Sheet) (o : Line) {t : Bool} (is : t ≡ isAsk o) where
@@ -62,9 +70,9 @@ module _ (s : Sheet) (o : Line) {t : Bool} (is : t ≡ isAsk o) where
   read-text e = rw (sym is ∙ e) refl
 
 -- ---- after the verdict
-pub told-next : (a : Asked) (o : Line) → told a ≡ nextOf (told a) o
+pub told-next : (a : Asked) (o : Line) {a′ : Asked} → a′ ≡ afterAsk a o → told a′ ≡ nextOf (told a) o
 unfolding nextOf
-told-next a o = refl
+told-next a o e = ap told e
 
 pub told-text : (a : Asked) (o : Line) → answerTo a o ≡ tellsOf (told a) o
 unfolding tellsOf

@@ -10,14 +10,12 @@ ghost use Rattle.lines_machine.specs.Bytes.{endOf};
 ghost use Rattle.lines_machine.specs.Contract.{openOf, Fed};
 ghost use Rattle.sheet.specs.Sheet.{most};
 ghost use Rattle.ask_sheet.specs.Contract.{cells, sheetOf, lineIn, lastLine, Sound};
-ghost use Rattle.ask_verdict.specs.Contract.{longest, countIn, askedIn};
-ghost use Rattle.ask.specs.Ask.{isWord, answerTo, tellsOf, nextOf, endsOf, askProgram};
+ghost use Rattle.ask_verdict.specs.Contract.{longest, Askable, askedIn};
+ghost use Rattle.ask.specs.Ask.{isWord, answerTo, afterAsk, tellsOf, nextOf, endsOf, askProgram};
 ghost use Rattle.ask.specs.Contract.{askingOf, Kept, stateOf};
 use ask_sheet::SheetHeld;
 use ask_verdict::AskedHeld;
-use error::Refusal;
-use lines_reply::LineReply;
-use table_span::Table;
+use ask_verdict::Told;
 
 // Room for the longest text of a line: a verdict.
 pub const LONGEST: usize = 122944;
@@ -39,24 +37,39 @@ fn is_line(len: usize, line: &[u8], w: &[u8]) -> bool
     false
 }
 
-// A line after the verdict.
-fn answer(a: AskedHeld, len: usize, line: &[u8], knots: &[f64], out: &mut [u8], at: usize) -> usize
+// A line after the verdict: the place behind what it gets, and what may be asked after it.
+fn answer(
+    a: AskedHeld,
+    len: usize,
+    line: &[u8],
+    labels: &[u8],
+    knots: &[f64],
+    out: &mut [u8],
+    at: usize,
+) -> Told
     requires line { ⌜ length (now line) ≡ widest ⌝ }
-    requires held { ⌜ countIn a ≤ most ⌝ }
+    requires held { ⌜ Askable a ⌝ }
+    requires labels { ⌜ length (now labels) ≡ cells ⌝ }
     requires knots { ⌜ length (now knots) ≡ most ⌝ }
     requires room { ⌜ at + longest ≤ length (now out) ⌝ }
-    ensures text { λ r. ⌜ Wrote (now (out .entry)) at (answerTo (askedIn a (now (knots .entry))) (openOf len (now (line .entry))))
-        (now (out .exit)) r ⌝ }
-    ensures short { λ r. ⌜ r ≤ at + longest ⌝ }
+    ensures text { λ r. ⌜ Wrote (now (out .entry)) at
+        (answerTo (askedIn a (now (knots .entry)) (now (labels .entry))) (openOf len (now (line .entry)))) (now (out .exit)) (r .at) ⌝ }
+    ensures held { λ r. ⌜ askedIn (r .held) (now (knots .entry)) (now (labels .entry)) ≡
+        afterAsk (askedIn a (now (knots .entry)) (now (labels .entry))) (openOf len (now (line .entry))) ⌝ }
+    ensures askable { λ r. ⌜ Askable (r .held) ⌝ }
+    ensures short { λ r. ⌜ r .at ≤ at + longest ⌝ }
 {
     match a {
-        AskedHeld::Bad => text::put_word(out, at, b"refused\t13\n"),
-        AskedHeld::Fine(b, n) => {
-            if is_line(len, line, b"table") {
-                let bare = Table { basis: b, span: 0 };
-                return lines_reply::put_reply(LineReply::Curve(bare, n), knots, out, at);
+        AskedHeld::Bad => Told {
+            at: text::put_word(out, at, b"refused\t13\n"),
+            held: AskedHeld::Bad,
+        },
+        AskedHeld::Fine(k, rows, n, span) => {
+            let r = ask_answers::answer(k, rows, n, span, len, line, labels, knots, out, at);
+            Told {
+                at: r.at,
+                held: AskedHeld::Fine(k, rows, n, r.span),
             }
-            text::put_word(out, at, b"refused\t12\n")
         }
     }
 }
@@ -109,10 +122,11 @@ pub fn line(
             }
         }
         AskHeld::Told(a) => {
-            let r = answer(a, len, line, &knots[..], out, at);
+            let r = answer(a, len, line, &labels[..], &knots[..], out, at);
+            let next = r.held;
             AskResult {
-                held: AskHeld::Told(a),
-                at: r,
+                held: AskHeld::Told(next),
+                at: r.at,
             }
         }
     }

@@ -34,7 +34,7 @@ use Rattle.text.specs.Text.{bytes}
 use Rattle.ask_verdict.specs.Curve.{basisOf, knotsOf, suits, doubleOf, doublesOf}
 use Rattle.ask_verdict.specs.Faults.{Fault, faultsOf}
 use Rattle.ask_verdict.specs.Told.{faultsText, none, endsIn, fineText, numberText, lineText, toldOf, verdictOf, askedBy, askedOf, Asked, bad, fine}
-use Rattle.ask_verdict.specs.Contract.{Drawing}
+use Rattle.ask_verdict.specs.Contract.{Drawing, Asks}
 use Rattle.ask_verdict.proofs.Texts.{as-text, none-is, some-is}
 
 empty : (l : List ℕ) → length l ≡ 0 → l ≡ []
@@ -69,11 +69,8 @@ module _ (k : Kind) (z : List ℤ) (ls : List (List ℕ)) {o o₁ : List ℕ} {a
     fine-told {o₂} {q} {n} {e} p f v =
         rw no-fault (as-text (ap (λ (m : ℕ). fineText m e) p ∙ ap (λ (x : Ends). fineText (length z) x) f) (then unwritten v))
 
-    pub may-be-asked : {b : Basis} {ks : List Float} → b ≡ basisOf k → ks ≡ doublesOf k z → fine b ks ≡ askedBy k z ls
-    may-be-asked p q = rw no-fault (alike p q)
-      where
-        alike : {b c : Basis} {l m : List Float} → b ≡ c → l ≡ m → fine b l ≡ fine c m
-        alike p q = cc
+    pub may-be-asked : {ks : List Float} → ks ≡ doublesOf k z → fine k ks ls 0 ≡ askedBy k z ls
+    may-be-asked q = rw no-fault (ap (λ (l : List Float). fine k l ls 0) q)
 
 -- ---- the ends of the doubles
 pub ends-are : (k : Kind) (z w : List ℤ) {b : Basis} {ks : List Float} {n : ℕ} {e : Ends} → w ≡ knotsOf k z → b ≡ basisOf k → ks ≡ map doubleOf w
@@ -141,6 +138,15 @@ module _ (z : List ℤ) (s : suits Monotone (length z) ≡ true) (m : Small mono
             where
               cons : {x y : ℤ} {l m : List ℤ} → x ≡ y → l ≡ m → (x ∷ l) ≡ (y ∷ m)
               cons p q = cc
+
+-- ---- what may be asked of such a curve, before a span was given
+pub may-ask : (k : Kind) (z w : List ℤ) → Drawing k z w → {r n : ℕ} → length z ≡ r → length w ≡ n → Asks r n 0
+may-ask k z w d {r} {n} p q = record {
+  fewRows = omega (arith, p, d .rows);
+  enough = omega (arith, q, d .enough);
+  few = omega (arith, q, d .few);
+  short = omega arith;
+}
 
 -- ---- lengths in lent slices
 pub there-room : (m : ℕ) (l : List ℤ) → length (take m l) ≡ m → m ≤ length l

@@ -6,9 +6,11 @@ use lib.Ieee.{Float}
 use lib.IntN.{ℤ}
 use lib.ListN.{length, take}
 use Rattle.whole.specs.Held.{Small}
+use Rattle.table_span.specs.Second.{day}
 use Rattle.turns_back.specs.Call as turns
 use Rattle.ask_verdict.specs.Curve.{knotsOf}
 use Rattle.ask_sheet.specs.declared.Kind.{Kind}
+use Rattle.ask_sheet.specs.Contract.{labelsTo}
 use Rattle.ask_verdict.specs.declared.AskedHeld.{AskedHeld}
 use Rattle.ask_verdict.specs.declared.AskedHeld.the-variants.{Bad, Fine}
 use Rattle.ask_verdict.specs.Told.{Asked, bad, fine}
@@ -25,11 +27,18 @@ pub record Drawing (k : Kind) (z w : List ℤ) : Type 0 where
   pub few : length w ≤ 4096
   pub small : Small turns.most w
 
-abbrev pub countIn : AskedHeld → ℕ
-countIn Bad = 0
-countIn (Fine b n) = n
+-- how many rows and knots a curve has that may be asked about, and its span
+pub record Asks (rows n span : ℕ) : Type 0 where
+  pub fewRows : rows ≤ 4096
+  pub enough : 4 ≤ n
+  pub few : n ≤ 4096
+  pub short : span ≤ day
 
--- the first of the lent doubles are the knots
-abbrev pub askedIn : AskedHeld → List Float → Asked
-askedIn Bad knots = bad
-askedIn (Fine b n) knots = fine b (take n knots)
+abbrev pub Askable : AskedHeld → Type 0
+Askable Bad = Unit
+Askable (Fine k rows n span) = Asks rows n span
+
+-- the first of the lent doubles are the knots, and the first of the lent labels those of the rows
+abbrev pub askedIn : AskedHeld → List Float → List ℕ → Asked
+askedIn Bad knots labels = bad
+askedIn (Fine k rows n span) knots labels = fine k (take n knots) (labelsTo labels rows) span

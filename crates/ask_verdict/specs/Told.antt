@@ -69,13 +69,13 @@ verdictOf unbegun = lineText 1 Missing
 verdictOf (on k z ls) = cond (suits k (length z)) (toldOf k z (faultsOf k z ls)) (numberText (bytes "length\t") (length z))
 verdictOf (faulty n r) = lineText n r
 
--- ---- after it: a sheet that is not fine, or a curve
+-- ---- after it: a sheet that is not fine; or a kind of curve, its knots, the label of each row, and its span in whole seconds, 0 where none was given
 pub data Asked : Type 0 where
   bad : Asked
-  fine : Basis → List Float → Asked
+  fine : Kind → List Float → List (List ℕ) → ℕ → Asked
 
 abbrev pub askedBy : Kind → List ℤ → List (List ℕ) → Asked
-askedBy k z ls = cond (none (faultsOf k z ls)) (fine (basisOf k) (doublesOf k z)) bad
+askedBy k z ls = cond (none (faultsOf k z ls)) (fine k (doublesOf k z) ls 0) bad
 
 unfoldable pub askedOf : Sheet → Asked
 askedOf unbegun = bad

@@ -43,7 +43,7 @@ ghost use Rattle.ask_verdict.specs.Told.{
   askedBy,
   askedOf,
 };
-ghost use Rattle.ask_verdict.specs.Contract.{longest, Drawing, countIn, askedIn};
+ghost use Rattle.ask_verdict.specs.Contract.{longest, Drawing, Askable, askedIn};
 use ask_sheet::Kind;
 use ask_sheet::Reason;
 use ask_sheet::SheetHeld;
@@ -409,10 +409,10 @@ fn put_fine(n: usize, e: Ends, out: &mut [u8], at: usize) -> usize
     text::put_byte(out, g, b'\n')
 }
 
-// What may be asked after the verdict: nothing, or of a curve over a basis and so many knots.
+// What may be asked after the verdict: nothing; or of a kind of curve, over so many rows and knots, its span in whole seconds, 0 where none was given.
 pub enum AskedHeld {
     Bad,
-    Fine(Basis, usize),
+    Fine(Kind, usize, usize, u32),
 }
 
 // The place behind the verdict's text, and what may be asked.
@@ -438,9 +438,9 @@ fn told_of(
     ensures text { λ r. ⌜ Wrote (now (out .entry)) at (toldOf k (heldAll (now (rows .entry))) (faultsOf k (heldAll (now (rows .entry)))
         (labelsTo (now (labels .entry)) (length (now (rows .entry)))))) (now (out .exit)) (r .at) ⌝ }
     ensures short { λ r. ⌜ r .at ≤ at + longest ⌝ }
-    ensures held { λ r. ⌜ askedIn (r .held) (now (knots .exit)) ≡ askedBy k (heldAll (now (rows .entry)))
+    ensures held { λ r. ⌜ askedIn (r .held) (now (knots .exit)) (now (labels .entry)) ≡ askedBy k (heldAll (now (rows .entry)))
         (labelsTo (now (labels .entry)) (length (now (rows .entry)))) ⌝ }
-    ensures few { λ r. ⌜ countIn (r .held) ≤ most ⌝ }
+    ensures few { λ r. ⌜ Askable (r .held) ⌝ }
 {
     let r = put_faults(k, rows, whole, labels, &mut *out, at);
     if at < r {
@@ -456,7 +456,7 @@ fn told_of(
     let f = put_fine(rows.len(), e, out, at);
     Told {
         at: f,
-        held: AskedHeld::Fine(b, m),
+        held: AskedHeld::Fine(k, rows.len(), m, 0),
     }
 }
 
@@ -508,9 +508,9 @@ fn told_monotone(
     ensures text { λ r. ⌜ Wrote (now (out .entry)) at (toldOf Monotone (heldAll (take n (now (rows .entry))))
         (faultsOf Monotone (heldAll (take n (now (rows .entry)))) (labelsTo (now (labels .entry)) n))) (now (out .exit)) (r .at) ⌝ }
     ensures short { λ r. ⌜ r .at ≤ at + longest ⌝ }
-    ensures held { λ r. ⌜ askedIn (r .held) (now (knots .exit)) ≡ askedBy Monotone (heldAll (take n (now (rows .entry))))
+    ensures held { λ r. ⌜ askedIn (r .held) (now (knots .exit)) (now (labels .entry)) ≡ askedBy Monotone (heldAll (take n (now (rows .entry))))
         (labelsTo (now (labels .entry)) n) ⌝ }
-    ensures few { λ r. ⌜ countIn (r .held) ≤ most ⌝ }
+    ensures few { λ r. ⌜ Askable (r .held) ⌝ }
 {
     monotone::monotone(&rows[0..n], &mut *whole);
     let m = 2 * n;
@@ -546,9 +546,9 @@ fn told_if(
         (now (rows .entry)))) (faultsOf k (heldAll (take n (now (rows .entry))))
         (labelsTo (now (labels .entry)) n))) (now (out .exit)) (r .at) ⌝ }
     ensures short { λ r. ⌜ r .at ≤ at + longest ⌝ }
-    ensures held { λ r. ⌜ askedIn (r .held) (now (knots .exit)) ≡ askedBy k (heldAll (take n (now (rows .entry))))
+    ensures held { λ r. ⌜ askedIn (r .held) (now (knots .exit)) (now (labels .entry)) ≡ askedBy k (heldAll (take n (now (rows .entry))))
         (labelsTo (now (labels .entry)) n) ⌝ }
-    ensures few { λ r. ⌜ countIn (r .held) ≤ most ⌝ }
+    ensures few { λ r. ⌜ Askable (r .held) ⌝ }
 {
     match k {
         Kind::Drawn(b) => told_of(k, &rows[0..n], &rows[0..n], labels, knots, out, at),
@@ -577,8 +577,8 @@ pub fn verdict(
     ensures text { λ r. ⌜ Wrote (now (out .entry)) at (verdictOf (sheetOf h (now (rows .entry)) (now (labels .entry))))
         (now (out .exit)) (r .at) ⌝ }
     ensures short { λ r. ⌜ r .at ≤ at + longest ⌝ }
-    ensures asked { λ r. ⌜ askedIn (r .held) (now (knots .exit)) ≡ askedOf (sheetOf h (now (rows .entry)) (now (labels .entry))) ⌝ }
-    ensures few { λ r. ⌜ countIn (r .held) ≤ most ⌝ }
+    ensures asked { λ r. ⌜ askedIn (r .held) (now (knots .exit)) (now (labels .entry)) ≡ askedOf (sheetOf h (now (rows .entry)) (now (labels .entry))) ⌝ }
+    ensures few { λ r. ⌜ Askable (r .held) ⌝ }
 {
     match h {
         SheetHeld::Unbegun => Told {

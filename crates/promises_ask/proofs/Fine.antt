@@ -1,8 +1,10 @@
 -- A sheet without a fault draws a curve that never turns back: each segment begins at a row, and that row is silent. Assumes nothing.
-use mathlib.Core.Path.{_≡_, refl, sym, subst}
+use mathlib.Core.Path.{_≡_, refl, sym, ap, subst}
+use mathlib.Core.Logic.{_⊎_, inl, inr}
 use mathlib.Core.Bool.{Bool, true, false, not, cond, _&&_, _||_}
 use mathlib.Core.List.{List, [], _∷_, _++_}
 use Prim.Native.Nat.{ℕ, zero, suc, _+_, _-_, _*_, _/_, _%_, _≤_, _<_}
+use native.Mathlib.Nat.{mul-pos, mul-le-mul-right, le-of-mul-le-mul-right}
 use native.Mathlib.Omega.{arith}
 use borrow.Author.Tests.{ltb-true, ltb-false, le-leb, lt-ltb, eq-eqb, eqb-true, eqb-false}
 use lib.Dec.{T, leb, ltb, eqb}
@@ -19,6 +21,7 @@ use Rattle.basis.specs.declared.Basis.the-variants.{Bspline, Bezier, CatmullRom
 use Rattle.basis.specs.Basis.{stepOf, segmentsOf}
 use Rattle.whole.specs.Held.{turnedAll}
 use Rattle.whole.proofs.Held.{turned-long}
+use Rattle.whole.proofs.Differences.{up, down, Is, itself, times, of-le, alike}
 use Rattle.turns_back.specs.declared.Way.{Way}
 use Rattle.turns_back.specs.declared.Way.the-variants.{Rising, Falling, Level}
 use Rattle.turns_back.specs.declared.Turning.the-variants.{Never, Flat}
@@ -248,17 +251,76 @@ pub fine-in-order : (k : Kind) (z : List ℤ) (ls : List (List ℕ)) → none (f
 fine-in-order k z ls h taken = let o = own-never (basisOf k) (knotsOf k z) (fine-never-turns k z ls h taken)
     in (o .up, in-order-everywhere (basisOf k) (o .up) (knotsOf k z) (o .same))
 
--- ---- a curve to be asked about there is only where no fault was told
-fine-only : (c d : Bool) (x y : Asked) (b : Basis) (ks : List Float) → cond c (cond d x bad) bad ≡ fine b ks → (c ≡ true) × (d ≡ true)
-fine-only true true x y b ks e = (refl, refl)
-fine-only true false x y b ks e = never (cc)
-fine-only false d x y b ks e = never (cc)
+-- ---- so the places of a depth are one stretch of the curve
+-- values p, m and q of three places, each as a difference, times the cubes of their parts: where the outer two are one, m is not beyond them
+between : (p p′ m m′ q q′ a b c : ℕ) → 0 < b → p * b + q′ * a ≡ q * a + p′ * b → p * c + m′ * a ≤ m * a + p′ * c → m * b + q′ * c ≤ q * c + m′ * b
+    → p * c + m′ * a ≡ m * a + p′ * c
+between p p′ m m′ q q′ a b c some e h k =
+    let f : (p * b + q′ * a) * c ≡ (q * a + p′ * b) * c = ap (λ (x : ℕ). x * c) e in
+    let g : (m * b + q′ * c) * a ≤ (q * c + m′ * b) * a = mul-le-mul-right a k in
+    let r : (m * a + p′ * c) * b ≤ (p * c + m′ * a) * b = omega (arith, f, g) in
+    omega (arith, h, le-of-mul-le-mul-right r some)
 
-pub asked-only-fine : (s : Sheet) (b : Basis) (ks : List Float) → askedOf s ≡ fine b ks
-    → (k : Kind) × (z : List ℤ) × (ls : List (List ℕ)) × (s ≡ on k z ls) × (suits k (length z) ≡ true) × (none (faultsOf k z ls) ≡ true)
+module _ (x y w : ℤ) (a b c : ℕ) (some : 0 < b) (one : x *ℤ pos b ≡ w *ℤ pos a) where
+  ends-one : up x * b + down w * a ≡ up w * a + down x * b
+  ends-one =
+      let i : Is (w *ℤ pos a) (up x * b) (down x * b) = subst (λ (v : ℤ). Is v (up x * b) (down x * b)) one (times b (itself x)) in
+      let j : Is (w *ℤ pos a) (up w * a) (down w * a) = times a (itself w) in
+      omega (arith, i .is, j .is)
+
+  held : (t : Bool) → before t (x *ℤ pos c) (y *ℤ pos a) → before t (y *ℤ pos b) (w *ℤ pos c) → x *ℤ pos c ≡ y *ℤ pos a
+  held true h k =
+      alike (times c (itself x)) (times a (itself y))
+      (between (up x) (down x) (up y) (down y) (up w) (down w) a b c some ends-one
+      (of-le (times c (itself x)) (times a (itself y)) h) (of-le (times b (itself y)) (times c (itself w)) k))
+  held false h k =
+      let l = of-le (times a (itself y)) (times c (itself x)) h in
+      let m = of-le (times c (itself w)) (times b (itself y)) k in
+      let e = between (down x) (up x) (down y) (up y) (down w) (up w) a b c some (omega (arith, ends-one)) (omega (arith, l)) (omega (arith, m)) in
+      alike (times c (itself x)) (times a (itself y)) (omega (arith, e))
+
+-- where the exact curve has one value at two places, it has that value at every place between them
+pub fine-one-stretch : (k : Kind) (z : List ℤ) (ls : List (List ℕ)) → none (faultsOf k z ls) ≡ true
+    → first (turningUses (basisOf k) (knotsOf k z)) ≡ Passed
+    → (s n j t m i s′ n′ j′ : ℕ) → 0 < n′ → s′ < segmentsIn k z → NotAfter s n j t m i → NotAfter t m i s′ n′ j′
+    → curveAt (basisOf k) (knotsOf k z) s n j *ℤ pos (n′ * n′ * n′) ≡ curveAt (basisOf k) (knotsOf k z) s′ n′ j′ *ℤ pos (n * n * n)
+    → curveAt (basisOf k) (knotsOf k z) s n j *ℤ pos (m * m * m) ≡ curveAt (basisOf k) (knotsOf k z) t m i *ℤ pos (n * n * n)
+fine-one-stretch k z ls h taken s n j t m i s′ n′ j′ some inside p q e =
+    let o = fine-in-order k z ls h taken in
+    held (curveAt (basisOf k) (knotsOf k z) s n j) (curveAt (basisOf k) (knotsOf k z) t m i) (curveAt (basisOf k) (knotsOf k z) s′ n′ j′) (n * n * n)
+    (n′ * n′ * n′) (m * m * m) (cube n′ some) e (o .0) (o .1 s n j t m i (middle (q .order)) p) (o .1 t m i s′ n′ j′ inside q)
+  where
+    cube : (n : ℕ) → 0 < n → 0 < n * n * n
+    cube n l = mul-pos (mul-pos l l) l
+
+    middle : (t < s′) ⊎ ((t ≡ s′) × (i * n′ ≤ j′ * m)) → t < segmentsIn k z
+    middle (inl l) = omega (arith, l, inside)
+    middle (inr l) = omega (arith, l .0, inside)
+
+-- ---- a curve to be asked about there is only where no fault was told: it is that of the sheet, with its labels, and it has no span yet
+fine-only : (c d : Bool) (k k′ : Kind) (ks ks′ : List Float) (ls ls′ : List (List ℕ)) (n : ℕ)
+    → cond c (cond d (fine k′ ks′ ls′ 0) bad) bad ≡ fine k ks ls n
+    → (c ≡ true) × (d ≡ true) × (k′ ≡ k) × (ks′ ≡ ks) × (ls′ ≡ ls) × (0 ≡ n)
+fine-only true true k k′ ks ks′ ls ls′ n e = (refl, refl, cc, cc, cc, cc)
+fine-only true false k k′ ks ks′ ls ls′ n e = never (cc)
+fine-only false d k k′ ks ks′ ls ls′ n e = never (cc)
+
+pub record Drew (s : Sheet) (k : Kind) (ks : List Float) (ls : List (List ℕ)) (span : ℕ) : Type 0 where
+  pub rows : List ℤ
+  pub sheet : s ≡ on k rows ls
+  pub knots : ks ≡ doublesOf k rows
+  pub unspanned : span ≡ 0
+  pub suited : suits k (length rows) ≡ true
+  pub faultless : none (faultsOf k rows ls) ≡ true
+
+pub asked-only-fine : (s : Sheet) (k : Kind) (ks : List Float) (ls : List (List ℕ)) (span : ℕ) → askedOf s ≡ fine k ks ls span → Drew s k ks ls span
 unfolding askedOf
-asked-only-fine unbegun b ks e = never (cc)
-asked-only-fine (on k z ls) b ks e =
-    let r = fine-only (suits k (length z)) (none (faultsOf k z ls)) (fine (basisOf k) (doublesOf k z)) bad b ks e in
-    (k, z, ls, refl, r .0, r .1)
-asked-only-fine (faulty n y) b ks e = never (cc)
+asked-only-fine unbegun k ks ls span e = never (cc)
+asked-only-fine (on k′ z ls′) k ks ls span e =
+    let r = fine-only (suits k′ (length z)) (none (faultsOf k′ z ls′)) k k′ ks (doublesOf k′ z) ls ls′ span e in
+    go k ls (r .2) (r .4) (r .0) (r .1) (sym (r .3)) (sym (r .5))
+  where
+    go : (k : Kind) (ls : List (List ℕ)) → k′ ≡ k → ls′ ≡ ls → suits k′ (length z) ≡ true → none (faultsOf k′ z ls′) ≡ true → {ks : List Float} {n : ℕ}
+        → ks ≡ doublesOf k′ z → n ≡ 0 → Drew (on k′ z ls′) k ks ls n
+    go k ls p q s f w n = rw (← p, ← q) (record { rows = z; sheet = refl; knots = w; unspanned = n; suited = s; faultless = f })
+asked-only-fine (faulty n y) k ks ls span e = never (cc)

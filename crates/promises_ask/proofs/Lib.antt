@@ -1,1 +1,5 @@
 pub mod Fine
+pub mod Answers
+pub mod Reading
+pub mod Tests
+pub mod Asked

@@ -1,8 +1,7 @@
 -- The verdict at `ask`; before it a line of the sheet, after it a question.
 use mathlib.Core.Path.{_≡_, refl, sym, ap, _∙_, subst}
 use Rattle.text.proofs.Writing.{nothing}
-use Rattle.sheet.specs.Sheet.{most}
-use Rattle.ask_verdict.specs.Contract.{countIn, askedIn}
+use Rattle.ask_verdict.specs.Contract.{Askable}
 use Rattle.ask_sheet.specs.Contract.{sheetOf, lineIn, lastLine, Sound}
 use Rattle.lines_machine.specs.Contract.{openOf}
 use Prim.Native.Nat.{ℕ, _*_, _+_, _-_, _≤_, _<_, _^_}
@@ -88,17 +87,11 @@ enum-known-h-2 c = search needs
 
 answer-requires : tie.Need-answer-requires
 answer-requires c κs =
-    let at-h2 = c .before .before .before in
+    let at-h2 = c .before .before .before .before in
     let start = at-h2 .before .before .before .before .before .before in
-    let k : countIn (at-h2 .h2 .given .0 .0) ≤ most = rw (at-h2 .h2 .given .1) at (start .pre .1 .0) in (
+    let k : Askable (at-h2 .h2 .given .0 .0) = rw (at-h2 .h2 .given .1) at (start .pre .1 .0) in (
       start .pre .0,
-      (
-        k,
-        (
-          start .pre .1 .1 .1 .1 .0,
-          start .pre .1 .1 .1 .1 .1,
-        ),
-      ),
+      (k, start .pre .1 .1 .1),
     )
 
 same-length-5 : tie.Need-same-length-5
@@ -140,20 +133,21 @@ same-length-7 c = search needs
 same-length-8 : tie.Need-same-length-8
 same-length-8 c = search needs
 
+same-length-9 : tie.Need-same-length-9
+same-length-9 c = search needs
+
 returns-3 : tie.Need-returns-3
 returns-3 c =
     let at-answer = c .before .before in
-    let at-h2 = at-answer .before .before .before .before in
+    let at-h2 = at-answer .before .before .before .before .before in
     let start = at-h2 .before .before .before .before .before .before in
-    let k : countIn (at-h2 .h2 .given .0 .0) ≤ most = rw (at-h2 .h2 .given .1) at (start .pre .1 .0) in rw (at-h2 .h2 .given .1) (
-      told-next _ (openOf
-          (start .args .len) (start .args .line .now)),
+    rw (at-h2 .h2 .given .1) (
+      told-next _ (openOf (start .args .len) (start .args .line .now)) (at-answer .answer .ensures .1 .0),
       (
-        k,
+        at-answer .answer .ensures .1 .1 .0,
         (
-          as-text (told-text _ (openOf (start .args .len) (start .args .line .now)))
-              (at-answer .answer .ensures .0),
-          at-answer .answer .ensures .1,
+          as-text (told-text _ (openOf (start .args .len) (start .args .line .now))) (at-answer .answer .ensures .0),
+          at-answer .answer .ensures .1 .1 .1,
         ),
       ),
     )
@@ -179,4 +173,5 @@ line-spec =
     returns-2
     same-length-7
     same-length-8
+    same-length-9
     returns-3)

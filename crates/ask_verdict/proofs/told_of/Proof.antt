@@ -11,7 +11,7 @@ use Rattle.whole.proofs.Held.{long}
 use Rattle.basis.specs.Basis.{segmentsOf}
 use Rattle.ask_sheet.specs.Contract.{labelsTo}
 use Rattle.ask_verdict.specs.Curve.{doubleOf}
-use Rattle.ask_verdict.proofs.Telling.{faults-told, not-asked, fine-told, may-be-asked, ends-are}
+use Rattle.ask_verdict.proofs.Telling.{faults-told, not-asked, fine-told, may-be-asked, may-ask, ends-are}
 use native.Mathlib.Omega.{arith}
 use borrow.Author.Needs.{needs}
 use Rattle.ask_verdict.proofs.told_of.Statement.{statement}
@@ -35,7 +35,7 @@ returns c =
           not-asked (start .args .k) (heldAll
               (start .args .rows .now)) (labelsTo (start .args .labels .now) (length (start .args .rows .now))) (at-put-faults .put-faults .ensures .0)
               (c .if1 .taken),
-          omega arith,
+          tt,
         ),
       ),
     )
@@ -118,12 +118,9 @@ returns-2 c =
         (
           may-be-asked (start .args .k) (heldAll (start .args .rows .now)) (labelsTo
               (start .args .labels .now) (length (start .args .rows .now))) (at-put-faults .put-faults .ensures .0) (at-if1 .if1 .left)
-              (at-basis-of .basis-of .ensures) (at-fill .fill .ensures .0 ∙ ap (λ (y : List ℤ). map doubleOf y) (start .pre .0 .is)),
-          omega (
-            arith,
-            start .pre .0 .few,
-            long (start .args .whole .now),
-          ),
+              (at-fill .fill .ensures .0 ∙ ap (λ (y : List ℤ). map doubleOf y) (start .pre .0 .is)),
+          may-ask (start .args .k) z (heldAll (start .args .whole .now)) (start .pre .0) (long (start .args .rows .now))
+              (long (start .args .whole .now)),
         ),
       ),
     )

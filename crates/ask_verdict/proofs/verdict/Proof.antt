@@ -108,8 +108,7 @@ returns-2 c =
         at-put-line .put-line .ensures .1,
         (
           missing-asked,
-          omega
-              arith,
+          tt,
         ),
       ),
     )
@@ -131,7 +130,7 @@ returns-3 c =
     )) in let s = sym (at-is-suited .is-suited .ensures) ∙ at-if1 .if1 .left in rw (at-h .h .given .1) (
       unsuited-text _ _ _ n l s
           (at-put-number .put-number .ensures .0),
-      (omega (arith, at-put-number .put-number .ensures .1), (unsuited-asked _ _ _ n l s, omega arith)),
+      (omega (arith, at-put-number .put-number .ensures .1), (unsuited-asked _ _ _ n l s, tt)),
     )
 
 same-length-5 : tie.Need-same-length-5
@@ -147,8 +146,7 @@ returns-4 c =
         at-put-line2 .put-line2 .ensures .1,
         (
           faulty-asked _ _,
-          omega
-              arith,
+          tt,
         ),
       ),
     )

@@ -1,0 +1,66 @@
+-- Within the span, or 14.
+use native.Mathlib.Omega.{arith}
+use Rattle.ask_verdict.proofs.Texts.{as-text}
+use Rattle.ask_answers.proofs.Answers.{at-none, at-beyond, at-told}
+use borrow.Author.Needs.{needs}
+use Rattle.ask_answers.proofs.put_at.Statement.{statement}
+use Rattle.ask_answers.proofs.put_at.Tie as tie
+
+put-refused-requires : tie.Need-put-refused-requires
+put-refused-requires c κs = search needs
+
+same-length : tie.Need-same-length
+same-length c = search needs
+
+returns : tie.Need-returns
+returns c =
+    let at-put-refused = c .before .before in
+    let start = at-put-refused .before .before .before .before .before in (
+      as-text (at-none (start .args .b) (start .args .knots .now) (start .args .span) (start .args .n) (omega arith))
+          (at-put-refused .put-refused .ensures .0),
+      omega (arith, at-put-refused .put-refused .ensures .1),
+    )
+
+put-refused-requires-2 : tie.Need-put-refused-requires-2
+put-refused-requires-2 c κs = search needs
+
+same-length-2 : tie.Need-same-length-2
+same-length-2 c = search needs
+
+returns-2 : tie.Need-returns-2
+returns-2 c =
+    let at-put-refused2 = c .before .before in
+    let start = at-put-refused2 .before .before .before .before .before .before in (
+      as-text (at-beyond (start .args .b) (start .args .knots .now) (start .args .span) (start .args .n) (omega arith) (omega arith))
+          (at-put-refused2 .put-refused2 .ensures .0),
+      omega (arith, at-put-refused2 .put-refused2 .ensures .1),
+    )
+
+put-moment-requires : tie.Need-put-moment-requires
+put-moment-requires c κs = search needs
+
+same-length-3 : tie.Need-same-length-3
+same-length-3 c = search needs
+
+returns-3 : tie.Need-returns-3
+returns-3 c =
+    let at-put-moment = c .before .before in
+    let start = at-put-moment .before .before .before .before .before .before in (
+      as-text (at-told (start .args .b) (start .args .knots .now) (start .args .span) (start .args .n) (omega arith) (omega arith))
+          (at-put-moment .put-moment .ensures .0),
+      at-put-moment .put-moment .ensures .1,
+    )
+
+pub put-at-spec : {M : Type 1} → statement M
+put-at-spec =
+    tie.close
+    (tie.spec
+    put-refused-requires
+    same-length
+    returns
+    put-refused-requires-2
+    same-length-2
+    returns-2
+    put-moment-requires
+    same-length-3
+    returns-3)
