@@ -1,9 +1,9 @@
-/* The stored answers of crates/test_replay, on standard input, through the archive and this header: every reply, every bit of every double, every
- * whole number. README.md of that crate says what a line holds. The lines m, n and q go through the header's structs. Exits with 1 where one
- * differs. */
+/* The stored answers of crates/test_replay through the archive and this header: every reply, every bit of every double, every whole number.
+ * README.md of that crate says what a line holds. The lines m, n and q go through the header's structs; a line with the default limit and
+ * precision is asked by the call without them too. Exits with 1 where one differs. Compiled with what box/stored.h says. */
 #include "simmerstoat.h"
+#include "stored.h"
 
-#include <stdio.h>
 #include <string.h>
 
 /* The numbers are those of README.md, whatever they are called here. */
@@ -17,12 +17,15 @@ IS(BAD_SPAN, 14); IS(LOST_SEAM, 15); IS(BAD_STEP, 16); IS(BAD_ALLOWANCE, 17); IS
 IS(NO_COMPARISON, 20); IS(NO_BASIS, 255);
 IS(JOB_FLAT, 1); IS(JOB_BEFORE, 2); IS(JOB_NOT_BEGUN, 3); IS(JOB_UNDER_WAY, 4); IS(JOB_DONE, 5); IS(JOB_BEYOND, 6);
 
-enum { WORDS = 64, TABLE = 4200, LINE = 70 * 17 };
+enum { TABLE = 4200 };
 
-static uint64_t w[WORDS], words, knots, whole[4], written;
+uint32_t reply;
+static uint64_t knots, whole[4], written;
 static double table[TABLE], value, place[4], out[WORDS];
-static uint32_t reply, handed;
+static uint32_t handed;
 static bool holds;
+static struct simmerstoat_place found;
+static struct simmerstoat_job job;
 
 static uint64_t bits(double x) {
     uint64_t b;
@@ -36,55 +39,86 @@ static double of(uint64_t b) {
     return x;
 }
 
-/* what the line of an inversion asks, and its record as the header tells it */
-static struct simmerstoat_options asked(void) {
-    struct simmerstoat_options o = {w[2] == 1, (uint16_t)w[3], of(w[4]), (uint8_t)w[13], (uint8_t)w[14]};
-    return o;
+/* ---- the calls, a letter each */
+#define BASIS (uint8_t)w[0]
+#define Y of(w[1])
+#define CHECK (w[2] == 1)
+#define LIMIT (uint16_t)w[3]
+#define PRECISION of(w[4])
+#define ENDS (uint8_t)w[13]
+#define METHOD (uint8_t)w[14]
+#define SPAN (uint32_t)w[15]
+#define OPTIONS (struct simmerstoat_options){CHECK, LIMIT, PRECISION, ENDS, METHOD}
+
+void nothing(void) { reply = simmerstoat_version(); }
+static void v(void) { reply = simmerstoat_spline(BASIS, Y, table, knots, &value); }
+static void s(void) { reply = simmerstoat_spline_segment(BASIS, Y, table, knots, &value); }
+static void t(void) { reply = simmerstoat_table_spline(BASIS, (uint32_t)w[4], Y, table, knots, &value); }
+static void a(void) { reply = simmerstoat_check_claim(BASIS, Y, w[2], of(w[3]), of(w[4]), table, knots, &holds); }
+static void i(void) { reply = simmerstoat_spline_inverse_with(BASIS, Y, table, knots, CHECK, LIMIT, PRECISION, place, whole); }
+static void i_default(void) { reply = simmerstoat_spline_inverse(BASIS, Y, table, knots, CHECK, place, whole); }
+static void j(void) { reply = simmerstoat_spline_inverse_segment_with(BASIS, Y, table, knots, LIMIT, PRECISION, place, whole); }
+static void j_default(void) { reply = simmerstoat_spline_inverse_segment(BASIS, Y, table, knots, place, whole); }
+static void m(void) { reply = simmerstoat_find(BASIS, Y, table, knots, OPTIONS, &found); }
+static void n(void) { reply = simmerstoat_find_in_segment(BASIS, Y, table, knots, OPTIONS, &found); }
+static void o(void) { reply = simmerstoat_spline_inverse_steady(BASIS, Y, table, knots, CHECK, place, whole); }
+static void p(void) { reply = simmerstoat_spline_inverse_segment_steady(BASIS, Y, table, knots, place, whole); }
+static void tw(void) { reply = simmerstoat_table_spline_inverse(BASIS, SPAN, Y, table, knots, CHECK, place, whole); }
+static void x(void) {
+    reply = simmerstoat_table_spline_inverse_by(BASIS, SPAN, Y, table, knots, CHECK, LIMIT, PRECISION, ENDS, METHOD, place, whole);
+}
+static void y(void) { reply = simmerstoat_table_spline_inverse_steady(BASIS, SPAN, Y, table, knots, CHECK, place, whole); }
+static void q(void) { reply = simmerstoat_job_at(BASIS, SPAN, Y, table, knots, CHECK, &job); }
+static void h(void) {
+    reply = simmerstoat_depth_at(BASIS, table, w[14], ENDS, table + w[14], knots - w[14], Y, LIMIT, PRECISION, &value, place, whole);
+}
+static void c(void) { reply = simmerstoat_convert_spline(BASIS, (uint8_t)w[1], table, knots, out, WORDS, &written); }
+static void d(void) { written = 4, reply = simmerstoat_convert_segment(BASIS, (uint8_t)w[1], table, knots, out, WORDS); }
+static void e(void) { reply = simmerstoat_convert_spline_strict(BASIS, (uint8_t)w[1], table, knots, of(w[2]), out, WORDS, &written); }
+static void f(void) {
+    reply = simmerstoat_table_convert_spline(BASIS, (uint32_t)w[3], (uint8_t)w[1], table, knots, out, WORDS, &handed, &written);
+}
+static void g(void) {
+    reply = simmerstoat_table_convert_spline_strict(BASIS, (uint32_t)w[3], (uint8_t)w[1], table, knots, of(w[2]), out, WORDS, &handed,
+                                                    &written);
 }
 
-static void told(struct simmerstoat_place p) {
-    place[0] = p.parameter, place[1] = p.local, place[2] = p.lower, place[3] = p.upper;
-    whole[0] = p.ground, whole[1] = p.segment, whole[2] = p.count;
+const struct call calls[] = {
+    {'v', "spline", v},
+    {'s', "spline_segment", s},
+    {'t', "table_spline", t},
+    {'a', "check_claim", a},
+    {'i', "spline_inverse_with", i},
+    {'j', "spline_inverse_segment_with", j},
+    {'m', "spline_inverse_by", m},
+    {'n', "spline_inverse_segment_by", n},
+    {'o', "spline_inverse_steady", o},
+    {'p', "spline_inverse_segment_steady", p},
+    {'w', "table_spline_inverse", tw},
+    {'x', "table_spline_inverse_by", x},
+    {'y', "table_spline_inverse_steady", y},
+    {'q', "stopped", q},
+    {'h', "depth_at", h},
+    {'c', "convert_spline", c},
+    {'d', "convert_segment", d},
+    {'e', "convert_spline_strict", e},
+    {'f', "table_convert_spline", f},
+    {'g', "table_convert_spline_strict", g},
+};
+const unsigned letters = sizeof calls / sizeof *calls;
+
+void held(char letter) {
+    if (letter == 'k') for (knots = 0; knots < words; knots++) table[knots] = of(w[knots]);
+    if (letter == 'z') knots = w[0];
 }
 
-/* one line's call: basis, then as its letter has it */
-static void invert(char letter) {
-    const uint8_t b = (uint8_t)w[0];
-    const double y = of(w[1]), precision = of(w[4]);
-    const bool check = w[2] == 1;
-    const uint16_t limit = (uint16_t)w[3];
-    const uint32_t span = (uint32_t)w[15];
-    struct simmerstoat_place p = {0, 0, 0, 0, 0, 0, 0};
-    switch (letter) {
-    case 'i': reply = simmerstoat_spline_inverse_with(b, y, table, knots, check, limit, precision, place, whole); break;
-    case 'j': reply = simmerstoat_spline_inverse_segment_with(b, y, table, knots, limit, precision, place, whole); break;
-    case 'm': reply = simmerstoat_find(b, y, table, knots, asked(), &p), told(p); break;
-    case 'n': reply = simmerstoat_find_in_segment(b, y, table, knots, asked(), &p), told(p); break;
-    case 'o': reply = simmerstoat_spline_inverse_steady(b, y, table, knots, check, place, whole); break;
-    case 'p': reply = simmerstoat_spline_inverse_segment_steady(b, y, table, knots, place, whole); break;
-    case 'w': reply = simmerstoat_table_spline_inverse(b, span, y, table, knots, check, place, whole); break;
-    case 'x':
-        reply = simmerstoat_table_spline_inverse_by(b, span, y, table, knots, check, limit, precision, (uint8_t)w[13], (uint8_t)w[14], place, whole);
-        break;
-    case 'y': reply = simmerstoat_table_spline_inverse_steady(b, span, y, table, knots, check, place, whole); break;
-    default:
-        reply = simmerstoat_depth_at(b, table, w[14], (uint8_t)w[13], table + w[14], knots - w[14], y, limit, precision, &value, place, whole);
-    }
+void forget(void) {
+    reply = 12345, value = 0, holds = false, written = 0, handed = 0;
+    memset(place, 0, sizeof place), memset(whole, 0, sizeof whole), memset(out, 0, sizeof out);
+    memset(&found, 0, sizeof found), memset(&job, 0, sizeof job);
 }
 
-static void convert(char letter) {
-    const uint8_t from = (uint8_t)w[0], to = (uint8_t)w[1];
-    const uint32_t span = (uint32_t)w[3];
-    switch (letter) {
-    case 'c': reply = simmerstoat_convert_spline(from, to, table, knots, out, WORDS, &written); break;
-    case 'd': written = 4, reply = simmerstoat_convert_segment(from, to, table, knots, out, WORDS); break;
-    case 'e': reply = simmerstoat_convert_spline_strict(from, to, table, knots, of(w[2]), out, WORDS, &written); break;
-    case 'f': reply = simmerstoat_table_convert_spline(from, span, to, table, knots, out, WORDS, &handed, &written); break;
-    default: reply = simmerstoat_table_convert_spline_strict(from, span, to, table, knots, of(w[2]), out, WORDS, &handed, &written);
-    }
-}
-
-/* ---- what was left, beside what is stored */
+/* ---- what they left, beside what is stored */
 static bool same_output(const uint64_t *stored) {
     if (reply != stored[0]) return false;
     if (reply != 0) return true;
@@ -100,73 +134,43 @@ static bool same_place(bool fourth) {
     if (reply != 0) return true;
     return bits(place[SIMMERSTOAT_PARAMETER]) == w[6] && bits(place[SIMMERSTOAT_LOCAL]) == w[7] && bits(place[SIMMERSTOAT_LOWER]) == w[8] &&
            bits(place[SIMMERSTOAT_UPPER]) == w[9] && whole[SIMMERSTOAT_GROUND] == w[10] && whole[SIMMERSTOAT_SEGMENT] == w[11] &&
-           whole[SIMMERSTOAT_COUNT] == w[12] && (!fourth || whole[3] == w[16]);
+           whole[SIMMERSTOAT_COUNT] == w[12] && (!fourth || whole[SIMMERSTOAT_SECOND] == w[16]);
 }
 
-/* a stopped job goes through the header's struct, whose job is 0 on a refusal */
-static bool same_job(void) {
-    struct simmerstoat_job j;
-    memset(&j, 0, sizeof j);
-    reply = simmerstoat_job_at((uint8_t)w[0], (uint32_t)w[15], of(w[1]), table, knots, w[2] == 1, &j);
-    told(j.place), whole[SIMMERSTOAT_SECOND] = j.second;
-    return same_place(true) && j.job == w[13];
+/* the header's record, by README.md's numbers */
+static void told(struct simmerstoat_place r) {
+    place[0] = r.parameter, place[1] = r.local, place[2] = r.lower, place[3] = r.upper;
+    whole[0] = r.ground, whole[1] = r.segment, whole[2] = r.count;
 }
 
-static bool is_equal(char letter) {
-    const uint8_t b = (uint8_t)w[0];
-    reply = 12345, value = 0, holds = false, written = 0, handed = 0;
-    memset(place, 0, sizeof place), memset(whole, 0, sizeof whole), memset(out, 0, sizeof out);
+/* with the default limit and precision the call without them answers the same */
+static bool same_by_default(void (*call)(void)) {
+    if (w[3] != 32 || PRECISION != 1e-10) return true;
+    forget(), call();
+    return same_place(false);
+}
+
+bool is_equal(char letter) {
     switch (letter) {
-    case 'v': reply = simmerstoat_spline(b, of(w[1]), table, knots, &value); break;
-    case 's': reply = simmerstoat_spline_segment(b, of(w[1]), table, knots, &value); break;
-    case 't': reply = simmerstoat_table_spline(b, (uint32_t)w[4], of(w[1]), table, knots, &value); break;
-    case 'a':
-        reply = simmerstoat_check_claim(b, of(w[1]), w[2], of(w[3]), of(w[4]), table, knots, &holds);
-        return reply == w[5] && holds == (w[6] == 1);
-    case 'c': case 'd': convert(letter); return same_output(w + 2);
-    case 'e': convert(letter); return same_output(w + 4);
-    case 'f': case 'g': convert(letter); return same_output(w + 4) && (reply != 0 || handed == (uint32_t)w[3]);
-    case 'h': invert(letter); return same_place(true) && (reply != 0 || bits(value) == w[15]);
-    case 'w': case 'x': case 'y': invert(letter); return same_place(true);
-    case 'q': return same_job();
-    default: invert(letter); return same_place(false);
+    case 'v': case 's': case 't': return reply == w[2] && (reply != 0 || bits(value) == w[3]);
+    case 'a': return reply == w[5] && holds == (w[6] == 1);
+    case 'c': case 'd': return same_output(w + 2);
+    case 'e': return same_output(w + 4);
+    case 'f': case 'g': return same_output(w + 4) && (reply != 0 || handed == (uint32_t)w[3]);
+    case 'h': return same_place(true) && (reply != 0 || bits(value) == w[15]);
+    case 'm': case 'n': told(found); return same_place(false);
+    case 'q': told(job.place), whole[SIMMERSTOAT_SECOND] = job.second; return same_place(true) && job.job == w[13];
+    case 'w': case 'x': case 'y': return same_place(true);
+    case 'i': return same_place(false) && same_by_default(i_default);
+    case 'j': return same_place(false) && same_by_default(j_default);
+    default: return same_place(false);
     }
-    return reply == w[2] && (reply != 0 || bits(value) == w[3]);
 }
 
 /* the header's defaults: the order check, 32 rounds, 1e-10, as the crate does */
 static bool are_defaults(void) {
-    const struct simmerstoat_options o = simmerstoat_defaults();
-    return o.check && o.limit == 32 && o.precision == 1e-10 && o.ends == SIMMERSTOAT_ENDS_KNOTS && o.method == SIMMERSTOAT_AS_CRATE;
+    const struct simmerstoat_options d = simmerstoat_defaults();
+    return d.check && d.limit == 32 && d.precision == 1e-10 && d.ends == SIMMERSTOAT_ENDS_KNOTS && d.method == SIMMERSTOAT_AS_CRATE;
 }
 
-/* by default: a line with 32 rounds and 1e-10 has the answer of the call without them */
-static bool is_default(char letter) {
-    const uint8_t b = (uint8_t)w[0];
-    if (w[3] != 32 || of(w[4]) != 1e-10) return true;
-    if (letter == 'i') reply = simmerstoat_spline_inverse(b, of(w[1]), table, knots, w[2] == 1, place, whole);
-    else if (letter == 'j') reply = simmerstoat_spline_inverse_segment(b, of(w[1]), table, knots, place, whole);
-    else return true;
-    return same_place(false);
-}
-
-int main(void) {
-    char line[LINE];
-    unsigned compared = 0, equal = 0, number = 0;
-    while (fgets(line, sizeof line, stdin)) {
-        number++, words = 0;
-        for (char *at = line + 1; *at == ' ' && words < WORDS;) {
-            uint64_t word = 0;
-            for (at++; *at && *at != ' ' && *at != '\n'; at++) word = word * 16 + (uint64_t)(*at <= '9' ? *at - '0' : *at - 'A' + 10);
-            w[words++] = word;
-        }
-        if (line[0] == 'k') for (knots = 0; knots < words; knots++) table[knots] = of(w[knots]);
-        if (line[0] == 'z') knots = w[0];
-        if (line[0] == 'k' || line[0] == 'z') continue;
-        const bool good = is_equal(line[0]) && is_default(line[0]);
-        compared++, equal += good;
-        if (!good) fprintf(stderr, "line %u differs: %c replied %u\n", number, line[0], (unsigned)reply);
-    }
-    printf("%u answers compared, %u equal\n", compared, equal);
-    return compared == 0 || equal != compared || !are_defaults();
-}
+int main(void) { return !is_replayed() || !are_defaults(); }

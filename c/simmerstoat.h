@@ -304,9 +304,9 @@ static inline const char *simmerstoat_text(uint32_t reply) {
     switch (SIMMERSTOAT_NUMBER(reply)) {
     case SIMMERSTOAT_DONE: return "done";
     case SIMMERSTOAT_NO_BASIS: return "no such basis, rule of the ends or method";
-    case SIMMERSTOAT_TOO_FEW: return "fewer than 4 knots";
+    case SIMMERSTOAT_TOO_FEW: return "too few knots";
     case SIMMERSTOAT_BAD_PATTERN: return "this many knots do not suit the basis";
-    case SIMMERSTOAT_TOO_MANY: return "more than 4096 knots";
+    case SIMMERSTOAT_TOO_MANY: return "too many knots";
     case SIMMERSTOAT_BAD_SPAN: return "the span is missing or not in 1 to 86400";
     case SIMMERSTOAT_NOT_A_NUMBER: return "the parameter or target is NaN or outside its range";
     case SIMMERSTOAT_BAD_PRECISION: return "the precision is not finite or not above 0";
@@ -316,7 +316,7 @@ static inline const char *simmerstoat_text(uint32_t reply) {
     case SIMMERSTOAT_SHORT_BUFFER: return "the output buffer is too short";
     case SIMMERSTOAT_BAD_STEP: return "the step is above 256";
     case SIMMERSTOAT_NO_SEGMENT: return "there is no such segment";
-    case SIMMERSTOAT_BAD_KNOT: return "a knot is not finite or exceeds 2^40";
+    case SIMMERSTOAT_BAD_KNOT: return "a knot is not finite or too large";
     case SIMMERSTOAT_TURNS_BACK: return "a knot goes against the direction";
     case SIMMERSTOAT_UNEQUAL_SEGMENTS: return "the tables have different counts of segments";
     case SIMMERSTOAT_OFF_CURVE: return "the target is not on the curve";

@@ -1,12 +1,13 @@
 /* Curves over whole numbers: whether one turns back, decided exactly, and a table whose curve cannot. Proved, and without
- * floating-point arithmetic. Link with libsimmerstoat_whole.a, which `rt staticlib simmerstoat_whole` writes.
+ * floating-point arithmetic. Link with libsimmerstoat_whole.a: for x86-64 Linux `rt staticlib simmerstoat_whole` writes it,
+ * for the processors of small boxes `bin/box TARGET` (docs/BOX.md).
  *
  * Depths are whole numbers, of thousandths for a sheet's. Every call answers every input: none panics, loops or reads
  * outside what is lent.
  *
  * What a caller owes
  *   - A pointer with a length is good for that many numbers; it may be null where the length is 0. Each other pointer is
- *     good for what it points to. The numbers may be anything.
+ *     good for what it points to. The numbers may be anything. Each pointer is aligned as its type is.
  *   - What is written overlaps nothing else that the call is lent.
  *
  * What comes back
@@ -15,8 +16,13 @@
  *     in the order that stands at each call. On a refusal nothing is written.
  *
  * What the archive is
- *   - One object for x86-64 Linux with code alone: no state, no heap, no symbol undefined. Every call is re-entrant, and
- *     may run in any thread or signal handler.
+ *   - One object. Beside code it has constants alone: no state and no heap. For x86-64 no symbol is undefined; elsewhere it
+ *     may call what docs/BOX.md lists, and nothing that computes with doubles. So every call is re-entrant, and may run in
+ *     any thread, signal handler or interrupt. On the targets of bin/box no floating-point register is named.
+ *   - Stack in bytes, at most (c/stack.c measures it, up to 4,096 knots, helpers included):
+ *                                x86-64   targets of bin/box
+ *         turning back              256   400
+ *         table                      96   256
  */
 #ifndef SIMMERSTOAT_WHOLE_H
 #define SIMMERSTOAT_WHOLE_H

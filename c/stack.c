@@ -5,6 +5,7 @@
 #include "machine.h"
 #include "simmerstoat.h"
 #include "simmerstoat_valve.h"
+#include "simmerstoat_whole.h"
 
 #include <stdio.h>
 
@@ -16,10 +17,10 @@ static const uint32_t PAINT = 0xA5C3A5C3;
  * are within. */
 #if defined(__x86_64__)
 enum { EVALUATION = 96, INVERSION = 512, CONVERSION = 400, STRICT = 512, TABLE = 416, DEPTH = 576, JOB = 576, VALVE = 256,
-       RETURN_ADDRESS = 8 };
+       TURNS = 256, MONOTONE = 96, RETURN_ADDRESS = 8 };
 #else
 enum { EVALUATION = 400, INVERSION = 800, CONVERSION = 1024, STRICT = 1024, TABLE = 1024, DEPTH = 900, JOB = 960, VALVE = 256,
-       RETURN_ADDRESS = 0 };
+       TURNS = 400, MONOTONE = 256, RETURN_ADDRESS = 0 };
 #endif
 
 static uint32_t stack[WORDS] __attribute__((aligned(16)));
@@ -31,7 +32,9 @@ static uint8_t job;
 static int basis, other;
 static uint64_t length;
 static double at;
-static const int64_t whole_knots[4] = {-1000000, 1000000, 7, -8};
+static const int64_t valve_knots[4] = {-1000000, 1000000, 7, -8};
+static int64_t whole_knots[KNOTS], whole_out[KNOTS];
+static uint64_t turning[2];
 static int64_t sum;
 static volatile uint32_t reply;
 
@@ -103,7 +106,10 @@ static void depth_at(void) {
     reply = simmerstoat_depth_at(basis, knots, length, basis, knots, length, at * 40, 300, 1e-300, &value, place, whole);
 }
 
-static void valve(void) { reply = simmerstoat_valve((uint16_t)(at * 256), whole_knots, 4, &sum); }
+static void valve(void) { reply = simmerstoat_valve((uint16_t)(at * 256), valve_knots, 4, &sum); }
+static void turns_back(void) { reply = simmerstoat_turns_back(basis, whole_knots, length, turning); }
+static void turns_back_by(void) { reply = simmerstoat_turns_back_by(basis, other % 2, whole_knots, length, turning); }
+static void monotone(void) { reply = simmerstoat_monotone(whole_knots, length / 2, whole_out, KNOTS, &written); }
 
 static uint32_t depth(void (*call)(void)) {
     for (int i = 0; i < WORDS; i++) stack[i] = PAINT;
@@ -163,8 +169,11 @@ int main(void) {
                  {"table_convert_spline_strict", table_convert_spline_strict, STRICT},
                  {"check_claim", check_claim, EVALUATION},
                  {"depth_at", depth_at, DEPTH},
-                 {"valve", valve, VALVE}};
-    for (int i = 0; i < KNOTS; i++) knots[i] = 0.01 * i;
+                 {"valve", valve, VALVE},
+                 {"turns_back", turns_back, TURNS},
+                 {"turns_back_by", turns_back_by, TURNS},
+                 {"monotone", monotone, MONOTONE}};
+    for (int i = 0; i < KNOTS; i++) knots[i] = 0.01 * i, whole_knots[i] = 10 * i + i % 7;
     const uint32_t empty = depth(version) - RETURN_ADDRESS;
     int deep = 0;
     printf("| call | bytes of stack | at most |\n|---|---:|---:|\n");

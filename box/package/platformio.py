@@ -19,4 +19,4 @@ target = env.GetProjectOption("custom_simmerstoat_target", told)  # noqa: F821
 folder = realpath(join("lib", str(target)))
 if not exists(join(folder, "libsimmerstoat.a")):
     raise SystemExit("simmerstoat: no archive for %s; name a folder of lib/ in custom_simmerstoat_target" % target)
-env.Append(LIBPATH=[folder], LIBS=["simmerstoat", "valve"])  # noqa: F821
+env.Append(LIBPATH=[folder], LIBS=["simmerstoat", "valve", "simmerstoat_whole"])  # noqa: F821

@@ -8,11 +8,11 @@ use core::fmt;
 #[derive(Clone, Copy, Debug, PartialEq, Eq)]
 #[non_exhaustive]
 pub enum Refusal {
-    /// 1: fewer than 4 knots.
+    /// 1: fewer than 4 knots, or fewer than 2 rows of a table.
     TooFew,
     /// 2: 4 less than the knots is no multiple of STEP; one segment: more than 4 knots.
     BadPattern,
-    /// 3: more than 4,096 knots.
+    /// 3: more than 4,096 knots, or more than 2,048 rows of a table.
     TooMany,
     /// 14: the span is missing, or outside 1 to 86,400 seconds.
     BadSpan,
@@ -32,7 +32,8 @@ pub enum Refusal {
     BadStep,
     /// 19: the segment's number is not below the count of segments.
     NoSegment,
-    /// 4: a knot is not finite or exceeds 2^40 in magnitude; the first such knot, from 0.
+    /// 4: a knot is not finite or exceeds 2^40 in magnitude; in whole numbers it exceeds the module's own bound. The first such
+    /// knot, from 0.
     BadKnot(u16),
     /// 10: the order check was wanted, and the knots turn back; the first knot, from 0, whose step to the next goes
     /// against the direction.
@@ -110,9 +111,9 @@ impl Refusal {
 impl fmt::Display for Refusal {
     fn fmt(&self, f: &mut fmt::Formatter) -> fmt::Result {
         match self {
-            Refusal::TooFew => f.write_str("fewer than 4 knots"),
+            Refusal::TooFew => f.write_str("too few knots"),
             Refusal::BadPattern => f.write_str("this many knots do not suit the basis"),
-            Refusal::TooMany => f.write_str("more than 4096 knots"),
+            Refusal::TooMany => f.write_str("too many knots"),
             Refusal::BadSpan => f.write_str("the span is missing or not in 1 to 86400"),
             Refusal::NotANumber => f.write_str("the parameter or target is NaN or outside its range"),
             Refusal::BadPrecision => f.write_str("the precision is not finite or not above 0"),
@@ -122,7 +123,7 @@ impl fmt::Display for Refusal {
             Refusal::ShortBuffer => f.write_str("the output buffer is too short"),
             Refusal::BadStep => f.write_str("the step is above 256"),
             Refusal::NoSegment => f.write_str("there is no such segment"),
-            Refusal::BadKnot(i) => write!(f, "knot {i} is not finite or exceeds 2^40"),
+            Refusal::BadKnot(i) => write!(f, "knot {i} is not finite or too large"),
             Refusal::TurnsBack(i) => write!(f, "knot {i} goes against the direction"),
             Refusal::UnequalSegments => f.write_str("the tables have different counts of segments"),
             Refusal::OffCurve(n) => write!(f, "the target is not on the curve, after {n} evaluations"),

@@ -103,7 +103,7 @@ fn places() {
 #[test]
 fn messages() {
     assert_eq!(Refusal::TurnsBack(2).to_string(), "knot 2 goes against the direction");
-    assert_eq!(Refusal::BadKnot(4095).to_string(), "knot 4095 is not finite or exceeds 2^40");
+    assert_eq!(Refusal::BadKnot(4095).to_string(), "knot 4095 is not finite or too large");
     assert_eq!((Refusal::TurnsBack(2).number(), Refusal::BadKnot(7).number(), Refusal::LostSeam(1).number()), (10, 4, 15));
 }
 

@@ -1,0 +1,6 @@
+#include "Arduino.h"
+
+int main() {
+    setup();
+    for (;;) loop();
+}
