@@ -6,7 +6,7 @@ use mathlib.Core.List.{List, [], _∷_, _++_, map, append-assoc, append-nil}
 use Prim.Native.Nat.{ℕ, zero, suc, _+_, _*_, _^_, _≤_, _<_}
 use native.Mathlib.Nat.{le-trans, mul-le-mul-right, mul-pos, mul-one}
 use native.Mathlib.Omega.{arith}
-use borrow.Author.Tests.{le-leb, lt-leb, le-ltb, eqb-true, not-false}
+use borrow.Author.Tests.{leb-true, le-leb, lt-leb, le-ltb, eqb-true, not-false}
 use lib.Dec.{leb, ltb, eqb, lit≤, lit<}
 use lib.IntN.{ℤ, pos, negsuc, natAbs}
 use lib.Ieee.{Float, nan, inf, fin, up, down, binary64, round, div, neg, le, lt, eq, isNan, ofInt, ofBits, unlike, Format, prec, low, emax, odd, units}
@@ -312,6 +312,25 @@ module _ (k : Kind) (ks : List Float) (ls : List (List ℕ)) (span : ℕ) (o : L
       go (Q.At n) e = span-by (Q.At n) e
       go (Q.Every n) e = span-by (Q.Every n) e
       go Q.Nothing e = span-by Q.Nothing e
+
+  -- and it never passes a day
+  pub span-few : span ≤ day → spanAfter k ks span o ≤ day
+  unfolding spanBy
+  span-few h = go (questionOf o) refl
+    where
+      row : (n : ℕ) (t : Bool) → leb n day ≡ t → (u : Bool) → cond (u && t) n span ≤ day
+      row n true e true = leb-true n day e
+      row n true e false = h
+      row n false e true = h
+      row n false e false = h
+
+      go : (q : Question) → questionOf o ≡ q → spanAfter k ks span o ≤ day
+      go Q.Table e = rw (span-by Q.Table e) h
+      go (Q.Row n) e = rw (span-by (Q.Row n) e) (row (curveSeconds k ks n) (leb (curveSeconds k ks n) day) refl (leb 1 (curveSeconds k ks n)))
+      go (Q.Find y) e = rw (span-by (Q.Find y) e) h
+      go (Q.At n) e = rw (span-by (Q.At n) e) h
+      go (Q.Every n) e = rw (span-by (Q.Every n) e) h
+      go Q.Nothing e = rw (span-by Q.Nothing e) h
 
   -- `table`: the records that would enter it; a line that asks nothing: 12
   pub table-told : questionOf o ≡ Q.Table → answerText k ks ls span o ≡ textOf (curve (basisOf k) [] ks)

@@ -3,7 +3,7 @@
 use mathlib.Core.Path.{_≡_, refl, sym, ap, _∙_}
 use mathlib.Core.Bool.{Bool, true, false, cond, _||_}
 use mathlib.Core.List.{List, [], _∷_, _++_, append-assoc, append-nil}
-use Prim.Native.Nat.{ℕ, zero, suc}
+use Prim.Native.Nat.{ℕ, zero, suc, _≤_}
 use lib.Ieee.{Float}
 use lib.ListN.{length}
 use Rattle.error.specs.declared.Refusal.the-variants.{BadSheet}
@@ -15,6 +15,8 @@ use Rattle.ask_sheet.specs.Sheet.{Sheet, unbegun, afterOf}
 use Rattle.ask_verdict.specs.Told.{verdictOf, Asked, bad, fine, askedOf}
 use Rattle.ask_answers.specs.Answers.{answerText, spanAfter}
 use Rattle.ask.specs.Ask.{reading, told, isAsk, answerTo, afterAsk, tellsOf, nextOf, endsOf, askProgram}
+use Rattle.table_span.specs.Second.{day}
+use Rattle.promises_ask.proofs.Answers.{span-few}
 use Rattle.promises_ask.proofs.Reading.{sheetAfter, sheetRead}
 
 -- whether one of some lines is `ask`
@@ -105,3 +107,9 @@ answered-there k ks ls span (p ∷ ps) q rs =
     let n = spanAfter k ks span (lineOf p) in
     ap (λ (t : List ℕ). answerText k ks ls span (lineOf p) ++ t) (answered-there k ks ls n ps q rs)
     ∙ sym (append-assoc (answerText k ks ls span (lineOf p)) (answersText k ks ls n ps) _)
+
+-- and the span by which it is answered is of a day at most
+pub left-few : (k : Kind) (ks : List Float) (span : ℕ) (qs : List (List ℕ)) → span ≤ day → spanLeft k ks span qs ≤ day
+unfolding spanLeft
+left-few k ks span [] h = h
+left-few k ks span (q ∷ qs) h = left-few k ks (spanAfter k ks span (lineOf q)) qs (span-few k ks [] span (lineOf q) h)

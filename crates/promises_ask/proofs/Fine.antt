@@ -37,9 +37,10 @@ use Rattle.ask_sheet.specs.declared.Kind.{Kind}
 use Rattle.ask_sheet.specs.declared.Kind.the-variants.{Drawn, Monotone}
 use Rattle.ask_sheet.specs.Sheet.{Sheet, unbegun, on, faulty}
 use Rattle.ask_verdict.specs.Curve.{basisOf, knotsOf, firstRow, rowStep, suits, doublesOf}
-use Rattle.text.specs.Text.{same}
-use Rattle.ask_verdict.specs.Faults.{Fault, twice, turns, falls, sameFrom, firstSame, turnsAt, fallsAt, bendOf, segmentsIn, bendAt, bentAt, twiceAt, faultsTo, flatBy, wayIn, faultsOf}
-use Rattle.ask_verdict.specs.Told.{none, Asked, bad, fine, askedOf}
+use Rattle.text.specs.Text.{bytes, same}
+use Rattle.inverse.specs.declared.Ends.{Ends}
+use Rattle.ask_verdict.specs.Faults.{Fault, twice, turns, falls, flat, sameFrom, firstSame, turnsAt, fallsAt, bendOf, segmentsIn, bendAt, bentAt, twiceAt, faultsTo, flatBy, wayIn, faultsOf}
+use Rattle.ask_verdict.specs.Told.{numberText, faultsText, endsIn, fineText, none, toldOf, verdictOf, bad, fine, askedOf}
 
 -- ---- no fault in a list is none in its parts
 none-left : (a b : List Fault) → none (a ++ b) ≡ true → none a ≡ true
@@ -324,3 +325,35 @@ asked-only-fine (on k′ z ls′) k ks ls span e =
         → ks ≡ doublesOf k′ z → n ≡ 0 → Drew (on k′ z ls′) k ks ls n
     go k ls p q s f w n = rw (← p, ← q) (record { rows = z; sheet = refl; knots = w; unspanned = n; suited = s; faultless = f })
 asked-only-fine (faulty n y) k ks ls span e = never (cc)
+
+-- ---- and there the verdict says `fine`, with the number of its depths and the curve's ends; elsewhere it never does
+pub fine-told : (s : Sheet) (k : Kind) (ks : List Float) (ls : List (List ℕ)) (span : ℕ) (d : Drew s k ks ls span)
+    → verdictOf s ≡ fineText (length (d .rows)) (endsIn (basisOf k) ks)
+unfolding verdictOf
+fine-told s k ks ls span d = rw (d .sheet, d .suited, d .faultless, d .knots) refl
+
+byte-at : (i : ℕ) (t u : List ℕ) → t ≡ u → getD t i 0 ≡ getD u i 0
+byte-at i t u e = ap (λ (w : List ℕ). getD w i 0) e
+
+fault-not-fine : (f : Fault) (fs : List Fault) (n : ℕ) (x : Ends) → faultsText (f ∷ fs) ≡ fineText n x → ⊥
+unfolding faultsText
+fault-not-fine (twice i j) fs n x e = never (omega (arith, byte-at 0 _ _ e))
+fault-not-fine (turns i) fs n x e = never (omega (arith, byte-at 0 _ _ e))
+fault-not-fine (falls i) fs n x e = never (omega (arith, byte-at 1 _ _ e))
+fault-not-fine flat fs n x e = never (omega (arith, byte-at 1 _ _ e))
+
+told-not-fine : (k : Kind) (z : List ℤ) (fs : List Fault) → none fs ≡ false → (n : ℕ) (x : Ends) → toldOf k z fs ≡ fineText n x → ⊥
+told-not-fine k z [] h n x e = never (cc)
+told-not-fine k z (f ∷ fs) h n x e = fault-not-fine f fs n x e
+
+pub bad-not-fine : (s : Sheet) → askedOf s ≡ bad → (n : ℕ) (x : Ends) → verdictOf s ≡ fineText n x → ⊥
+unfolding askedOf verdictOf
+bad-not-fine unbegun h n x e = never (omega (arith, byte-at 0 _ _ e))
+bad-not-fine (faulty i r) h n x e = never (omega (arith, byte-at 0 _ _ e))
+bad-not-fine (on k z ls) h n x e = go (suits k (length z)) (none (faultsOf k z ls)) refl h e
+  where
+    go : (c d : Bool) → none (faultsOf k z ls) ≡ d → cond c (cond d (fine k (doublesOf k z) ls 0) bad) bad ≡ bad
+        → cond c (toldOf k z (faultsOf k z ls)) (numberText (bytes "length\t") (length z)) ≡ fineText n x → ⊥
+    go true true q h e = never (cc)
+    go true false q h e = told-not-fine k z (faultsOf k z ls) q n x e
+    go false d q h e = never (omega (arith, byte-at 0 _ _ e))
