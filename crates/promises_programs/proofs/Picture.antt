@@ -1,12 +1,12 @@
 -- The picture of a listing: however its input is cut, what its calls write is what the whole of it prints. Assumes nothing.
-use mathlib.Core.Path.{_≡_, refl, _∙_}
+use mathlib.Core.Path.{_≡_, refl, ap, _∙_}
 use mathlib.Core.List.{List, [], _++_}
 use Prim.Native.Nat.{ℕ}
 use denote.Ref.{now}
 use lib.ListN.{take}
 use lib.Ieee.{Float}
 use Rattle.picture.specs.declared.PictureReader.{PictureReader}
-use Rattle.picture.specs.Program.{Drawing, nothingDrawn, toldOf, faultAfter, endsWith, pictureProgram}
+use Rattle.picture.specs.Program.{Drawing, nothingDrawn, toldOf, faultIn, faultAfter, endsWith, pictureProgram}
 use Rattle.picture.specs.Contract.{stateOf}
 use Rattle.error.specs.declared.Refusal.{Refusal}
 use Rattle.error.proofs.First.{never}
@@ -69,21 +69,21 @@ told : (f : Fault) (c : Curve) (q : Record) (r : Refusal) → replyTo c q ≡ re
     → ((t : Table) (m : EndsBy) (ks : List Float) (y : Float) → c ≡ on t m ks → q ≡ Find y → ⊥) → faultAfter f q (toldOf c q) ≡ Is r
 unfolding replyTo
 told f none (CurveOf b) r h n = never (cc)
-told f none (Span s) r h n = rw h refl
-told f none (Knot x) r h n = rw h refl
-told f none (Ends k) r h n = rw h refl
-told f none (At x) r h n = rw h refl
-told f none (Find y) r h n = rw h refl
-told f none (Turn b) r h n = rw h refl
-told f none Bad r h n = rw h refl
+told f none (Span s) r h n = ap (faultIn f) h
+told f none (Knot x) r h n = ap (faultIn f) h
+told f none (Ends k) r h n = ap (faultIn f) h
+told f none (At x) r h n = ap (faultIn f) h
+told f none (Find y) r h n = ap (faultIn f) h
+told f none (Turn b) r h n = ap (faultIn f) h
+told f none Bad r h n = ap (faultIn f) h
 told f (on t m ks) (CurveOf b) r h n = never (cc)
-told f (on t m ks) (Span s) r h n = rw h refl
-told f (on t m ks) (Knot x) r h n = rw h refl
+told f (on t m ks) (Span s) r h n = ap (faultIn f) h
+told f (on t m ks) (Knot x) r h n = ap (faultIn f) h
 told f (on t m ks) (Ends k) r h n = never (cc)
-told f (on t m ks) (At x) r h n = rw h refl
+told f (on t m ks) (At x) r h n = ap (faultIn f) h
 told f (on t m ks) (Find y) r h n = absurd (n t m ks y refl refl)
-told f (on t m ks) (Turn b) r h n = rw h refl
-told f (on t m ks) Bad r h n = rw h refl
+told f (on t m ks) (Turn b) r h n = ap (faultIn f) h
+told f (on t m ks) Bad r h n = ap (faultIn f) h
 
 -- a line that the line program refuses is the fault that is told; but a find of a curve is drawn at the end, its place or its refusal
 pub refused-told : (d : Drawing) (o : Line) (r : Refusal) → replyTo (d .curve) (says o) ≡ refused r
