@@ -22,6 +22,9 @@ function table(first, step, count,    i) {
 }
 
 BEGIN {
+    # an evening's depths
+    count = split("-1.2 0 1.25 2.5 4 7.125 9.75 12 13.5 14", depth, " ")
+
     # three tables, and two questions about each
     if (program == "lines") for (step = 1; step <= 3; step++) { table(0, step, 4096); print "at\t" digits(0) "\nat\t" digits(1) }
 
@@ -29,7 +32,6 @@ BEGIN {
     if (program == "picture") {
         for (step = 1; step <= 3; step++) table(0, step, 4096)
         print "curve\tCatmullRom\nspan\t25200"
-        count = split("-1.2 0 1.25 2.5 4 7.125 9.75 12 13.5 14", depth, " ")
         for (i = 1; i <= count; i++) knot(depth[i])
         print "find\t" digits(4) "\nfind\t" digits(10.5)
     }
@@ -50,6 +52,18 @@ BEGIN {
         print "curve\tLinear"
         for (i = 0; i < 4; i++) knot(int(i / 2))
         for (i = 0; i < 4600; i++) print "claim\t" digits(i / 8192) "\t0\t" digits((i + i % 3) / 8192) "\t" digits(1 / 8192)
+    }
+
+    # an evening, and questions about it: seconds and depths, and between them spans, some of which are refused
+    if (program == "ask") {
+        print "CatmullRom"
+        for (i = 1; i <= count; i++) print (15 + i) % 24 + 1 "h\t" depth[i]
+        print "ask\nrow\t3600"
+        for (i = 0; i < 30436; i++) {
+            if (i % 5) print "row\t" i * 11 % 4000
+            else if (i % 3) print "at\t" i * 7919 % 25300
+            else printf "find\t%d.%03d\n", i % 14, i * 77 % 1000
+        }
     }
 
     # labels and depths
