@@ -124,7 +124,8 @@ function placeText(asked, reply, times, span, ends) {
         case "reached":
             return reachedText(mm(depth), where, rowsAround(before, after), times, span);
         case "refused":
-            return `${mm(asked)} ${depth === "11" ? "is at no place of the curve, which jumps over it" : `is refused, by ${depth}`}.`;
+            if (depth !== "11") return `${mm(asked)} is refused, by ${depth}.`;
+            return `${mm(asked)} lies in a gap between two segments of the curve, and so at no place of it: ask for a depth beside it.`;
         default:
             return "The curve ends at the depth at which it starts, so that no depth says how far a job has come.";
     }
