@@ -66,7 +66,7 @@ function inWords(picture, dusk) {
     for (const text of picture.querySelectorAll("text")) {
         if (text.textContent === "depth") text.textContent = "mm";
         const number = /^-?[0-9.]+$/.test(text.textContent);
-        if (number && text.classList.contains("e")) text.textContent = mm(text.textContent).replace(" mm", "");
+        if (number) text.textContent = mm(text.textContent).replace(" mm", "");
         if (dusk === null) continue;
         if (text.textContent === "hours from dusk") text.textContent = "clock";
         if (number && text.classList.contains("t")) text.textContent = clockText(dusk + Math.round(Number(text.textContent) * 3600));
@@ -82,8 +82,8 @@ text { fill: var(--soft) !important }
 .faulty { stroke: var(--bad) !important; stroke-width: 60 !important; fill: none; opacity: .8 }
 @media (max-width: 46rem) {
     text { font-size: 300px }
-    .c, .mark path { stroke-width: 50 }
-    .k { stroke-width: 170 }
+    .c, .mark path { stroke-width: 50 !important }
+    .k { stroke-width: 170 !important }
     .mark circle { r: 170px }
 }
 `;

@@ -174,6 +174,7 @@ function showDepths() {
     const clock = (s) => (times.dusk === null ? passingText(s) : clockText(times.dusk + s));
     const rows = depths.map(({ second, depth }) => [clock(second), depth.replace("-", "\u2212")]);
     fillTable("depths", [times.dusk === null ? "after" : "at", "mm"], rows);
+    columns($("depths").parentElement, rows, [[13, 6], [17, 5]]);
     put("no-depths", rows.length > 0 ? "" : known.fine ? NO_ROW : NOT_FINE);
 }
 
@@ -205,8 +206,17 @@ function showSeason() {
 function showTyped() {
     const rows = known.lines.slice(1);
     put("typed-basis", `${known.lines[0] || ""}, ${plural(rows.length, "row", "rows")}`);
-    const shown = rows.length > 96 ? [] : rows;
-    $("typed").replaceChildren(...shown.map((row, i) => make("li", {}, `${i + 2}\u2002${row.replace("\t", "\u2002")}`)));
+    const texts = rows.map((row, i) => [String(i + 2), ...row.split("\t")]);
+    const count = columns($("typed"), texts, [[14, 6], [24, 4]]);
+    const shown = rows.length > 10 * count ? [] : texts; // more would want a second page
+    $("typed").replaceChildren(...shown.map((fields) => make("li", {}, fields.join("\u2002"))));
+}
+// into how many columns of the printed page rows go: pairs of how long they are at most, and how many; else 3
+function columns(element, rows, widths) {
+    const longest = Math.max(0, ...rows.map((row) => row.join(" ").length));
+    const [, count] = widths.find(([most]) => longest <= most) || [0, 3];
+    element.style.setProperty("--columns", count);
+    return count;
 }
 
 // ---- what is typed, clicked and dropped

@@ -26,6 +26,8 @@ const MANY = ["Linear", ...Array.from({ length: 4096 }, (_, i) => `row ${i}\t${i
 const two = (n) => String(n).padStart(2, "0");
 const quarter = (i) => `${two(Math.floor(i / 4))}:${two((i % 4) * 15)}`;
 const WHOLE_DAY = ["Monotone", ...Array.from({ length: 97 }, (_, i) => `${quarter(i)}\t${i * 2}`), ""].join("\n");
+const FORTY = ["Monotone", ...Array.from({ length: 40 }, (_, i) => `a long label ${i}\t${i * 1000 + 0.125}`), ""].join("\n");
+const FAULTS = ["Linear", ...Array.from({ length: 40 }, (_, i) => `a long label\t${(i % 3) + i}`), ""].join("\n");
 
 // ---- hands and eyes
 const element = (id) => `document.getElementById("${id}")`;
@@ -264,8 +266,10 @@ const pages = (pdf) => (pdf.toString("latin1").match(/\/Type\s*\/Page\b(?!s)/g) 
 async function printed(page) {
     await type(page, "", "last");
     await fill(page, "depth", "7.3");
-    for (const [name, sheet] of [["whole_day", WHOLE_DAY], ["many", MANY], ["double_hour", DOUBLE], ["night", NIGHT]]) {
+    const sheets = { whole_day: WHOLE_DAY, forty: FORTY, faults: FAULTS, many: MANY, double_hour: DOUBLE, night: NIGHT };
+    for (const [name, sheet] of Object.entries(sheets)) {
         await type(page, sheet);
+        await fill(page, "row", name === "forty" ? "36m" : "");
         same(`print: ${name} is one page`, pages(await page.printed(`${name}.pdf`)), 1);
     }
     await page.call("Emulation.setEmulatedMedia", { media: "print" });
