@@ -2,6 +2,7 @@
 """A second reading of what bin/ask prints: verdicts in whole numbers and fractions, depths and places in this language's doubles.
     oracle/ask.py < SHEET           prints what bin/ask is to print
     oracle/ask.py COUNT [SEED]      holds bin/ask to it on COUNT random sheets, good and bad, with questions; status 1 at the first difference
+    oracle/ask.py COUNT SEED fine   the same on sheets that are fine, with 300 questions about each
 ASK is the command that is held to it, where that is not bin/ask."""
 import math, os, random, re, shlex, struct, subprocess, sys
 from fractions import Fraction
@@ -449,15 +450,38 @@ def random_input(r):
     return text.encode('utf-8')
 
 
+def random_fine(r):
+    """a fine sheet, most questions about depths and seconds of its curve"""
+    curve = None
+    while curve is None:
+        name, lines = random_sheet(r)
+        sheet = Sheet([line.encode() for line in [name] + lines])
+        curve = verdict(sheet)[1]
+    low, high = sorted(round(1000 * x) for x in Doubles(curve).ends())
+    most = 86400 // curve.count
+    asked = ['row\t%d' % r.randint(1, most)] if r.random() < 0.7 else []
+    for _ in range(300):
+        kind = r.random()
+        if kind < 0.7:
+            asked.append('find\t' + text_of(max(1 - 10**12, min(10**12 - 1, r.randint(low, high))), r))
+        elif kind < 0.9:
+            asked.append('at\t%d' % r.randint(0, 86400))
+        elif kind < 0.92:
+            asked.append('row\t%d' % r.randint(0, most + 1))
+        else:
+            asked.append(random_question(r, sheet.rows, lambda n: text_of(n, r)))
+    return '\n'.join([name] + lines + ['ask'] + asked).encode() + b'\n'
+
+
 def main():
     if len(sys.argv) == 1:
         sys.stdout.buffer.write(printed(sys.stdin.buffer.read()))
         return
     count, r = int(sys.argv[1]), random.Random(int(sys.argv[2]) if len(sys.argv) > 2 else 39)
     command = shlex.split(os.environ.get('ASK') or shlex.quote(os.path.join(ROOT, 'bin/ask')))
-    told = {}
+    told, make = {}, random_fine if sys.argv[3:] == ['fine'] else random_input
     for i in range(count):
-        data = random_input(r)
+        data = make(r)
         want = printed(data)
         got = subprocess.run(command, input=data, stdout=subprocess.PIPE, check=True).stdout
         if got != want:
