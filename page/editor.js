@@ -47,10 +47,9 @@ class Editor {
     }
     // bars of a kind behind these lines, and behind no others
     mark(lines, kind) {
-        for (const bar of this.bars.querySelectorAll(`.${kind}`)) bar.remove();
-        for (const line of new Set(lines)) {
-            this.bars.append(make("div", { class: `bar ${kind}`, style: `top: calc(var(--edge) + var(--high) * ${line - 1})` }));
-        }
+        const kept = [...this.bars.children].filter((bar) => !bar.classList.contains(kind));
+        const place = (line) => `top: calc(var(--edge) + var(--high) * ${line - 1})`;
+        this.bars.replaceChildren(...kept, ...[...new Set(lines)].map((line) => make("div", { class: `bar ${kind}`, style: place(line) })));
     }
     go(line) {
         const lines = this.text.split("\n");

@@ -1,7 +1,7 @@
 // The page: what is typed goes to the programs, and their replies to their places.
 const bytes = Object.fromEntries(Object.entries(MODULES).map(([name, text]) => [name, bytesOf(text)]));
 const run = (name, lines) => askProgram(name, bytes, lines);
-const sheet = new Editor($("this"), "The sheet: a basis, then label, tab and depth on each line", typed);
+const sheet = new Editor($("this"), "The sheet: a basis, then on each line a label, a tab or a semicolon, and a depth", typed);
 const last = new Editor($("last"), "Last season\u2019s sheet", typed);
 const drawing = new Drawing($("drawing"));
 let known = null; // what the programs said of the sheet
@@ -196,11 +196,12 @@ function showSeason() {
     const counted = rows.length === 0 ? "No difference." : `${plural(rows.length, "difference", "differences")}.`;
     put("differ", then === null ? "" : why || counted);
     last.mark(then === null ? [] : then.faults.flatMap((fault) => fault.about), "bad");
+    const shown = rows.slice(0, 500); // of tables that have little in common, the first ones tell enough
     for (const [editor, study] of [[sheet, known], [last, then]]) {
-        editor.mark(rows.map((row) => row.line).filter((line) => line <= study.lines.length), "differs");
+        editor.mark(shown.map((row) => row.line).filter((line) => line <= study.lines.length), "differs");
     }
-    const shown = rows.slice(0, 500).map((row) => [String(row.line), row.label, row.then, row.now]);
-    fillTable("differences", ["line", "", "last season", "this season"], shown);
+    const texts = shown.map((row) => [String(row.line), row.label, row.then, row.now]);
+    fillTable("differences", ["line", "", "last season", "this season"], texts);
 }
 
 function showTyped() {

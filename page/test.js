@@ -336,6 +336,7 @@ async function main() {
         await files(page);
         await season(page);
         await kept(browser, page);
+        await type(page, "", "last");
         await timed(page, "a night of ten rows", NIGHT, "");
         await timed(page, "4,096 rows", MANY, "20s");
         await printed(page);
