@@ -69,7 +69,8 @@ verdictOf unbegun = lineText 1 Missing
 verdictOf (on k z ls) = cond (suits k (length z)) (toldOf k z (faultsOf k z ls)) (numberText (bytes "length\t") (length z))
 verdictOf (faulty n r) = lineText n r
 
--- ---- after it: a sheet that is not fine; or a kind of curve, its knots, the label of each row, and its span in whole seconds, 0 where none was given
+-- ---- after it: a sheet that is not fine; or a kind of curve, its knots, the label of each row, and its span in whole seconds, 0 where
+-- none was given
 pub data Asked : Type 0 where
   bad : Asked
   fine : Kind → List Float → List (List ℕ) → ℕ → Asked

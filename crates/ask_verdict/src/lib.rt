@@ -409,7 +409,8 @@ fn put_fine(n: usize, e: Ends, out: &mut [u8], at: usize) -> usize
     text::put_byte(out, g, b'\n')
 }
 
-// What may be asked after the verdict: nothing; or of a kind of curve, over so many rows and knots, its span in whole seconds, 0 where none was given.
+// What may be asked after the verdict: nothing; or of a kind of curve, over so many rows and knots, its span in whole seconds, 0 where none
+// was given.
 pub enum AskedHeld {
     Bad,
     Fine(Kind, usize, usize, u32),
@@ -508,7 +509,8 @@ fn told_monotone(
     ensures text { λ r. ⌜ Wrote (now (out .entry)) at (toldOf Monotone (heldAll (take n (now (rows .entry))))
         (faultsOf Monotone (heldAll (take n (now (rows .entry)))) (labelsTo (now (labels .entry)) n))) (now (out .exit)) (r .at) ⌝ }
     ensures short { λ r. ⌜ r .at ≤ at + longest ⌝ }
-    ensures held { λ r. ⌜ askedIn (r .held) (now (knots .exit)) (now (labels .entry)) ≡ askedBy Monotone (heldAll (take n (now (rows .entry))))
+    ensures held { λ r. ⌜ askedIn (r .held) (now (knots .exit)) (now (labels .entry)) ≡ askedBy Monotone
+        (heldAll (take n (now (rows .entry))))
         (labelsTo (now (labels .entry)) n) ⌝ }
     ensures few { λ r. ⌜ Askable (r .held) ⌝ }
 {
@@ -577,7 +579,8 @@ pub fn verdict(
     ensures text { λ r. ⌜ Wrote (now (out .entry)) at (verdictOf (sheetOf h (now (rows .entry)) (now (labels .entry))))
         (now (out .exit)) (r .at) ⌝ }
     ensures short { λ r. ⌜ r .at ≤ at + longest ⌝ }
-    ensures asked { λ r. ⌜ askedIn (r .held) (now (knots .exit)) (now (labels .entry)) ≡ askedOf (sheetOf h (now (rows .entry)) (now (labels .entry))) ⌝ }
+    ensures asked { λ r. ⌜ askedIn (r .held) (now (knots .exit)) (now (labels .entry)) ≡ askedOf
+        (sheetOf h (now (rows .entry)) (now (labels .entry))) ⌝ }
     ensures few { λ r. ⌜ Askable (r .held) ⌝ }
 {
     match h {

@@ -233,7 +233,8 @@ pub fn feed(
     requires held { ⌜ countOf (st .held) ≤ places ⌝ }
     requires table { ⌜ length (now table) ≡ places ⌝ }
     requires converted { ⌜ length (now converted) ≡ places ⌝ }
-    ensures fed { λ r. ⌜ Fed claimsProgram (stateOf st (now (begun .entry)) (now (table .entry))) (slice from (r .next) (now (chunk .entry)))
+    ensures fed { λ r. ⌜ Fed claimsProgram (stateOf st (now (begun .entry)) (now (table .entry)))
+        (slice from (r .next) (now (chunk .entry)))
         (stateOf (r .st) (now (begun .exit)) (now (table .exit))) (now (out .entry)) 0 (now (out .exit)) (r .at) ⌝ }
     ensures few { λ r. ⌜ countOf (r .st .held) ≤ places ⌝ }
     ensures after { λ r. ⌜ from ≤ r .next ⌝ }
@@ -292,7 +293,8 @@ pub fn finish(
     requires table { ⌜ length (now table) ≡ places ⌝ }
     requires converted { ⌜ length (now converted) ≡ places ⌝ }
     requires room { ⌜ longest ≤ length (now out) ⌝ }
-    ensures text { λ r. ⌜ Wrote (now (out .entry)) 0 (endOf claimsProgram (stateOf st (now (begun .entry)) (now (table .entry)))) (now (out .exit)) r ⌝ }
+    ensures text { λ r. ⌜ Wrote (now (out .entry)) 0 (endOf claimsProgram (stateOf st (now (begun .entry)) (now (table .entry))))
+        (now (out .exit)) r ⌝ }
     ensures short { λ r. ⌜ r ≤ longest ⌝ }
 {
     let len = st.len;

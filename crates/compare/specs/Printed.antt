@@ -1,5 +1,5 @@
--- A printed comparison, read: what each of its lines says, from its bytes alone. Definitions only; proofs/ReadBack.antt and proofs/Printed.antt
--- show what it says of a comparison.
+-- A printed comparison, read: what each of its lines says, from its bytes alone. Definitions only; proofs/ReadBack.antt and
+-- proofs/Printed.antt show what it says of a comparison.
 use mathlib.Core.Bool.{cond}
 use mathlib.Core.List.{List, [], _∷_}
 use Prim.Native.Nat.{ℕ}

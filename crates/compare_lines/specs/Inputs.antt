@@ -1,5 +1,5 @@
--- Inputs that hold two listings: what the lines of a listing hold, that none of them is refused, and a table written as a listing. Definitions
--- only; proofs/Inputs.antt shows what the program prints for them.
+-- Inputs that hold two listings: what the lines of a listing hold, that none of them is refused, and a table written as a listing.
+-- Definitions only; proofs/Inputs.antt shows what the program prints for them.
 use mathlib.Core.Path.{_≡_}
 use mathlib.Core.Bool.{false}
 use mathlib.Core.List.{List, [], _∷_, _++_}

@@ -17,7 +17,8 @@ struct Chunked {
 fn feed_all(len: usize, chunk: &[u8], begun: &mut [u8], out: &mut [u8]) -> Chunked
     requires begun { ⌜ length (now begun) ≡ widest ⌝ }
     requires room { ⌜ 129 ≤ length (now out) ⌝ }
-    ensures { λ r. ⌜ stateOf (r .len) (now (begun .exit)) ≡ ranOf decimalsProgram (stateOf len (now (begun .entry))) (now (chunk .entry)) ⌝ }
+    ensures { λ r. ⌜ stateOf (r .len) (now (begun .exit)) ≡ ranOf decimalsProgram (stateOf len (now (begun .entry)))
+        (now (chunk .entry)) ⌝ }
 {
     let mut n = len;
     let mut from = 0;

@@ -49,6 +49,7 @@ inverseEvaluations = evaluationsBy Knots AsCrate
 abbrev pub steadyOf : Basis → Float → List Float → Bool → Inversion
 steadyOf b y ks check = inverseBy Knots Steady b y ks check steadyLimit defaultPrecision
 
--- at most so many evaluations of n knots, by the end rule, the method and the limit that are asked for: the rule's own, and the bound of the search
+-- at most so many evaluations of n knots, by the end rule, the method and the limit that are asked for: the rule's own, and the bound of
+-- the search
 abbrev pub mostOf : EndsBy → Method → Basis → ℕ → ℕ → ℕ
 mostOf m how b n limit = own m + boundOf (segmentsOf b n) limit

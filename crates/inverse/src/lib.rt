@@ -293,7 +293,8 @@ pub fn segments(b: Basis, n: usize) -> usize
 }
 
 // The most evaluations that an inversion of n knots makes by such options, whatever the knots, the target and the precision are: so a task
-// can set its time aside before the call. No method makes more rounds than the limit, and without the precision none is known to make fewer.
+// can set its time aside before the call. No method makes more rounds than the limit, and without the precision none is known to make
+// fewer.
 pub fn most_evaluations(b: Basis, n: usize, limit: u16, ends: EndsBy, how: Method) -> u32
     ensures { λ r. ⌜ r ≡ mostOf ends how b n limit ⌝ }
 {

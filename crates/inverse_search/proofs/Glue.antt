@@ -97,7 +97,8 @@ module _ (how : Method) (b : Basis) (ks : List Float) (y ε : Float) (limit : �
   pub tries-start : (first end count : ℕ) → Carried first end count first count
   tries-start first end count = record { so-far = λ ev l. (ev, l, refl) }
 
-  module _ (s : ℕ) {r : Tried} {first end count made : ℕ} (is : TrialIs how b ks y ε limit s made r) (l : s < end) (carried : Carried first end count s made) where
+  module _ (s : ℕ) {r : Tried} {first end count made : ℕ} (is : TrialIs how b ks y ε limit s made r) (l : s < end)
+      (carried : Carried first end count s made) where
     abbrev after : Float → Evaluations → Outcome
     after v t = tries E (end - suc s) (suc s) t
 
@@ -164,7 +165,8 @@ module _ (how : Method) (b : Basis) (ks : List Float) (y ε : Float) (limit : �
     pub halve-spent : {g n : ℕ} {p : List Float} → g ≡ 0 → h ≡ 0 → HalveIs how b ks y ε limit rising h left wide n left g n p
     halve-spent z q = ended z (spent q)
 
-    module _ (half : ℕ) {n : ℕ} {r : Tried} (more : 0 < h) (some : 0 < wide) (p : half ≡ (wide - 1) / 2) (is : TrialIs how b ks y ε limit (left + half) n r) where
+    module _ (half : ℕ) {n : ℕ} {r : Tried} (more : 0 < h) (some : 0 < wide) (p : half ≡ (wide - 1) / 2)
+        (is : TrialIs how b ks y ε limit (left + half) n r) where
       -- where the search goes on after the middle one
       abbrev on : ℕ → Float → Evaluations → Outcome
       on k v t = cond (before rising y v) (halve E y rising k (h - 1) left half t) (halve E y rising k (h - 1) (left + half + 1) (wide - 1 - half) t)

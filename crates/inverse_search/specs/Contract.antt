@@ -63,8 +63,8 @@ module _ (how : Method) (b : Basis) (ks : List Float) (y ε : Float) (limit : �
   abbrev pub LastIs : ℕ → ℕ → ℕ → SearchResult → Type 0
   LastIs k l = Is (last trialBy k l)
 
-  -- the halving of c segments from l on came to r: it entered that segment, and g, m and p tell the stop; or, where the ground's number g is
-  -- still 0, the last tries are at r, after m evaluations. Whatever the number k of segments, and the n evaluations before it, were
+  -- the halving of c segments from l on came to r: it entered that segment, and g, m and p tell the stop; or, where the ground's number g
+  -- is still 0, the last tries are at r, after m evaluations. Whatever the number k of segments, and the n evaluations before it, were
   pub record Halved (rising : Bool) (h l c k : ℕ) (ev : Evaluations) (r g m : ℕ) (p : List Float) : Type 0 where
     pub ends : g ≡ 0 → (t : Evaluations) × (length t ≡ m) × (halve trialBy y rising k h l c ev ≡ last trialBy k r t)
     pub enters : 0 < g → (e : Stop) × (g ≡ numberOf (e .ground)) × (m ≡ e .count) × (p ≡ doublesOf e)

@@ -81,7 +81,8 @@ Chooses R limit i y st r = (r .bracket ≡ R limit i y st .bracket) × (r .place
 
 -- whether a round goes by regula falsi, and the width allowed in it, stand for its number
 abbrev pub ChordIs : Method → Float → Bool → State → NextPlace → Type 0
-ChordIs how y regula-falsi st r = (limit i : ℕ) → regula-falsi ≡ usesRegulaFalsi limit i st → Chooses (chord (weightingOf how)) limit i y st r
+ChordIs how y regula-falsi st r = (limit i : ℕ) → regula-falsi ≡ usesRegulaFalsi limit i st → Chooses
+    (chord (weightingOf how)) limit i y st r
 
 abbrev pub PacedIs : Float → Float → State → NextPlace → Type 0
 PacedIs y width st r = (limit i : ℕ) → width ≡ allowed i → Chooses steady limit i y st r

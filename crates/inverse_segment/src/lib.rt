@@ -211,8 +211,8 @@ fn ends_in(b: Basis, cv: &[f64]) -> SegmentEnds
     }
 }
 
-// The segment whose four knots stand at the front of cv is tried: both its ends are evaluated, once, and it is entered where they enclose y.
-// n evaluations have been made before.
+// The segment whose four knots stand at the front of cv is tried: both its ends are evaluated, once, and it is entered where they enclose
+// y. n evaluations have been made before.
 pub fn enter(how: Method, b: Basis, cv: &[f64], y: f64, precision: f64, limit: u16, n: u32) -> Trial
     requires enough { ⌜ 4 ≤ length (now cv) ⌝ }
     requires count { ⌜ n ≤ 900000 ⌝ }

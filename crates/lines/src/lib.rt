@@ -188,7 +188,8 @@ pub fn finish(
     requires table { ⌜ length (now table) ≡ places ⌝ }
     requires converted { ⌜ length (now converted) ≡ places ⌝ }
     requires room { ⌜ longest ≤ length (now out) ⌝ }
-    ensures text { λ r. ⌜ Wrote (now (out .entry)) 0 (endOf lineProgram (stateOf st (now (begun .entry)) (now (table .entry)))) (now (out .exit)) r ⌝ }
+    ensures text { λ r. ⌜ Wrote (now (out .entry)) 0 (endOf lineProgram (stateOf st (now (begun .entry)) (now (table .entry))))
+        (now (out .exit)) r ⌝ }
     ensures short { λ r. ⌜ r ≤ longest ⌝ }
 {
     let len = st.len;

@@ -106,7 +106,8 @@ module _ {S : Type 0} (P : Program S) where
   unfolding ranOf
   ran-none s = refl
 
-  pub ran-on : (s₀ : State S) (chunk : List ℕ) (i j : ℕ) {s s′ : State S} {out out′ : List ℕ} {at r : ℕ} → i ≤ length chunk → i ≤ j → s ≡ ranOf P s₀ (take i chunk)
+  pub ran-on : (s₀ : State S) (chunk : List ℕ) (i j : ℕ) {s s′ : State S} {out out′ : List ℕ} {at r : ℕ} → i ≤ length chunk → i ≤ j → s ≡ ranOf P s₀
+      (take i chunk)
       → Fed P s (slice i j chunk) s′ out at out′ r → s′ ≡ ranOf P s₀ (take j chunk)
   ran-on s₀ chunk i j q h e u =
       u .state

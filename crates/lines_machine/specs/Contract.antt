@@ -23,7 +23,8 @@ pub record Stretch (chunk : List ℕ) (from : ℕ) (o : Line) (stop : ℕ) (o′
   pub end : stop < length chunk → getD chunk stop 0 ≡ LF
 
 -- a program took the bytes x, from the state s to s′, and wrote what they print
-pub record Fed {S : Type 0} (P : Program S) (s : State S) (x : List ℕ) (s′ : State S) (out : List ℕ) (at : ℕ) (out′ : List ℕ) (r : ℕ) : Type 0 where
+pub record Fed {S : Type 0} (P : Program S) (s : State S) (x : List ℕ) (s′ : State S) (out : List ℕ) (at : ℕ) (out′ : List ℕ)
+    (r : ℕ) : Type 0 where
   pub state : s′ ≡ ranOf P s x
   pub wrote : Wrote out at (toldOf P s x) out′ r
 

@@ -262,7 +262,8 @@ pub fn finish(st: PictureReader, begun: &[u8], table: &mut [f64], out: &mut [u8]
     requires held { ⌜ countOf (st .held) ≤ places ⌝ }
     requires table { ⌜ length (now table) ≡ places ⌝ }
     requires room { ⌜ longest ≤ length (now out) ⌝ }
-    ensures text { λ r. ⌜ Wrote (now (out .entry)) 0 (endOf pictureProgram (stateOf st (now (begun .entry)) (now (table .entry)))) (now (out .exit)) r ⌝ }
+    ensures text { λ r. ⌜ Wrote (now (out .entry)) 0 (endOf pictureProgram (stateOf st (now (begun .entry)) (now (table .entry))))
+        (now (out .exit)) r ⌝ }
     ensures short { λ r. ⌜ r ≤ longest ⌝ }
 {
     let len = st.len;

@@ -47,7 +47,8 @@ findIn b n e slot y (I.Refused r) = noteText b n slot (bytes "find") r
 findIn b n e slot y (I.OffCurve c) = noteText b n slot (bytes "find") OffCurve
 findIn b n e slot y (I.At p) = placeText e y p
 
--- whether a basis's knots are all of them depths: where slopes stand between these, or other coefficients, the order check would compare the two
+-- whether a basis's knots are all of them depths: where slopes stand between these, or other coefficients, the order check would compare
+-- the two
 abbrev pub inDepths : Basis → Bool
 inDepths Bspline = true
 inDepths Bezier = true

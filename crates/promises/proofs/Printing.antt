@@ -93,7 +93,8 @@ second-printed t m ks y o f g p h =
     let s = secondOf (t .span) (p .parameter) in
     let found : tableInverseBy m AsCrate t y ks true defaultLimit defaultPrecision ≡ T.At p s =
     inverse-base m AsCrate t y ks true defaultLimit defaultPrecision g ∙ ap (timedOf (t .span)) h in
-    let told = ap (λ (r : Record). textOf (replyTo (on t m ks) r)) f ∙ timed-told (t .span) (foundOf m (t .basis) y ks) g ∙ ap (λ (i : Inversion). timedText (timedOf (t .span) i)) h in
+    let told = ap (λ (r : Record). textOf (replyTo (on t m ks) r)) f ∙ timed-told (t .span) (foundOf m (t .basis) y ks) g ∙ ap
+    (λ (i : Inversion). timedText (timedOf (t .span) i)) h in
     (s, told, second-is-largest m AsCrate t y ks true defaultLimit defaultPrecision p s found)
 
 -- ---- `at` and `find` print what the library's calls answer
@@ -160,7 +161,8 @@ module _ (t : Table) (m : EndsBy) (ks : List Float) (i : ℕ) where
   reply-first-bad (Knot x) h = absurd (no-knot (ltb (length ks) places) (BadKnot i) (λ q. never (cc)) h)
   reply-first-bad (Ends k) h = never (cc)
   reply-first-bad (At x) h =
-      knot-first (splineUses (t .basis) x ks) ks i refl refl (value-refused (t .basis) x ks (BadKnot i) .0 (value-refused-by (splineOf (t .basis) x ks) (BadKnot i) h))
+      knot-first (splineUses (t .basis) x ks) ks i refl refl
+      (value-refused (t .basis) x ks (BadKnot i) .0 (value-refused-by (splineOf (t .basis) x ks) (BadKnot i) h))
   reply-first-bad (Find y) h =
       knot-first (inverseUses (t .basis) y ks true defaultLimit defaultPrecision) ks i refl refl
       (inverse-refused-only m AsCrate (t .basis) y ks true defaultLimit defaultPrecision (BadKnot i)
@@ -178,7 +180,8 @@ module _ (t : Table) (m : EndsBy) (ks : List Float) (i : ℕ) where
   reply-first-turn (Knot x) h = absurd (no-knot (ltb (length ks) places) (TurnsBack i) (λ q. never (cc)) h)
   reply-first-turn (Ends k) h = never (cc)
   reply-first-turn (At x) h =
-      let f = first-applies (splineUses (t .basis) x ks) rows (TurnsBack i) (value-refused (t .basis) x ks (TurnsBack i) .0 (value-refused-by (splineOf (t .basis) x ks) (TurnsBack i) h)) in
+      let f = first-applies (splineUses (t .basis) x ks) rows (TurnsBack i)
+      (value-refused (t .basis) x ks (TurnsBack i) .0 (value-refused-by (splineOf (t .basis) x ks) (TurnsBack i) h)) in
       let n : false ≡ true = f .0 in never (cc)
   reply-first-turn (Find y) h =
       turn-first (inverseUses (t .basis) y ks true defaultLimit defaultPrecision) true ks i refl refl

@@ -1,5 +1,5 @@
--- What each question about a fine sheet prints. Its knots are in range and their number suits, so that no question is refused by them: `at` within the span tells
--- the curve's value, and `find` what the depth says of a stopped job. Assumes nothing.
+-- What each question about a fine sheet prints. Its knots are in range and their number suits, so that no question is refused by them: `at` within the span
+-- tells the curve's value, and `find` what the depth says of a stopped job. Assumes nothing.
 use mathlib.Core.Path.{_≡_, refl, sym, ap, _∙_, subst}
 use mathlib.Core.Bool.{Bool, true, false, not, cond, _&&_}
 use mathlib.Core.List.{List, [], _∷_, _++_, map, append-assoc, append-nil}

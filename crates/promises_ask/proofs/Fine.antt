@@ -39,7 +39,26 @@ use Rattle.ask_sheet.specs.Sheet.{Sheet, unbegun, on, faulty}
 use Rattle.ask_verdict.specs.Curve.{basisOf, knotsOf, firstRow, rowStep, suits, doublesOf}
 use Rattle.text.specs.Text.{bytes, same}
 use Rattle.inverse.specs.declared.Ends.{Ends}
-use Rattle.ask_verdict.specs.Faults.{Fault, twice, turns, falls, flat, sameFrom, firstSame, turnsAt, fallsAt, bendOf, segmentsIn, bendAt, bentAt, twiceAt, faultsTo, flatBy, wayIn, faultsOf}
+use Rattle.ask_verdict.specs.Faults.{
+  Fault,
+  twice,
+  turns,
+  falls,
+  flat,
+  sameFrom,
+  firstSame,
+  turnsAt,
+  fallsAt,
+  bendOf,
+  segmentsIn,
+  bendAt,
+  bentAt,
+  twiceAt,
+  faultsTo,
+  flatBy,
+  wayIn,
+  faultsOf,
+}
 use Rattle.ask_verdict.specs.Told.{numberText, faultsText, endsIn, fineText, none, toldOf, verdictOf, bad, fine, askedOf}
 
 -- ---- no fault in a list is none in its parts

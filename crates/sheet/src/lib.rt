@@ -203,7 +203,8 @@ pub fn finish(st: SheetReader, begun: &[u8], table: &mut [f64], out: &mut [u8]) 
     requires held { ⌜ countOf (st .held) ≤ most ⌝ }
     requires table { ⌜ length (now table) ≡ most ⌝ }
     requires room { ⌜ longest ≤ length (now out) ⌝ }
-    ensures text { λ r. ⌜ Wrote (now (out .entry)) 0 (endOf sheetProgram (stateOf st (now (begun .entry)) (now (table .entry)))) (now (out .exit)) r ⌝ }
+    ensures text { λ r. ⌜ Wrote (now (out .entry)) 0 (endOf sheetProgram (stateOf st (now (begun .entry)) (now (table .entry))))
+        (now (out .exit)) r ⌝ }
     ensures short { λ r. ⌜ r ≤ longest ⌝ }
 {
     let len = st.len;

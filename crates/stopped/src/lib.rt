@@ -20,8 +20,8 @@ use inverse_segment::Place;
 use inverse_segment::STEADY_LIMIT;
 use table_span::Table;
 
-// Refused by a row of the table; not on the curve after so many evaluations; the curve's two ends are equal, so that no depth says anything;
-// before the start, at the start, under way with the second and the place, at the end, beyond the end.
+// Refused by a row of the table; not on the curve after so many evaluations; the curve's two ends are equal, so that no depth says
+// anything; before the start, at the start, under way with the second and the place, at the end, beyond the end.
 pub enum Job {
     Refused(Refusal),
     OffCurve(usize),

@@ -40,7 +40,8 @@ term : (w : ℕ) (a : ℤ) → Is (pos w *ℤ a) (w * up a) (w * down a)
 term w a = other (w * up a) (w * down a) (by a (itself (pos w))) (omega arith)
 
 -- the rows of the matrix: of t³, t², t and 1
-row-3 : (a b c d : ℤ) → Is (a *ℤ negsuc 0 +ℤ b *ℤ pos 3 +ℤ c *ℤ negsuc 2 +ℤ d *ℤ pos 1) (down a + 3 * up b + 3 * down c + up d) (up a + 3 * down b + 3 * up c + down d)
+row-3 : (a b c d : ℤ) → Is (a *ℤ negsuc 0 +ℤ b *ℤ pos 3 +ℤ c *ℤ negsuc 2 +ℤ d *ℤ pos 1) (down a + 3 * up b + 3 * down c + up d)
+    (up a + 3 * down b + 3 * up c + down d)
 row-3 a b c d =
     other (down a + 3 * up b + 3 * down c + up d) (up a + 3 * down b + 3 * up c + down d)
     (plus (plus (plus (by (negsuc 0) (itself a)) (by (pos 3) (itself b))) (by (negsuc 2) (itself c))) (by (pos 1) (itself d))) (omega arith)

@@ -350,7 +350,8 @@ fn by_ends(b: Basis, knots: &[i64]) -> Turning
     requires enough { ⌜ 4 ≤ length (now knots) ⌝ }
     requires few { ⌜ length (now knots) ≤ 4096 ⌝ }
     requires small { ⌜ Small most (heldAll (now knots)) ⌝ }
-    ensures { λ r. ⌜ r ≡ byEnds (startOf b (heldAll (now (knots .entry)))) (endOf b (heldAll (now (knots .entry)))) b (heldAll (now (knots .entry))) ⌝ }
+    ensures { λ r. ⌜ r ≡ byEnds (startOf b (heldAll (now (knots .entry)))) (endOf b (heldAll (now (knots .entry)))) b
+        (heldAll (now (knots .entry))) ⌝ }
 {
     match way_taken(b, knots) {
         Way::Rising => in_direction(b, true, knots),

@@ -120,7 +120,8 @@ returns-2 c =
         ),
         (
           as-text
-              (read-text (sheetOf (at-h .h .given .0 .0) (start .args .rows .now) (start .args .labels .now)) (openOf (start .args .len) (start .args .line .now))
+              (read-text (sheetOf (at-h .h .given .0 .0) (start .args .rows .now) (start .args .labels .now))
+              (openOf (start .args .len) (start .args .line .now))
               (at-is-line .is-line .ensures) (at-if1 .if1 .left)) (nothing _ _),
           omega arith,
         ),

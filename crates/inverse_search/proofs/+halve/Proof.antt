@@ -41,14 +41,20 @@ calls t = (
 halve-returns : (t : ℕ) → halve-lts.Need-returns (calls t) (halve-at t) halve.Post
 halve-returns t c =
     let a = c .before .args in
-    let p = c .before .pre .1 in
-    (halve-over (a .how) (a .b) (a .knots .now .now) (a .y) (a .precision) (a .limit) (a .rising) (a .halvings) (a .left) (a .wide) (p .1 .1 .1 .0) (c .if1 .taken), (omega arith, λ _. omega arith))
+    let p = c .before .pre .1 in (
+      halve-over (a .how) (a .b) (a .knots .now .now) (a .y) (a .precision) (a .limit) (a .rising) (a .halvings) (a .left) (a .wide) (p .1 .1 .1 .0)
+          (c .if1 .taken),
+      (omega arith, λ _. omega arith),
+    )
 
 halve-returns-2 : (t : ℕ) → halve-lts.Need-returns-2 (calls t) (halve-at t) halve.Post
 halve-returns-2 t c =
     let a = c .before .before .args in
-    let p = c .before .before .pre .1 in
-    (halve-spent (a .how) (a .b) (a .knots .now .now) (a .y) (a .precision) (a .limit) (a .rising) (a .halvings) (a .left) (a .wide) (p .1 .1 .1 .0) (c .if2 .taken), (omega arith, λ _. omega arith))
+    let p = c .before .before .pre .1 in (
+      halve-spent (a .how) (a .b) (a .knots .now .now) (a .y) (a .precision) (a .limit) (a .rising) (a .halvings) (a .left) (a .wide) (p .1 .1 .1 .0)
+          (c .if2 .taken),
+      (omega arith, λ _. omega arith),
+    )
 
 halve-sub-half : (t : ℕ) → halve-lts.Need-sub-half (calls t) (halve-at t) halve.Post
 halve-sub-half t c = omega arith
@@ -113,8 +119,10 @@ halve-returns-3 : (t : ℕ) → halve-lts.Need-returns-3 (calls t) (halve-at t) 
 halve-returns-3 t c =
     let a = c .before .before .before .before .before .before .before .before .before .before .before .before .args in
     let told = c .tell .ensures in (
-      halve-hit (a .how) (a .b) (a .knots .now .now) (a .y) (a .precision) (a .limit) (a .rising) (a .halvings) (a .left) (a .wide) ((a .wide - 1) / 2) (omega arith) (omega arith) refl
-          (c .before .before .before .before .before .before .before .try-at .ensures) (c .before .before .before .before .before .t .given .1) (told .0) (told .1 .0) (told .1 .1),
+      halve-hit (a .how) (a .b) (a .knots .now .now) (a .y) (a .precision) (a .limit) (a .rising) (a .halvings) (a .left) (a .wide) ((a .wide - 1) / 2)
+          (omega arith) (omega arith) refl
+          (c .before .before .before .before .before .before .before .try-at .ensures) (c .before .before .before .before .before .t .given .1) (told .0)
+          (told .1 .0) (told .1 .1),
       (omega arith, λ z. absurd (omega (arith, z, told .0, number-some (c .before .before .before .before .before .t .given .0 .0 .ground)))),
     )
 
@@ -122,8 +130,11 @@ halve-returns-4 : (t : ℕ) → halve-lts.Need-returns-4 (calls t) (halve-at t) 
 halve-returns-4 t c =
     let a = c .before .before .before .before .before .before .before .before .before .before .before .before .before .before .args in
     let u = c .halve .ensures in (
-      halve-left (a .how) (a .b) (a .knots .now .now) (a .y) (a .precision) (a .limit) (a .rising) (a .halvings) (a .left) (a .wide) ((a .wide - 1) / 2) (omega arith) (omega arith) refl
-          (c .before .before .before .before .before .before .before .before .before .try-at .ensures) (c .before .before .before .before .before .before .before .t2 .given .1) (sym (c .before .before .before .before .before .lies-before .ensures) ∙ c .before .before .before .before .if3 .taken) (u .0),
+      halve-left (a .how) (a .b) (a .knots .now .now) (a .y) (a .precision) (a .limit) (a .rising) (a .halvings) (a .left) (a .wide) ((a .wide - 1) / 2)
+          (omega arith) (omega arith) refl
+          (c .before .before .before .before .before .before .before .before .before .try-at .ensures)
+          (c .before .before .before .before .before .before .before .t2 .given .1)
+          (sym (c .before .before .before .before .before .lies-before .ensures) ∙ c .before .before .before .before .if3 .taken) (u .0),
       (omega (arith, u .1 .0), λ z. omega (arith, u .1 .1 z)),
     )
 
@@ -131,8 +142,11 @@ halve-returns-5 : (t : ℕ) → halve-lts.Need-returns-5 (calls t) (halve-at t) 
 halve-returns-5 t c =
     let a = c .before .before .before .before .before .before .before .before .before .before .before .before .before .before .args in
     let u = c .halve2 .ensures in (
-      halve-right (a .how) (a .b) (a .knots .now .now) (a .y) (a .precision) (a .limit) (a .rising) (a .halvings) (a .left) (a .wide) ((a .wide - 1) / 2) (omega arith) (omega arith) refl
-          (c .before .before .before .before .before .before .before .before .before .try-at .ensures) (c .before .before .before .before .before .before .before .t2 .given .1) (sym (c .before .before .before .before .before .lies-before .ensures) ∙ c .before .before .before .before .if3 .left) (u .0),
+      halve-right (a .how) (a .b) (a .knots .now .now) (a .y) (a .precision) (a .limit) (a .rising) (a .halvings) (a .left) (a .wide) ((a .wide - 1) / 2)
+          (omega arith) (omega arith) refl
+          (c .before .before .before .before .before .before .before .before .before .try-at .ensures)
+          (c .before .before .before .before .before .before .before .t2 .given .1)
+          (sym (c .before .before .before .before .before .lies-before .ensures) ∙ c .before .before .before .before .if3 .left) (u .0),
       (omega (arith, u .1 .0), λ z. omega (arith, u .1 .1 z)),
     )
 

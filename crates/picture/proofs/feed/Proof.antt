@@ -41,7 +41,9 @@ loop-less : tie.Need-loop-less Inv-loop μ-loop
 loop-less c = omega arith
 
 loop-again : tie.Need-loop-again Inv-loop μ-loop
-loop-again c = let x = c .before .before .before .before .before .before .before .before .before .before .before .before .before .before .before .before .args .chunk .now in
+loop-again c =
+    let x =
+    c .before .before .before .before .before .before .before .before .before .before .before .before .before .before .before .before .args .chunk .now in
     let l = c .before .before .before .before .before .before .before .before .before .before .before .loop in
     let k = c .before .before .before .before .before .before .before .before .cut in
     let w = c .before .before .line .ensures in (
@@ -65,7 +67,8 @@ loop-again-2 c = let l = c .before .before .before .before .before .before .loop
       omega arith,
       omega arith,
       l .inv .3,
-      fed-stretch pictureProgram (c .before .before .before .before .before .before .before .before .before .before .before .args .chunk .now) 0 (l .i) (k .result .stop) (omega arith) (l .inv .0) (l .inv .4) (k .ensures),
+      fed-stretch pictureProgram (c .before .before .before .before .before .before .before .before .before .before .before .args .chunk .now) 0 (l .i)
+          (k .result .stop) (omega arith) (l .inv .0) (l .inv .4) (k .ensures),
       l .inv .5,
     )
 

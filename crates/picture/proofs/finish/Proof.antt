@@ -37,7 +37,8 @@ same-length-4 c = search needs
 
 returns-2 : tie.Need-returns-2
 returns-2 c = let a = c .before .before .before .before .before .before .before .before .before .before .before .before .before .before .args in (
-  end-some pictureProgram (a .st .len) (a .begun .now) (drawingOf (a .st .held) (a .table .now)) (omega arith) (c .before .before .before .before .before .before .before .before .before .before .before .before .before .before .pre .0)
+  end-some pictureProgram (a .st .len) (a .begun .now) (drawingOf (a .st .held) (a .table .now)) (omega arith)
+      (c .before .before .before .before .before .before .before .before .before .before .before .before .before .before .pre .0)
       (c .before .before .before .before .before .before .before .line .ensures .0) (nothing _ _) (c .before .before .end2 .ensures .0),
   omega (arith, c .before .before .end2 .ensures .1),
 )

@@ -77,7 +77,8 @@ same-length-2 : tie.Need-same-length-2
 same-length-2 c = search needs
 
 returns-3 : tie.Need-returns-3
-returns-3 c = rw (c .before .before .before .before .before .r3 .given .1) (answered (c .before .before .add .ensures (c .before .before .add .last .1 .1 .1 .1 .0)) refl)
+returns-3 c = rw (c .before .before .before .before .before .r3 .given .1)
+    (answered (c .before .before .add .ensures (c .before .before .add .last .1 .1 .1 .1 .0)) refl)
 
 returns-4 : tie.Need-returns-4
 unfolding afterOf replyTo

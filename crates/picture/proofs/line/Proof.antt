@@ -22,7 +22,12 @@ same-length : tie.Need-same-length
 same-length c = search needs
 
 returns : tie.Need-returns
-returns c = let a = c .before .before .before .before .before .before .before .before .before .before .args in (drawn-so (openOf (a .len) (a .line .now)) (targetsOf (a .h .finds)) (a .h .fault) (c .before .before .before .before .before .before .said .ensures) (c .before .before .before .before .taken .ensures) (c .before .finds-after .ensures) (c .fault-after .ensures), c .before .before .before .before .taken .ensures .few)
+returns c = let a = c .before .before .before .before .before .before .before .before .before .before .args in (
+  drawn-so (openOf (a .len) (a .line .now)) (targetsOf (a .h .finds)) (a .h .fault) (c .before .before .before .before .before .before .said .ensures)
+      (c .before .before .before .before .taken .ensures) (c .before .finds-after .ensures)
+      (c .fault-after .ensures),
+  c .before .before .before .before .taken .ensures .few,
+)
 
 pub line-spec : {M : Type 1} → statement M
 line-spec =

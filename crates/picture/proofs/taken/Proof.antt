@@ -16,7 +16,8 @@ enum-known-h : tie.Need-enum-known-h
 enum-known-h c = search needs
 
 later-requires : tie.Need-later-requires
-later-requires c κs = let k : c .before .before .h .given .0 .1 .1 .0 ≤ places = rw (c .before .before .h .given .1) at (c .before .before .before .before .before .pre .0) in omega arith
+later-requires c κs = let k : c .before .before .h .given .0 .1 .1 .0 ≤ places = rw (c .before .before .h .given .1) at
+    (c .before .before .before .before .before .pre .0) in omega arith
 
 same-length : tie.Need-same-length
 same-length c = search needs

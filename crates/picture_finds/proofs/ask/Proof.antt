@@ -30,7 +30,8 @@ array-read-t26 : tie.Need-array-read-t26
 array-read-t26 c = search needs
 
 returns : tie.Need-returns
-returns c = asked-so (c .before .before .args .f .ys) (search needs) (c .before .before .args .y) (c .before .before .args .f .n) _ (c .before .one-more .ensures)
+returns c = asked-so (c .before .before .args .f .ys) (search needs) (c .before .before .args .y) (c .before .before .args .f .n) _
+    (c .before .one-more .ensures)
 
 pub ask-spec : {M : Type 1} → statement M
 ask-spec =

@@ -48,7 +48,8 @@ loop-again c = let l = c .before .before .before .before .before .loop in (
   omega arith,
   l .inv .1,
   omega (arith, l .inv .2, c .before .before .put-find .ensures .1),
-  finds-go-on _ _ _ _ _ (c .before .before .before .before .before .before .before .lesser .result) (l .i) (omega arith) (l .inv .3) (c .before .before .put-find .ensures .0),
+  finds-go-on _ _ _ _ _ (c .before .before .before .before .before .before .before .lesser .result) (l .i) (omega arith) (l .inv .3)
+      (c .before .before .put-find .ensures .0),
 )
 
 same-length : tie.Need-same-length Inv-loop μ-loop

@@ -92,7 +92,9 @@ loop-again c =
     )
 
 few-windows : (c : tie.After-loop Inv-loop μ-loop)
-    → (length (c .before .before .before .before .before .before .before .before .before .args .knots .now) - 4) / c .before .before .before .before .before .before .before .before .before .args .step * c .before .before .before .before .before .before .before .before .before .args .stride ≤ 16384
+    → (length (c .before .before .before .before .before .before .before .before .before .args .knots .now) - 4)
+    / c .before .before .before .before .before .before .before .before .before .args .step
+    * c .before .before .before .before .before .before .before .before .before .args .stride ≤ 16384
 few-windows c =
     let start = c .before .before .before .before .before .before .before .before .before in
     few-steps _ _ _ (start .pre .1 .1 .1 .1 .0) (start .pre .1 .1 .0)
