@@ -109,6 +109,7 @@ END {
         sub(/#.*/, "", file)
         n = tokens(head[call], list)
         for (i = 1; i <= n; i++) if (meant(file, list[i]) != "") reach(meant(file, list[i]))
+        if (!counts) print file "\n       " head[call]
         sum = parts = 0
         for (i = 1; i <= known; i++) if (order[i] in within) { s = shown(order[i]); sum += s; parts += s > 0 }
         name = call

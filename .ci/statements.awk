@@ -1,5 +1,5 @@
 # What is promised, as it stands in the tree. First the names, as declared.awk prints them; then, each after its mark:
-#   row TEXT     a line of docs/PROMISES.md to print as it is
+#   row TEXT     a line of docs/KEPT.md to print as it is
 #   cited NAME   a reference FILE#NAME of a document
 # Prints the rows, then the text of every reference, and of every word that these texts use and that is declared among the theorems; then, for
 # each file, what its texts import: the module, and the words of the texts that come from there. Each such word with a capital letter that no
