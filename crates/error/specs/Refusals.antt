@@ -26,6 +26,8 @@ use Rattle.error.specs.declared.Refusal.the-variants.{
   NoComparison,
   LostSeam,
 }
+use Rattle.error.specs.declared.Where.{Where}
+use Rattle.error.specs.declared.Where.the-variants.{Nowhere, Knot, Segment}
 use Rattle.error.specs.declared.Verdict.{Verdict}
 use Rattle.error.specs.declared.Verdict.the-variants.{Passed, Failed}
 
@@ -52,30 +54,39 @@ numberOf BadSheet = 13
 numberOf NoComparison = 20
 numberOf (LostSeam i) = 15
 
--- the place that it tells besides: a knot's or a segment's number, from 0; most tell none
-abbrev pub placesOf : Refusal → List ℕ
-placesOf TooFew = []
-placesOf BadPattern = []
-placesOf TooMany = []
-placesOf BadSpan = []
-placesOf NotANumber = []
-placesOf BadPrecision = []
-placesOf NoRounds = []
-placesOf LinearOutput = []
-placesOf BadAllowance = []
-placesOf ShortBuffer = []
-placesOf BadStep = []
-placesOf NoSegment = []
-placesOf (BadKnot i) = i ∷ []
-placesOf (TurnsBack i) = i ∷ []
-placesOf UnequalSegments = []
-placesOf OffCurve = []
-placesOf BadLine = []
-placesOf BadSheet = []
-placesOf NoComparison = []
-placesOf (LostSeam i) = i ∷ []
+-- the place that it tells besides: a knot or a segment, by its number from 0; most tell none
+abbrev pub whereOf : Refusal → Where
+whereOf TooFew = Nowhere
+whereOf BadPattern = Nowhere
+whereOf TooMany = Nowhere
+whereOf BadSpan = Nowhere
+whereOf NotANumber = Nowhere
+whereOf BadPrecision = Nowhere
+whereOf NoRounds = Nowhere
+whereOf LinearOutput = Nowhere
+whereOf BadAllowance = Nowhere
+whereOf ShortBuffer = Nowhere
+whereOf BadStep = Nowhere
+whereOf NoSegment = Nowhere
+whereOf (BadKnot i) = Knot i
+whereOf (TurnsBack i) = Knot i
+whereOf UnequalSegments = Nowhere
+whereOf OffCurve = Nowhere
+whereOf BadLine = Nowhere
+whereOf BadSheet = Nowhere
+whereOf NoComparison = Nowhere
+whereOf (LostSeam i) = Segment i
 
--- 0 for those
+-- that number alone
+abbrev pub placesIn : Where → List ℕ
+placesIn Nowhere = []
+placesIn (Knot i) = i ∷ []
+placesIn (Segment i) = i ∷ []
+
+abbrev pub placesOf : Refusal → List ℕ
+placesOf r = placesIn (whereOf r)
+
+-- 0 where none is
 abbrev pub placeIn : List ℕ → ℕ
 placeIn [] = 0
 placeIn (i ∷ is) = i

@@ -1,8 +1,7 @@
 // The refusals, each with its number. Rust: src/error.rs.
 ghost use mathlib.Core.Path.{_≡_};
-ghost use Rattle.error.specs.Refusals.{numberOf, placeOf, replyOf};
+ghost use Rattle.error.specs.Refusals.{numberOf, whereOf, placeOf, replyOf};
 
-// A bad knot and a turn back tell the knot's number, from 0; a lost seam tells its segment's.
 pub enum Refusal {
     TooFew,
     BadPattern,
@@ -59,31 +58,49 @@ pub fn number(r: Refusal) -> u8
     }
 }
 
+// What a refusal tells besides its number: nothing, a knot or a segment, counted from 0.
+pub enum Where {
+    Nowhere,
+    Knot(u16),
+    Segment(u16),
+}
+
+// A bad knot and a turn back tell the knot, a lost seam its segment.
+pub fn where_told(r: Refusal) -> Where
+    ensures { λ w. ⌜ w ≡ whereOf r ⌝ }
+{
+    match r {
+        Refusal::TooFew => Where::Nowhere,
+        Refusal::BadPattern => Where::Nowhere,
+        Refusal::TooMany => Where::Nowhere,
+        Refusal::BadSpan => Where::Nowhere,
+        Refusal::NotANumber => Where::Nowhere,
+        Refusal::BadPrecision => Where::Nowhere,
+        Refusal::NoRounds => Where::Nowhere,
+        Refusal::LinearOutput => Where::Nowhere,
+        Refusal::BadAllowance => Where::Nowhere,
+        Refusal::ShortBuffer => Where::Nowhere,
+        Refusal::BadStep => Where::Nowhere,
+        Refusal::NoSegment => Where::Nowhere,
+        Refusal::BadKnot(i) => Where::Knot(i),
+        Refusal::TurnsBack(i) => Where::Knot(i),
+        Refusal::UnequalSegments => Where::Nowhere,
+        Refusal::OffCurve => Where::Nowhere,
+        Refusal::BadLine => Where::Nowhere,
+        Refusal::BadSheet => Where::Nowhere,
+        Refusal::NoComparison => Where::Nowhere,
+        Refusal::LostSeam(i) => Where::Segment(i),
+    }
+}
+
 // The knot or segment that it tells; 0 where it tells none.
 pub fn place(r: Refusal) -> u16
     ensures { λ n. ⌜ n ≡ placeOf r ⌝ }
 {
-    match r {
-        Refusal::TooFew => 0,
-        Refusal::BadPattern => 0,
-        Refusal::TooMany => 0,
-        Refusal::BadSpan => 0,
-        Refusal::NotANumber => 0,
-        Refusal::BadPrecision => 0,
-        Refusal::NoRounds => 0,
-        Refusal::LinearOutput => 0,
-        Refusal::BadAllowance => 0,
-        Refusal::ShortBuffer => 0,
-        Refusal::BadStep => 0,
-        Refusal::NoSegment => 0,
-        Refusal::BadKnot(i) => i,
-        Refusal::TurnsBack(i) => i,
-        Refusal::UnequalSegments => 0,
-        Refusal::OffCurve => 0,
-        Refusal::BadLine => 0,
-        Refusal::BadSheet => 0,
-        Refusal::NoComparison => 0,
-        Refusal::LostSeam(i) => i,
+    match where_told(r) {
+        Where::Nowhere => 0,
+        Where::Knot(i) => i,
+        Where::Segment(i) => i,
     }
 }
 

@@ -1,13 +1,11 @@
 -- How the program holds a reply. Definitions only.
-use mathlib.Core.List.{List, [], _∷_}
+use mathlib.Core.List.{List}
 use Prim.Native.Nat.{ℕ}
 use lib.Ieee.{Float}
 use lib.ListN.{take}
 use Rattle.table_span.specs.Second.{spansOf, secondsIn}
 use Rattle.lines_reply.specs.declared.LineReply.{LineReply}
 use Rattle.lines_reply.specs.declared.LineReply.the-variants.{Nothing, Refused, Value, Place, Curve}
-use Rattle.lines_reply.specs.declared.Where.{Where}
-use Rattle.lines_reply.specs.declared.Where.the-variants.{Nowhere, At}
 use Rattle.lines_reply.specs.Reply.{Reply, silence, refused, value, place, curve}
 
 -- room for the longest reply, a curve of 4,096 knots over CatmullRom with a span
@@ -29,8 +27,3 @@ replyOf (Refused r) lent = refused r
 replyOf (Value x) lent = value x
 replyOf (Place x g n s) lent = place x g n (secondsIn s)
 replyOf (Curve t n) lent = curve (t .basis) (spansOf (t .span)) (take n lent)
-
--- the knot or segment told, as the code has it
-abbrev pub placesIn : Where → List ℕ
-placesIn Nowhere = []
-placesIn (At i) = i ∷ []

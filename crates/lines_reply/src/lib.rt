@@ -3,7 +3,7 @@ ghost use mathlib.Core.Path.{_≡_};
 ghost use Prim.Native.Nat.{_+_, _*_, _≤_};
 ghost use lib.ListN.{length};
 ghost use mathlib.Core.List.{[], _∷_};
-ghost use Rattle.error.specs.Refusals.{placesOf};
+ghost use Rattle.error.specs.Refusals.{placesIn};
 ghost use Rattle.text.specs.Wrote.{Wrote};
 ghost use Rattle.lines_record.specs.Record.{nameOf};
 ghost use Rattle.table_span.specs.Second.{secondsIn, spansOf};
@@ -19,9 +19,10 @@ ghost use Rattle.lines_reply.specs.Reply.{
   curveText,
   textOf,
 };
-ghost use Rattle.lines_reply.specs.Contract.{longest, lentOf, replyOf, placesIn};
+ghost use Rattle.lines_reply.specs.Contract.{longest, lentOf, replyOf};
 use basis::Basis;
 use error::Refusal;
+use error::Where;
 use inverse_segment::Ground;
 use table_span::Seconds;
 use table_span::Table;
@@ -49,46 +50,15 @@ fn put_number(out: &mut [u8], at: usize, i: u16) -> usize
 }
 
 // The knot or segment that a refusal tells.
-pub enum Where {
-    Nowhere,
-    At(u16),
-}
-
-fn where_told(r: Refusal) -> Where
-    ensures { λ w. ⌜ placesIn w ≡ placesOf r ⌝ }
-{
-    match r {
-        Refusal::TooFew => Where::Nowhere,
-        Refusal::BadPattern => Where::Nowhere,
-        Refusal::TooMany => Where::Nowhere,
-        Refusal::BadSpan => Where::Nowhere,
-        Refusal::NotANumber => Where::Nowhere,
-        Refusal::BadPrecision => Where::Nowhere,
-        Refusal::NoRounds => Where::Nowhere,
-        Refusal::LinearOutput => Where::Nowhere,
-        Refusal::BadAllowance => Where::Nowhere,
-        Refusal::ShortBuffer => Where::Nowhere,
-        Refusal::BadStep => Where::Nowhere,
-        Refusal::NoSegment => Where::Nowhere,
-        Refusal::BadKnot(i) => Where::At(i),
-        Refusal::TurnsBack(i) => Where::At(i),
-        Refusal::UnequalSegments => Where::Nowhere,
-        Refusal::OffCurve => Where::Nowhere,
-        Refusal::BadLine => Where::Nowhere,
-        Refusal::BadSheet => Where::Nowhere,
-        Refusal::NoComparison => Where::Nowhere,
-        Refusal::LostSeam(i) => Where::At(i),
-    }
-}
-
 fn put_places(out: &mut [u8], at: usize, w: Where) -> usize
     requires { ⌜ at + 6 ≤ length (now out) ⌝ }
     ensures text { λ n. ⌜ Wrote (now (out .entry)) at (placesText (placesIn w)) (now (out .exit)) n ⌝ }
     ensures short { λ n. ⌜ n ≤ at + 6 ⌝ }
 {
     match w {
-        Where::At(i) => put_number(out, at, i),
         Where::Nowhere => at,
+        Where::Knot(i) => put_number(out, at, i),
+        Where::Segment(i) => put_number(out, at, i),
     }
 }
 
@@ -99,7 +69,7 @@ pub fn put_refused(out: &mut [u8], at: usize, r: Refusal) -> usize
 {
     let a = text::put_word(&mut *out, at, b"refused\t");
     let b = text::put_decimal(&mut *out, a, error::number(r) as u32, 2);
-    let c = put_places(&mut *out, b, where_told(r));
+    let c = put_places(&mut *out, b, error::where_told(r));
     text::put_byte(out, c, b'\n')
 }
 

@@ -1,11 +1,11 @@
 -- Refusals, as bytes: a line of text below the axes, in one of ten slots, and a line through the knot that is told. Definitions only.
-use mathlib.Core.Bool.{cond}
 use mathlib.Core.List.{List, [], _++_}
 use Prim.Native.Nat.{ℕ, _+_, _*_, _/_, _%_}
-use lib.Dec.{eqb}
 use Rattle.basis.specs.declared.Basis.{Basis}
 use Rattle.error.specs.declared.Refusal.{Refusal}
-use Rattle.error.specs.Refusals.{numberOf, placeOf}
+use Rattle.error.specs.declared.Where.{Where}
+use Rattle.error.specs.declared.Where.the-variants.{Nowhere, Knot, Segment}
+use Rattle.error.specs.Refusals.{numberOf, whereOf}
 use Rattle.text.specs.Text.{bytes}
 use Rattle.picture_scale.specs.Scale.{knotColumn}
 use Rattle.picture_scale.specs.Words.{numbered}
@@ -16,15 +16,16 @@ abbrev pub knotTail : Basis → ℕ → ℕ → List ℕ
 knotTail b n i =
     numbered (bytes " at knot ") i ++ numbered (bytes "</text>\n<path class=\"r\" d=\"M") (knotColumn b n i) ++ bytes ",400V5400\"/>\n"
 
--- 4 and 10 tell a knot
-abbrev pub tailText : Basis → ℕ → Refusal → List ℕ
-tailText b n r =
-    cond (eqb (numberOf r) 4) (knotTail b n (placeOf r)) (cond (eqb (numberOf r) 10) (knotTail b n (placeOf r)) (bytes "</text>\n"))
+-- a knot that is told is marked
+abbrev pub tailText : Basis → ℕ → Where → List ℕ
+tailText b n Nowhere = bytes "</text>\n"
+tailText b n (Knot i) = knotTail b n i
+tailText b n (Segment i) = bytes "</text>\n"
 
 abbrev pub noteText : Basis → ℕ → ℕ → List ℕ → Refusal → List ℕ
 noteText b n slot who r =
     numbered (bytes "<text class=\"r\" x=\"") (1000 + 4400 * (slot % 2)) ++ numbered (bytes "\" y=\"") (6000 + 180 * (slot / 2))
-    ++ bytes "\">" ++ who ++ numbered (bytes " refused: ") (numberOf r) ++ tailText b n r
+    ++ bytes "\">" ++ who ++ numbered (bytes " refused: ") (numberOf r) ++ tailText b n (whereOf r)
 
 abbrev pub faultText : Basis → ℕ → Fault → List ℕ
 faultText b n F.Nothing = []

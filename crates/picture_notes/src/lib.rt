@@ -1,10 +1,12 @@
 // The refusals in the picture, each a line of text below the axes, and a line through the knot that is told.
 ghost use Prim.Native.Nat.{_≤_, _+_};
 ghost use lib.ListN.{length};
+ghost use Rattle.error.specs.Refusals.{whereOf};
 ghost use Rattle.text.specs.Wrote.{Wrote};
 ghost use Rattle.picture_notes.specs.Notes.{knotTail, tailText, noteText, faultText};
 use basis::Basis;
 use error::Refusal;
+use error::Where;
 use picture_scale::words::put_number;
 
 // Why a line was refused last, if one was.
@@ -26,20 +28,17 @@ fn put_knot_tail(out: &mut [u8], at: usize, b: Basis, n: u64, i: u64) -> usize
     text::put_word(out, c, b",400V5400\"/>\n")
 }
 
-// 4 and 10 tell a knot.
+// A knot that is told is marked.
 fn put_tail(out: &mut [u8], at: usize, b: Basis, n: u64, r: Refusal) -> usize
     requires { ⌜ at + 80 ≤ length (now out) ⌝ }
-    ensures text { λ s. ⌜ Wrote (now (out .entry)) at (tailText b n r) (now (out .exit)) s ⌝ }
+    ensures text { λ s. ⌜ Wrote (now (out .entry)) at (tailText b n (whereOf r)) (now (out .exit)) s ⌝ }
     ensures short { λ s. ⌜ s ≤ at + 80 ⌝ }
 {
-    let number = error::number(r);
-    if number == 4 {
-        return put_knot_tail(out, at, b, n, error::place(r) as u64);
+    match error::where_told(r) {
+        Where::Nowhere => text::put_word(out, at, b"</text>\n"),
+        Where::Knot(i) => put_knot_tail(out, at, b, n, i as u64),
+        Where::Segment(_) => text::put_word(out, at, b"</text>\n"),
     }
-    if number == 10 {
-        return put_knot_tail(out, at, b, n, error::place(r) as u64);
-    }
-    text::put_word(out, at, b"</text>\n")
 }
 
 // The line of text that `who` was refused, in one of ten slots below the axes.

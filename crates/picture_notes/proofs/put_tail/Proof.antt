@@ -1,60 +1,15 @@
--- 4, 10, and any other.
-use borrow.Author.Needs.{needs}
+-- Nothing told, a knot, or a segment (`where_told`): only the knot is marked.
 use native.Mathlib.Omega.{arith}
-use borrow.Author.Tests.{eq-eqb, ne-eqb}
 use mathlib.Core.Path.{sym, _∙_}
-use Rattle.error.specs.Refusals.{numberOf}
+use borrow.Author.Needs.{needs}
 use Rattle.picture_notes.proofs.put_tail.Statement.{statement}
 use Rattle.picture_notes.proofs.put_tail.Tie as tie
 
-number-requires : tie.Need-number-requires
-number-requires c κs = search needs
+where-told-requires : tie.Need-where-told-requires
+where-told-requires c κs = search needs
 
-place-requires : tie.Need-place-requires
-place-requires c κs = search needs
-
-cast-put-knot-tail : tie.Need-cast-put-knot-tail
-cast-put-knot-tail c = search needs
-
-put-knot-tail-requires : tie.Need-put-knot-tail-requires
-put-knot-tail-requires c κs = search needs
-
-same-length : tie.Need-same-length
-same-length c = search needs
-
-returns : tie.Need-returns
-returns c = (
-  rw (eq-eqb (numberOf (c .before .before .before .before .before .before .before .before .args .r)) 4
-      (sym (c .before .before .before .before .before .before .number .ensures) ∙ c .before .before .before .before .before .if1 .taken))
-      (rw (c .before .before .before .place .ensures) at (c .before .before .put-knot-tail .ensures .0)),
-  c .before .before .put-knot-tail .ensures .1,
-)
-
-place-requires-2 : tie.Need-place-requires-2
-place-requires-2 c κs = search needs
-
-cast-put-knot-tail-2 : tie.Need-cast-put-knot-tail-2
-cast-put-knot-tail-2 c = search needs
-
-put-knot-tail-requires-2 : tie.Need-put-knot-tail-requires-2
-put-knot-tail-requires-2 c κs = search needs
-
-same-length-2 : tie.Need-same-length-2
-same-length-2 c = search needs
-
-returns-2 : tie.Need-returns-2
-returns-2 c = (
-  rw (
-    ne-eqb (numberOf (c .before .before .before .before .before .before .before .before .before .args .r)) 4
-        (λ q. c .before .before .before .before .before .before .if1 .left
-        (c .before .before .before .before .before .before .before .number .ensures ∙ q)),
-    eq-eqb (numberOf (c .before .before .before .before .before .before .before .before .before .args .r)) 10
-        (sym (c .before .before .before .before .before .before .before .number .ensures)
-        ∙ c .before .before .before .before .before .if2 .taken),
-  )
-      (rw (c .before .before .before .place2 .ensures) at (c .before .before .put-knot-tail2 .ensures .0)),
-  c .before .before .put-knot-tail2 .ensures .1,
-)
+enum-told : tie.Need-enum-told
+enum-told c = search needs
 
 slice-aggregate-put-word : tie.Need-slice-aggregate-put-word
 slice-aggregate-put-word c = search needs
@@ -62,38 +17,71 @@ slice-aggregate-put-word c = search needs
 put-word-requires : tie.Need-put-word-requires
 put-word-requires c κs = search needs
 
+enum-known-i : tie.Need-enum-known-i
+enum-known-i c = search needs
+
+cast-put-knot-tail : tie.Need-cast-put-knot-tail
+cast-put-knot-tail c = search needs
+
+put-knot-tail-requires : tie.Need-put-knot-tail-requires
+put-knot-tail-requires c κs = search needs
+
+enum-told-2 : tie.Need-enum-told-2
+enum-told-2 c = search needs
+
+slice-aggregate-put-word-2 : tie.Need-slice-aggregate-put-word-2
+slice-aggregate-put-word-2 c = search needs
+
+put-word-requires-2 : tie.Need-put-word-requires-2
+put-word-requires-2 c κs = search needs
+
+same-length : tie.Need-same-length
+same-length c = search needs
+
+returns : tie.Need-returns
+returns c = (
+  rw (sym (c .before .before .before .before .before .before .before .where-told .ensures) ∙ c .before .before .before .before .before .enum-told .given .1)
+      (c .before .before .put-word .ensures),
+  omega (arith, c .before .before .put-word .ensures .next),
+)
+
+same-length-2 : tie.Need-same-length-2
+same-length-2 c = search needs
+
+returns-2 : tie.Need-returns-2
+returns-2 c = (
+  rw (sym (c .before .before .before .before .before .before .before .where-told .ensures) ∙ c .before .before .before .before .before .i .given .1)
+      (c .before .before .put-knot-tail .ensures .0),
+  c .before .before .put-knot-tail .ensures .1,
+)
+
 same-length-3 : tie.Need-same-length-3
 same-length-3 c = search needs
 
 returns-3 : tie.Need-returns-3
 returns-3 c = (
-  rw (
-    ne-eqb (numberOf (c .before .before .before .before .before .before .before .before .before .args .r)) 4
-        (λ q. c .before .before .before .before .before .before .if1 .left
-        (c .before .before .before .before .before .before .before .number .ensures ∙ q)),
-    ne-eqb (numberOf (c .before .before .before .before .before .before .before .before .before .args .r)) 10
-        (λ q. c .before .before .before .before .before .if2 .left
-        (c .before .before .before .before .before .before .before .number .ensures ∙ q)),
-  ) (c .before .before .put-word .ensures),
-  omega (arith, c .before .before .put-word .ensures .next),
+  rw (sym (c .before .before .before .before .before .before .before .where-told .ensures) ∙ c .before .before .before .before .before .enum-told2 .given .1)
+      (c .before .before .put-word2 .ensures),
+  omega (arith, c .before .before .put-word2 .ensures .next),
 )
 
 pub put-tail-spec : {M : Type 1} → statement M
 put-tail-spec =
     tie.close
     (tie.spec
-    number-requires
-    place-requires
-    cast-put-knot-tail
-    put-knot-tail-requires
-    same-length
-    returns
-    place-requires-2
-    cast-put-knot-tail-2
-    put-knot-tail-requires-2
-    same-length-2
-    returns-2
+    where-told-requires
+    enum-told
     slice-aggregate-put-word
     put-word-requires
+    enum-known-i
+    cast-put-knot-tail
+    put-knot-tail-requires
+    enum-told-2
+    slice-aggregate-put-word-2
+    put-word-requires-2
+    same-length
+    returns
+    same-length-2
+    returns-2
     same-length-3
     returns-3)

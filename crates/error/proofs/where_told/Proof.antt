@@ -1,7 +1,7 @@
--- `lines_reply::where_told` meets its contract: in each arm the refusal is that arm's. Assumes nothing.
+-- `error::where_told` meets its contract: in each arm the refusal is that arm's. Assumes nothing.
 use borrow.Author.Needs.{needs}
-use Rattle.lines_reply.proofs.where_told.Statement.{statement}
-use Rattle.lines_reply.proofs.where_told.Tie as tie
+use Rattle.error.proofs.where_told.Statement.{statement}
+use Rattle.error.proofs.where_told.Tie as tie
 
 enum-told : tie.Need-enum-told
 enum-told c = search needs
