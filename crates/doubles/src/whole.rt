@@ -3,12 +3,13 @@ ghost use mathlib.Core.Path.{_≡_};
 ghost use Prim.Native.Nat.{_≤_, min};
 ghost use Rattle.doubles.specs.Whole.{double, wholeUpTo};
 
+// By way of a signed number: that is one instruction.
 pub fn double_of(n: usize) -> f64
     requires { ⌜ n ≤ 4097 ⌝ }
     ensures { λ r. ⌜ r ≡ double n ⌝ }
 {
-    let short = n as u16;
-    short as f64
+    let signed = n as i64;
+    signed as f64
 }
 
 pub fn lesser(a: usize, b: usize) -> usize
@@ -23,8 +24,8 @@ const UNITS: f64 = 6755399441055744.0;
 const UNITS_PATTERN: u64 = 4843621399236968448;
 
 // A guess at the whole part of y, 4096 at most. To y - 1/2, or very nearly that, UNITS is added: the bits of the sum less those of UNITS
-// are a whole number. Nothing rests on the guess: `whole_up_to` tests it by comparing.
-fn guess(y: f64) -> usize
+// are a whole number. Nothing rests on the guess: whoever takes it tests it by comparing.
+pub fn guess(y: f64) -> usize
     ensures { λ r. ⌜ r ≤ 4096 ⌝ }
 {
     let g = (y - 0.4999999) + UNITS;

@@ -1,16 +1,18 @@
 -- The part of a slice from a place on, and where a curve's segments start. Assumes nothing.
 use mathlib.Core.Path.{_≡_, sym, ap, _∙_, subst}
+use mathlib.Core.Bool.{true}
 use mathlib.Core.List.{List}
 use Prim.Native.Nat.{ℕ, _+_, _-_, _*_, _/_, _≤_, _<_}
-use native.Mathlib.Nat.{le-trans, mul-le-mul-right, div-mul-le-self, div-le-self}
+use native.Mathlib.Nat.{min-eq-left, le-trans, mul-le-mul-right, div-mul-le-self, div-le-self}
 use native.Mathlib.Omega.{arith}
 use lib.ListN.{length, take, drop, length-drop}
 use lib.Seq.{take-all}
-use lib.Ieee.{Float, binary64, mul, sub}
+use lib.Ieee.{Float, binary64, le, lt, mul, sub}
 use Rattle.basis.specs.declared.Basis.{Basis}
 use Rattle.basis.specs.Basis.{stepOf, segmentsOf, matrixOf}
 use Rattle.doubles.specs.Numbers.{clamp}
 use Rattle.doubles.specs.Whole.{double, wholeUpTo}
+use Rattle.doubles.proofs.WholePart.{confirmed}
 use Rattle.spline.specs.Segment.{rowSumsOf, hornerOf, segmentValue}
 use Rattle.spline.specs.Curve.{curveValue}
 use Rattle.spline.specs.Contract.{IsSpot}
@@ -31,6 +33,14 @@ few n step h = le-trans (div-le-self (n - 4) step) (omega arith)
 pub spotted : (k : ℕ) (x : Float) {q kd sd : Float} {s : ℕ} → 0 < k → q ≡ clamp x → kd ≡ double k → s ≡ wholeUpTo (k - 1) (mul binary64 q kd) → s ≤ k - 1
     → sd ≡ double s → IsSpot k x s (sub binary64 (mul binary64 q kd) sd)
 spotted k x K a b c h d = record { segment = c ∙ simp (a, b); local = simp (d, c, b, a); below = omega arith }
+
+-- the same by a guess at the whole part that passes both comparisons
+pub spotted-by : (k n : ℕ) (x : Float) {q kd nd ud : Float} → n < k → q ≡ clamp x → kd ≡ double k → nd ≡ double n
+    → le nd (mul binary64 q kd) ≡ true → ud ≡ double (n + 1) → lt (mul binary64 q kd) ud ≡ true → IsSpot k x n (sub binary64 (mul binary64 q kd) nd)
+spotted-by k n x {q} {kd} h a b d t e u =
+    let below : n ≤ k - 1 = omega arith in
+    let z = confirmed (k - 1) n (mul binary64 q kd) d t e u (sym (min-eq-left below)) in
+    spotted k x (omega arith) a b (z .0) (z .1) d
 
 pub under : {d k s : ℕ} {x t : Float} → k ≡ d + 1 → IsSpot k x s t → s ≤ d
 under e v = let h = v .below in omega (arith, e)

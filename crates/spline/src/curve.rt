@@ -14,13 +14,23 @@ pub struct Spot {
     pub t: f64,
 }
 
-// Where a parameter lies on a curve of k segments.
+// Where a parameter lies on a curve of k segments. The guess at the whole part is tested here too: where it is right, its double is at hand
+// and serves both tests and the local place.
 fn place(k: usize, x: f64) -> Spot
     requires some { ⌜ 0 < k ⌝ }
     requires segments { ⌜ k ≤ 4096 ⌝ }
     ensures { λ r. ⌜ IsSpot k x (r .s) (r .t) ⌝ }
 {
     let p = doubles::clamped(x) * doubles::whole::double_of(k);
+    let n = doubles::whole::guess(p);
+    if n < k {
+        let d = doubles::whole::double_of(n);
+        if d <= p {
+            if p < doubles::whole::double_of(n + 1) {
+                return Spot { s: n, t: p - d };
+            }
+        }
+    }
     let s = doubles::whole::whole_up_to(k - 1, p);
     let t = p - doubles::whole::double_of(s);
     Spot { s: s, t: t }
