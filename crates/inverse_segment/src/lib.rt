@@ -79,12 +79,14 @@ struct SegmentEnds {
 }
 
 // Where an inversion stopped in the segment that it entered, and why, the bracket after its last move, and the evaluations counted.
+// No two doubles stand side by side, here and in `Place`: they would be written one by one and copied two at a time, and a processor waits
+// for that.
 pub struct Stop {
-    pub ground: Ground,
     pub local: f64,
+    pub ground: Ground,
     pub lower: f64,
-    pub upper: f64,
     pub count: u32,
+    pub upper: f64,
 }
 
 // What trying a segment comes to: its ends do not enclose the target, and the value of its start; or where the inversion stopped in it.
@@ -97,11 +99,11 @@ pub enum Trial {
 pub struct Place {
     pub parameter: f64,
     pub ground: Ground,
-    pub segment: usize,
     pub local: f64,
+    pub segment: usize,
     pub lower: f64,
-    pub upper: f64,
     pub count: u32,
+    pub upper: f64,
 }
 
 // An answer: refused by a row of the table, not on the curve after so many evaluations, or a place.
