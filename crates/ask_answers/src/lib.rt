@@ -4,7 +4,7 @@ ghost use mathlib.Core.List.{List, []};
 ghost use Prim.Native.Nat.{_+_, _*_, _≤_, _<_};
 ghost use lib.Ieee.{Float, toBits, binary64};
 ghost use lib.ListN.{length, take, getD};
-ghost use Rattle.basis.specs.Basis.{segmentsOf};
+ghost use Rattle.basis.specs.Basis.{mostKnots, segmentsOf};
 ghost use Rattle.text.specs.Wrote.{Wrote};
 ghost use Rattle.text_rounded.specs.Rounded.{roundedText};
 ghost use Rattle.table_span.specs.Second.{day, goodSpan};
@@ -295,7 +295,7 @@ fn put_label(rows: usize, i: usize, labels: &[u8], out: &mut [u8], at: usize) ->
 // The label of the row at which segment s begins, behind a tab.
 fn put_start(k: Kind, rows: usize, s: usize, labels: &[u8], out: &mut [u8], at: usize) -> usize
     requires rows { ⌜ rows ≤ most ⌝ }
-    requires segment { ⌜ s ≤ 4096 ⌝ }
+    requires segment { ⌜ s ≤ mostKnots ⌝ }
     requires labels { ⌜ length (now labels) ≡ cells ⌝ }
     requires room { ⌜ at + 17 ≤ length (now out) ⌝ }
     ensures text { λ r. ⌜ Wrote (now (out .entry)) at (startText k (labelsTo (now (labels .entry)) rows) s) (now (out .exit)) r ⌝ }
@@ -309,7 +309,7 @@ fn put_start(k: Kind, rows: usize, s: usize, labels: &[u8], out: &mut [u8], at: 
 // The two rows between which segment s lies.
 fn put_rows(k: Kind, rows: usize, s: usize, labels: &[u8], out: &mut [u8], at: usize) -> usize
     requires rows { ⌜ rows ≤ most ⌝ }
-    requires segment { ⌜ s < 4096 ⌝ }
+    requires segment { ⌜ s < mostKnots ⌝ }
     requires labels { ⌜ length (now labels) ≡ cells ⌝ }
     requires room { ⌜ at + 35 ≤ length (now out) ⌝ }
     ensures text { λ r. ⌜ Wrote (now (out .entry)) at (rowsText k (labelsTo (now (labels .entry)) rows) s) (now (out .exit)) r ⌝ }
@@ -346,7 +346,7 @@ fn put_reached(
 ) -> usize
     requires rows { ⌜ rows ≤ most ⌝ }
     requires second { ⌜ s ≤ day ⌝ }
-    requires segment { ⌜ p .segment < 4096 ⌝ }
+    requires segment { ⌜ p .segment < mostKnots ⌝ }
     requires labels { ⌜ length (now labels) ≡ cells ⌝ }
     requires room { ⌜ at + 86 ≤ length (now out) ⌝ }
     ensures text { λ r. ⌜ Wrote (now (out .entry)) at (reachedText k (labelsTo (now (labels .entry)) rows) span y s p)

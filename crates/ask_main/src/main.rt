@@ -104,9 +104,9 @@ fn whole(
 }
 
 fn main() {
-    let mut rows = [0i64; 4096];
+    let mut rows = [0i64; basis::MOST_KNOTS];
     let mut labels = [0u8; 69632];
-    let mut knots = [0.0; 4096];
+    let mut knots = [0.0; basis::MOST_KNOTS];
     let mut begun = [0u8; 64];
     let mut chunk = [0u8; 65536];
     let mut out = [0u8; 262144];

@@ -130,7 +130,7 @@ fn add(k: Kind, n: usize, l: &[u8], rows: &mut [i64], labels: &mut [u8]) -> Shee
     if most_in(k) < m {
         return SheetHeld::Faulty(n + 2, Reason::NoDepth);
     }
-    if n < 4096 {
+    if n < basis::MOST_KNOTS {
         keep(labels, n, &l[0..t]);
         rows[n] = whole_of(minus, m);
         let next = n + 1;

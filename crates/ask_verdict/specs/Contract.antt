@@ -5,6 +5,7 @@ use Prim.Native.Nat.{ℕ, _≤_}
 use lib.Ieee.{Float}
 use lib.IntN.{ℤ}
 use lib.ListN.{length, take}
+use Rattle.basis.specs.Basis.{mostKnots}
 use Rattle.whole.specs.Held.{Small}
 use Rattle.table_span.specs.Second.{day}
 use Rattle.turns_back.specs.Call as turns
@@ -22,16 +23,16 @@ longest = 122944
 -- the rows of a sheet that draws a curve, and its whole knots
 pub record Drawing (k : Kind) (z w : List ℤ) : Type 0 where
   pub is : w ≡ knotsOf k z
-  pub rows : length z ≤ 4096
+  pub rows : length z ≤ mostKnots
   pub enough : 4 ≤ length w
-  pub few : length w ≤ 4096
+  pub few : length w ≤ mostKnots
   pub small : Small turns.most w
 
 -- how many rows and knots a curve has that may be asked about, and its span
 pub record Asks (rows n span : ℕ) : Type 0 where
-  pub fewRows : rows ≤ 4096
+  pub fewRows : rows ≤ mostKnots
   pub enough : 4 ≤ n
-  pub few : n ≤ 4096
+  pub few : n ≤ mostKnots
   pub short : span ≤ day
 
 abbrev pub Askable : AskedHeld → Type 0

@@ -6,7 +6,7 @@ ghost use Prim.Native.Nat.{ℕ, suc, _+_, _*_, _≤_, _<_};
 ghost use lib.IntN.{ℤ, pos, natAbs};
 ghost use lib.Ieee.{Float};
 ghost use lib.ListN.{length, take, getD};
-ghost use Rattle.basis.specs.Basis.{stepOf, segmentsOf};
+ghost use Rattle.basis.specs.Basis.{mostKnots, stepOf, segmentsOf};
 ghost use Rattle.inverse.specs.declared.Ends.{Ends};
 ghost use Rattle.text.specs.Text.{same};
 ghost use Rattle.text.specs.Wrote.{Wrote};
@@ -202,7 +202,7 @@ fn is_turning(k: Kind, up: bool, rows: &[i64], i: usize) -> bool
 // Whether segment s goes against the direction, or the next one starts against it.
 fn is_falling(b: Basis, up: bool, knots: &[i64], s: usize) -> bool
     requires enough { ⌜ 4 ≤ length (now knots) ⌝ }
-    requires few { ⌜ length (now knots) ≤ 4096 ⌝ }
+    requires few { ⌜ length (now knots) ≤ mostKnots ⌝ }
     requires small { ⌜ Small turns.most (heldAll (now knots)) ⌝ }
     requires segment { ⌜ s < segmentsOf b (length (now knots)) ⌝ }
     ensures { λ r. ⌜ r ≡ fallsAt b (turnedAll up (heldAll (now (knots .entry)))) s ⌝ }
@@ -395,7 +395,7 @@ fn put_depth(out: &mut [u8], at: usize, x: f64) -> usize
 }
 
 fn put_fine(n: usize, e: Ends, out: &mut [u8], at: usize) -> usize
-    requires number { ⌜ n ≤ 4096 ⌝ }
+    requires number { ⌜ n ≤ mostKnots ⌝ }
     requires room { ⌜ at + longest ≤ length (now out) ⌝ }
     ensures text { λ r. ⌜ Wrote (now (out .entry)) at (fineText n e) (now (out .exit)) r ⌝ }
     ensures short { λ r. ⌜ r ≤ at + longest ⌝ }
@@ -502,7 +502,7 @@ fn told_monotone(
     requires suited { ⌜ suits Monotone n ≡ true ⌝ }
     requires rows { ⌜ length (now rows) ≡ most ⌝ }
     requires sound { ⌜ Small (mostIn Monotone) (heldAll (take n (now rows))) ⌝ }
-    requires whole { ⌜ length (now whole) ≡ 4096 ⌝ }
+    requires whole { ⌜ length (now whole) ≡ mostKnots ⌝ }
     requires labels { ⌜ length (now labels) ≡ cells ⌝ }
     requires knots { ⌜ length (now knots) ≡ most ⌝ }
     requires room { ⌜ at + longest ≤ length (now out) ⌝ }
@@ -555,7 +555,7 @@ fn told_if(
     match k {
         Kind::Drawn(b) => told_of(k, &rows[0..n], &rows[0..n], labels, knots, out, at),
         Kind::Monotone => {
-            let mut whole = [0i64; 4096];
+            let mut whole = [0i64; basis::MOST_KNOTS];
             told_monotone(n, rows, &mut whole, labels, knots, out, at)
         }
     }

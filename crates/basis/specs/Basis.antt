@@ -8,6 +8,10 @@ use lib.Ieee.{Float, binary64, round}
 use Rattle.basis.specs.declared.Basis.{Basis}
 use Rattle.basis.specs.declared.Basis.the-variants.{Bspline, Bezier, CatmullRom, Hermite, Linear, Power}
 
+-- the most knots that a call takes
+abbrev pub mostKnots : ℕ
+mostKnots = 4096
+
 abbrev pub stepOf : Basis → ℕ
 stepOf Bspline = 1
 stepOf Bezier = 3

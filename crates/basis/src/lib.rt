@@ -5,6 +5,9 @@ ghost use Rattle.basis.specs.Basis.{stepOf, regular, lengthOk, segmentsO
 
 pub mod basis_macros;
 
+// The most knots that a call takes.
+pub const MOST_KNOTS: usize = 4096;
+
 pub enum Basis {
     Bspline,
     Bezier,

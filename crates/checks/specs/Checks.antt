@@ -9,13 +9,13 @@ use Rattle.error.specs.declared.Refusal.the-variants.{TooFew, BadPattern, TooMa
 use Rattle.error.specs.declared.Refusal.{Refusal}
 use Rattle.error.specs.Refusals.{Uses}
 use Rattle.basis.specs.declared.Basis.{Basis}
-use Rattle.basis.specs.Basis.{regular}
+use Rattle.basis.specs.Basis.{mostKnots, regular}
 use Rattle.doubles.specs.Numbers.{nought}
 
 -- ---- lengths
 -- a curve of n knots: fewer than 4; (n − 4) is no multiple of STEP; more than 4,096
 abbrev pub curveLength : Basis → ℕ → Uses
-curveLength b n = (TooFew, ltb n 4) ∷ (BadPattern, not (regular b n)) ∷ (TooMany, ltb 4096 n) ∷ []
+curveLength b n = (TooFew, ltb n 4) ∷ (BadPattern, not (regular b n)) ∷ (TooMany, ltb mostKnots n) ∷ []
 
 -- one segment of n knots: fewer than 4; more than 4
 abbrev pub segmentLength : ℕ → Uses

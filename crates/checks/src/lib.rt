@@ -4,6 +4,7 @@ ghost use mathlib.Core.Path.{_≡_};
 ghost use mathlib.Core.List.{[], _∷_};
 ghost use Prim.Native.Nat.{_≤_};
 ghost use lib.ListN.{length};
+ghost use Rattle.basis.specs.Basis.{mostKnots};
 ghost use Rattle.error.specs.declared.Refusal.the-variants.{BadKnot};
 ghost use Rattle.error.specs.Refusals.{first};
 ghost use Rattle.checks.specs.Checks.{curveLength, segmentLength, inRange, allInRange, firstBad, badKnot, precise, asked};
@@ -11,8 +12,6 @@ use basis::Basis;
 use error::Refusal;
 use error::Verdict;
 
-// The most knots that a call takes.
-pub const MOST_KNOTS: usize = 4096;
 // The greatest magnitude of a knot: 2^40.
 const GREATEST: f64 = 1099511627776.0;
 
@@ -26,7 +25,7 @@ pub fn curve_length(b: Basis, n: usize) -> Verdict
     if !basis::is_regular(b, n) {
         return Verdict::Failed(Refusal::BadPattern);
     }
-    if MOST_KNOTS < n {
+    if basis::MOST_KNOTS < n {
         return Verdict::Failed(Refusal::TooMany);
     }
     Verdict::Passed
@@ -78,7 +77,7 @@ fn first_bad(knots: &[f64]) -> usize
 
 // Which knot is out of range; looked for only where one is.
 fn bad_knot(knots: &[f64]) -> Refusal
-    requires { ⌜ length (now knots) ≤ 4096 ⌝ }
+    requires { ⌜ length (now knots) ≤ mostKnots ⌝ }
     ensures { λ r. ⌜ r ≡ BadKnot (firstBad (now (knots .entry))) ⌝ }
 {
     Refusal::BadKnot(first_bad(knots) as u16)
@@ -86,7 +85,7 @@ fn bad_knot(knots: &[f64]) -> Refusal
 
 // Refusal 4. The length has been tested, so that the knot's number fits 16 bits.
 pub fn knots(knots: &[f64]) -> Verdict
-    requires { ⌜ length (now knots) ≤ 4096 ⌝ }
+    requires { ⌜ length (now knots) ≤ mostKnots ⌝ }
     ensures { λ r. ⌜ r ≡ first (badKnot (now (knots .entry)) ∷ []) ⌝ }
 {
     if !all_in_range(knots) {

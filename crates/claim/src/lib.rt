@@ -2,7 +2,7 @@
 ghost use mathlib.Core.Path.{_≡_};
 ghost use Prim.Native.Nat.{_+_, _*_, _≤_};
 ghost use lib.ListN.{length};
-ghost use Rattle.basis.specs.Basis.{stepOf};
+ghost use Rattle.basis.specs.Basis.{mostKnots, stepOf};
 ghost use Rattle.spline.specs.Segment.{segmentOf};
 ghost use Rattle.claim.specs.Claim.{accepts, claimOf};
 use basis::Basis;
@@ -21,7 +21,7 @@ pub enum ClaimAnswer {
 // The segment is evaluated only where the place lies in 0 to 1.
 fn is_accepted(b: Basis, y: f64, s: usize, x: f64, precision: f64, knots: &[f64]) -> bool
     requires inside { ⌜ s * stepOf b + 4 ≤ length (now knots) ⌝ }
-    requires most { ⌜ length (now knots) ≤ 4096 ⌝ }
+    requires most { ⌜ length (now knots) ≤ mostKnots ⌝ }
     ensures { λ r. ⌜ r ≡ accepts y x (segmentOf b (now (knots .entry)) s x) precision ⌝ }
 {
     if 0.0 <= x {

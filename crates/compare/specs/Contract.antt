@@ -4,12 +4,13 @@ use mathlib.Core.List.{List, [], _∷_, _++_}
 use Prim.Native.Nat.{ℕ}
 use lib.Dec.{ltb, eqb}
 use lib.ListN.{length, getD}
+use Rattle.basis.specs.Basis.{mostKnots}
 use Rattle.text.specs.Text.{bytes, LF, decText}
 use Rattle.compare.specs.Differences.{Difference, knot, only}
 
 -- the most knots of a table
 abbrev pub most : ℕ
-most = 4096
+most = mostKnots
 
 -- room for the longest comparison: 28 bytes for the bases, 27 for the spans, 44 for each of 4,096 places, 5 for the last line
 abbrev pub longest : ℕ

@@ -4,6 +4,7 @@ use mathlib.Core.List.{List, [], _∷_, _++_}
 use Prim.Native.Nat.{ℕ}
 use lib.Dec.{ltb}
 use lib.ListN.{length}
+use Rattle.basis.specs.Basis.{mostKnots}
 use Rattle.basis.specs.declared.Basis.{Basis}
 use Rattle.error.specs.declared.Refusal.the-variants.{TooMany, BadSpan, BadLine, NoComparison}
 use Rattle.error.specs.declared.Verdict.{Verdict}
@@ -23,7 +24,7 @@ pub data Listing : Type 0 where
   on : Table → List ℕ → Listing
 
 abbrev pub places : ℕ
-places = 4096
+places = mostKnots
 
 -- a basis without a span
 abbrev pub bare : Basis → Table

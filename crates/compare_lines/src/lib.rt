@@ -197,7 +197,7 @@ fn add(t: Table, n: usize, x: u64, knots: &mut [u64]) -> EntryResult
     requires knots { ⌜ length (now knots) ≡ places ⌝ }
     ensures { λ e. ⌜ Enters (on t (take n (now (knots .entry)))) (Knot x) e (now (knots .exit)) ⌝ }
 {
-    if n < 4096 {
+    if n < basis::MOST_KNOTS {
         knots[n] = x;
         let next = n + 1;
         return EntryResult {

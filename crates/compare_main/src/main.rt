@@ -76,8 +76,8 @@ fn whole(chunk: &mut [u8], begun: &mut [u8], old: &mut [u64], new: &mut [u64], o
 }
 
 fn main() {
-    let mut old = [0u64; 4096];
-    let mut new = [0u64; 4096];
+    let mut old = [0u64; basis::MOST_KNOTS];
+    let mut new = [0u64; basis::MOST_KNOTS];
     let mut begun = [0u8; 64];
     let mut chunk = [0u8; 65536];
     let mut out = [0u8; 188416];

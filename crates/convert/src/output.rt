@@ -4,6 +4,7 @@ ghost use mathlib.Core.Path.{_≡_};
 ghost use mathlib.Core.List.{[]};
 ghost use Prim.Native.Nat.{_+_, _-_, _*_, _/_, _≤_, _<_};
 ghost use lib.ListN.{length, getD, drop};
+ghost use Rattle.basis.specs.Basis.{mostKnots};
 ghost use Rattle.spline.specs.Segment.{rowSum, rowSumsOf};
 ghost use Rattle.convert.specs.Output.{windows};
 ghost use Rattle.convert.specs.Conversion.{gives};
@@ -73,7 +74,7 @@ pub fn put_windows(
     requires some { ⌜ 0 < stride ⌝ }
     requires few { ⌜ stride ≤ 4 ⌝ }
     requires enough { ⌜ 4 ≤ length (now knots) ⌝ }
-    requires most { ⌜ length (now knots) ≤ 4096 ⌝ }
+    requires most { ⌜ length (now knots) ≤ mostKnots ⌝ }
     requires room { ⌜ 4 + (length (now knots) - 4) / step * stride ≤ length (now out) ⌝ }
     ensures answer { λ r. ⌜ r ≡ 4 + (length (now (knots .entry)) - 4) / step * stride ⌝ }
     ensures out { λ _. ⌜ now (out .exit) ≡ bufferOf

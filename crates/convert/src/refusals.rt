@@ -2,6 +2,7 @@
 ghost use mathlib.Core.Path.{_≡_};
 ghost use Prim.Native.Nat.{_≤_};
 ghost use lib.ListN.{length};
+ghost use Rattle.basis.specs.Basis.{mostKnots};
 ghost use Rattle.error.specs.Refusals.{first};
 ghost use Rattle.convert.specs.Output.{outputLength};
 ghost use Rattle.convert.specs.Conversion.{outputUses, convertSegmentUses, convertUses};
@@ -11,7 +12,7 @@ use error::Verdict;
 
 // Refusals 8 and 9, then 4, of an output that needs so many places where so many are lent.
 pub fn output_verdict(to: Basis, knots: &[f64], need: usize, room: usize) -> Verdict
-    requires { ⌜ length (now knots) ≤ 4096 ⌝ }
+    requires { ⌜ length (now knots) ≤ mostKnots ⌝ }
     ensures { λ r. ⌜ r ≡ first (outputUses to (now (knots .entry)) need room) ⌝ }
 {
     if basis::is_linear(to) {
@@ -36,7 +37,7 @@ pub fn segment_verdict(to: Basis, cv: &[f64], room: usize) -> Verdict
 // The places that n knots fill once they are converted.
 pub fn output_length(from: Basis, to: Basis, n: usize) -> usize
     requires enough { ⌜ 4 ≤ n ⌝ }
-    requires most { ⌜ n ≤ 4096 ⌝ }
+    requires most { ⌜ n ≤ mostKnots ⌝ }
     ensures { λ r. ⌜ r ≡ outputLength from to n ⌝ }
 {
     4 + (n - 4) / basis::step(from) * basis::step(to)

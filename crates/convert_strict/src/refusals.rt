@@ -3,6 +3,7 @@ ghost use mathlib.Core.Path.{_≡_};
 ghost use mathlib.Core.List.{[], _∷_, _++_};
 ghost use Prim.Native.Nat.{_≤_};
 ghost use lib.ListN.{length};
+ghost use Rattle.basis.specs.Basis.{mostKnots};
 ghost use Rattle.error.specs.Refusals.{first};
 ghost use Rattle.convert.specs.Output.{outputLength};
 ghost use Rattle.convert.specs.Conversion.{outputUses};
@@ -20,7 +21,7 @@ pub fn is_allowance(x: f64) -> bool
 // The rows after those of the lengths: that of the allowance comes between that of the output's basis and that of its room.
 fn later_verdict(from: Basis, to: Basis, knots: &[f64], allowance: f64, room: usize) -> Verdict
     requires enough { ⌜ 4 ≤ length (now knots) ⌝ }
-    requires most { ⌜ length (now knots) ≤ 4096 ⌝ }
+    requires most { ⌜ length (now knots) ≤ mostKnots ⌝ }
     ensures { λ r. ⌜ r ≡ first
         (outputUses to (now (knots .entry)) (outputLength from to (length (now (knots .entry)))) room ++ (badAllowance allowance ∷ []))
         ⌝ }

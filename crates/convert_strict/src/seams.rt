@@ -4,6 +4,7 @@ ghost use mathlib.Core.List.{_++_};
 ghost use Prim.Native.Nat.{_-_, _*_, _/_, _+_, _≤_, _<_};
 ghost use lib.ListN.{length, drop, getD};
 ghost use lib.Ieee.{nan};
+ghost use Rattle.basis.specs.Basis.{mostKnots};
 ghost use Rattle.convert.specs.Contract.{listOf};
 ghost use Rattle.convert_strict.specs.Seams.{isApart, any, lostSeam};
 use spline::RowSums;
@@ -87,7 +88,7 @@ pub fn lost_seam(
     requires some { ⌜ 0 < stride ⌝ }
     requires few { ⌜ stride ≤ 4 ⌝ }
     requires enough { ⌜ 4 ≤ length (now knots) ⌝ }
-    requires most { ⌜ length (now knots) ≤ 4096 ⌝ }
+    requires most { ⌜ length (now knots) ≤ mostKnots ⌝ }
     ensures lowest { λ r. ⌜ r ≡ lostSeam m step stride allowance (now (knots .entry)) ((length (now (knots .entry)) - 4) / step) ⌝ }
     ensures small { λ r. ⌜ r ≤ 4092 ⌝ }
 {

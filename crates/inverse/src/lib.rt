@@ -4,7 +4,7 @@ ghost use mathlib.Core.Bool.{true, false};
 ghost use Prim.Native.Nat.{_+_, _*_, _≤_, _<_};
 ghost use lib.ListN.{length};
 ghost use lib.Ieee.{isNan};
-ghost use Rattle.basis.specs.Basis.{segmentsOf};
+ghost use Rattle.basis.specs.Basis.{mostKnots, segmentsOf};
 ghost use Rattle.spline.specs.Segment.{segmentOf};
 ghost use Rattle.checks.specs.Checks.{allInRange};
 ghost use Rattle.inverse_segment.specs.Answer.{defaultLimit, defaultPrecision};
@@ -79,7 +79,7 @@ fn is_at_high(e: Ends, y: f64) -> bool
 pub fn curve_ends(b: Basis, knots: &[f64], k: usize) -> Ends
     requires segments { ⌜ k ≡ segmentsOf b (length (now knots)) ⌝ }
     requires enough { ⌜ 4 ≤ length (now knots) ⌝ }
-    requires most { ⌜ length (now knots) ≤ 4096 ⌝ }
+    requires most { ⌜ length (now knots) ≤ mostKnots ⌝ }
     ensures { λ r. ⌜ r ≡ curveRule (segmentOf b (now (knots .entry))) k .ends ⌝ }
 {
     let start = spline::segment::horner(inverse_search::row_sums_at(b, knots, 0), 0.0);
@@ -107,8 +107,8 @@ fn end_place(s: usize, x: f64, n: u32) -> Inversion
 }
 
 fn parameter(k: usize, s: usize, x: f64) -> f64
-    requires segments { ⌜ k ≤ 4096 ⌝ }
-    requires segment { ⌜ s ≤ 4096 ⌝ }
+    requires segments { ⌜ k ≤ mostKnots ⌝ }
+    requires segment { ⌜ s ≤ mostKnots ⌝ }
     ensures { λ r. ⌜ r ≡ parameterOf k s x ⌝ }
 {
     (doubles::whole::double_of(s) + x) * (1.0 / doubles::whole::double_of(k))
@@ -128,7 +128,7 @@ pub fn searched(
 ) -> Inversion
     requires segments { ⌜ k ≡ segmentsOf b (length (now knots)) ⌝ }
     requires enough { ⌜ 4 ≤ length (now knots) ⌝ }
-    requires most { ⌜ length (now knots) ≤ 4096 ⌝ }
+    requires most { ⌜ length (now knots) ≤ mostKnots ⌝ }
     requires number { ⌜ isNan y ≡ false ⌝ }
     requires range { ⌜ allInRange (now knots) ≡ true ⌝ }
     requires count { ⌜ n ≤ 1000 ⌝ }
@@ -155,7 +155,7 @@ fn located(
 ) -> Inversion
     requires segments { ⌜ k ≡ segmentsOf b (length (now knots)) ⌝ }
     requires enough { ⌜ 4 ≤ length (now knots) ⌝ }
-    requires most { ⌜ length (now knots) ≤ 4096 ⌝ }
+    requires most { ⌜ length (now knots) ≤ mostKnots ⌝ }
     requires number { ⌜ isNan y ≡ false ⌝ }
     requires range { ⌜ allInRange (now knots) ≡ true ⌝ }
     requires count { ⌜ n ≤ 1000 ⌝ }
@@ -174,7 +174,7 @@ fn located(
 fn ends_by(ends: EndsBy, b: Basis, knots: &[f64], k: usize) -> Ends
     requires segments { ⌜ k ≡ segmentsOf b (length (now knots)) ⌝ }
     requires enough { ⌜ 4 ≤ length (now knots) ⌝ }
-    requires most { ⌜ length (now knots) ≤ 4096 ⌝ }
+    requires most { ⌜ length (now knots) ≤ mostKnots ⌝ }
     ensures { λ r. ⌜ r ≡ endRuleOf ends b (now (knots .entry)) (segmentOf b (now (knots .entry))) .ends ⌝ }
 {
     match ends {
@@ -204,7 +204,7 @@ fn locate(
     precision: f64,
 ) -> Inversion
     requires enough { ⌜ 4 ≤ length (now knots) ⌝ }
-    requires most { ⌜ length (now knots) ≤ 4096 ⌝ }
+    requires most { ⌜ length (now knots) ≤ mostKnots ⌝ }
     requires number { ⌜ isNan y ≡ false ⌝ }
     requires range { ⌜ allInRange (now knots) ≡ true ⌝ }
     ensures { λ r. ⌜ r ≡ located (ruleOf how) (endRuleOf ends b (now (knots .entry)) (segmentOf b (now (knots .entry))) .ends)

@@ -4,6 +4,7 @@ ghost use mathlib.Core.List.{[], _∷_};
 ghost use mathlib.Core.Bool.{not, _&&_};
 ghost use Prim.Native.Nat.{_≤_};
 ghost use lib.ListN.{length, drop};
+ghost use Rattle.basis.specs.Basis.{mostKnots};
 ghost use Rattle.error.specs.declared.Refusal.the-variants.{TurnsBack};
 ghost use Rattle.error.specs.Refusals.{first};
 ghost use Rattle.checks.specs.Checks.{allInRange, badKnot};
@@ -94,7 +95,7 @@ fn first_turn(rising: bool, knots: &[f64]) -> usize
 // Refusal 10, with the knot that turns back: looked for only where there is one.
 pub fn turning_knot(knots: &[f64]) -> Refusal
     requires enough { ⌜ 4 ≤ length (now knots) ⌝ }
-    requires most { ⌜ length (now knots) ≤ 4096 ⌝ }
+    requires most { ⌜ length (now knots) ≤ mostKnots ⌝ }
     ensures { λ r. ⌜ r ≡ TurnsBack (turningKnot (now (knots .entry))) ⌝ }
 {
     Refusal::TurnsBack(first_turn(rising(knots), knots) as u16)
@@ -103,7 +104,7 @@ pub fn turning_knot(knots: &[f64]) -> Refusal
 // Refusals 4 and 10. With the order check, one scan serves both where nothing is wrong; where something is, they are tested one by one.
 pub fn knots_verdict(knots: &[f64], check: bool) -> Verdict
     requires enough { ⌜ 4 ≤ length (now knots) ⌝ }
-    requires most { ⌜ length (now knots) ≤ 4096 ⌝ }
+    requires most { ⌜ length (now knots) ≤ mostKnots ⌝ }
     ensures { λ r. ⌜ r ≡ first (badKnot (now (knots .entry)) ∷ turnBack check (now (knots .entry)) ∷ []) ⌝ }
 {
     if !check {

@@ -2,7 +2,7 @@
 ghost use mathlib.Core.Path.{_≡_};
 ghost use Prim.Native.Nat.{_+_, _-_, _*_, _≤_, _<_};
 ghost use lib.ListN.{length, drop};
-ghost use Rattle.basis.specs.Basis.{stepOf, matrixOf};
+ghost use Rattle.basis.specs.Basis.{mostKnots, stepOf, matrixOf};
 ghost use Rattle.spline.specs.Segment.{rowSumsOf};
 ghost use Rattle.inverse_search.specs.Bound.{bitsOf, boundOf};
 ghost use Rattle.inverse_search.specs.Contract.{
@@ -64,7 +64,7 @@ pub fn most_evaluations(k: usize, limit: u16) -> u32
 // The row sums of segment s: the part of the knots that starts at its place is lent, and nothing copied.
 pub fn row_sums_at(b: Basis, knots: &[f64], s: usize) -> RowSums
     requires inside { ⌜ s * stepOf b + 4 ≤ length (now knots) ⌝ }
-    requires most { ⌜ length (now knots) ≤ 4096 ⌝ }
+    requires most { ⌜ length (now knots) ≤ mostKnots ⌝ }
     ensures { λ r. ⌜ r ≡ rowSumsOf (matrixOf b) (drop (s * stepOf b) (now (knots .entry))) ⌝ }
 {
     let start = s * basis::step(b);
@@ -83,7 +83,7 @@ fn try_at(
     n: u32,
 ) -> Trial
     requires inside { ⌜ s * stepOf b + 4 ≤ length (now knots) ⌝ }
-    requires most { ⌜ length (now knots) ≤ 4096 ⌝ }
+    requires most { ⌜ length (now knots) ≤ mostKnots ⌝ }
     requires count { ⌜ n ≤ 900000 ⌝ }
     ensures { λ r. ⌜ TrialIs how b (now (knots .entry)) y precision limit s n r ⌝ }
 {
@@ -104,8 +104,8 @@ pub fn tries(
     count: u32,
 ) -> SearchResult
     requires inside { ⌜ end * stepOf b + 4 ≤ length (now knots) + stepOf b ⌝ }
-    requires most { ⌜ length (now knots) ≤ 4096 ⌝ }
-    requires last { ⌜ end ≤ 4096 ⌝ }
+    requires most { ⌜ length (now knots) ≤ mostKnots ⌝ }
+    requires last { ⌜ end ≤ mostKnots ⌝ }
     requires first { ⌜ first ≤ end ⌝ }
     requires count { ⌜ count ≤ 100000 ⌝ }
     ensures { λ r. ⌜ TriesIs how b (now (knots .entry)) y precision limit (end - first) first count r ⌝ }
@@ -142,9 +142,9 @@ pub fn last_tries(
     count: u32,
 ) -> SearchResult
     requires inside { ⌜ k * stepOf b + 4 ≤ length (now knots) + stepOf b ⌝ }
-    requires most { ⌜ length (now knots) ≤ 4096 ⌝ }
+    requires most { ⌜ length (now knots) ≤ mostKnots ⌝ }
     requires some { ⌜ 0 < k ⌝ }
-    requires segments { ⌜ k ≤ 4096 ⌝ }
+    requires segments { ⌜ k ≤ mostKnots ⌝ }
     requires left { ⌜ left ≤ k ⌝ }
     requires count { ⌜ count ≤ 90000 ⌝ }
     ensures { λ r. ⌜ LastIs how b (now (knots .entry)) y precision limit k left count r ⌝ }
@@ -211,8 +211,8 @@ pub fn halve(
     place: &mut [f64; 3],
 ) -> usize
     requires inside { ⌜ (left + wide) * stepOf b + 4 ≤ length (now (now knots)) + stepOf b ⌝ }
-    requires most { ⌜ length (now (now knots)) ≤ 4096 ⌝ }
-    requires segments { ⌜ left + wide ≤ 4096 ⌝ }
+    requires most { ⌜ length (now (now knots)) ≤ mostKnots ⌝ }
+    requires segments { ⌜ left + wide ≤ mostKnots ⌝ }
     requires none { ⌜ now ground ≡ 0 ⌝ }
     requires count { ⌜ now made + 2 * halvings ≤ 90000 ⌝ }
     ensures answer { λ r. ⌜ HalveIs how b (now (now (knots .entry))) y precision limit rising halvings left wide (now (made .entry)) r
@@ -287,9 +287,9 @@ pub fn find(
     count: u32,
 ) -> SearchResult
     requires inside { ⌜ k * stepOf b + 4 ≤ length (now knots) + stepOf b ⌝ }
-    requires most { ⌜ length (now knots) ≤ 4096 ⌝ }
+    requires most { ⌜ length (now knots) ≤ mostKnots ⌝ }
     requires some { ⌜ 0 < k ⌝ }
-    requires segments { ⌜ k ≤ 4096 ⌝ }
+    requires segments { ⌜ k ≤ mostKnots ⌝ }
     requires count { ⌜ count ≤ 1000 ⌝ }
     ensures { λ r. ⌜ FindIs how b (now (knots .entry)) y precision limit rising k count r ⌝ }
 {

@@ -5,6 +5,7 @@ use Prim.Native.Nat.{ℕ}
 use lib.Dec.{ltb}
 use lib.ListN.{length}
 use lib.Ieee.{Float}
+use Rattle.basis.specs.Basis.{mostKnots}
 use Rattle.basis.specs.declared.Basis.{Basis}
 use Rattle.convert.specs.Conversion.{Conversion, gives, refuses, convertedOf}
 use Rattle.error.specs.declared.Refusal.the-variants.{TooMany, BadSpan, OffCurve, BadLine}
@@ -26,7 +27,7 @@ use Rattle.table_span.specs.Second.{goodSpan, spansOf, secondsOf}
 
 -- the places of the table, and those that `turn` lends
 abbrev pub places : ℕ
-places = 4096
+places = mostKnots
 
 -- the curve: none before the first `curve`, then a table with its span, by which ends it is inverted, and its knots
 pub data Curve : Type 0 where

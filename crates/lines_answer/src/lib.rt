@@ -131,7 +131,7 @@ pub fn add(t: Table, m: EndsBy, n: usize, x: f64, table: &mut [f64]) -> SessionR
     requires table { ⌜ length (now table) ≡ places ⌝ }
     ensures { λ a. ⌜ ((l : List Float) → Answers (on t m (take n (now (table .entry)))) (Knot x) a (now (table .exit)) l) ⌝ }
 {
-    if n < 4096 {
+    if n < basis::MOST_KNOTS {
         table[n] = x;
         let next = n + 1;
         return SessionReply {

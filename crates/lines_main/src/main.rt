@@ -92,8 +92,8 @@ fn whole(
 }
 
 fn main() {
-    let mut table = [0.0; 4096];
-    let mut converted = [0.0; 4096];
+    let mut table = [0.0; basis::MOST_KNOTS];
+    let mut converted = [0.0; basis::MOST_KNOTS];
     let mut begun = [0u8; 64];
     let mut chunk = [0u8; 65536];
     let mut out = [0u8; 188416];

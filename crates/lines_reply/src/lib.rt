@@ -3,6 +3,7 @@ ghost use mathlib.Core.Path.{_≡_};
 ghost use Prim.Native.Nat.{_+_, _*_, _≤_};
 ghost use lib.ListN.{length};
 ghost use mathlib.Core.List.{[], _∷_};
+ghost use Rattle.basis.specs.Basis.{mostKnots};
 ghost use Rattle.error.specs.Refusals.{placesIn};
 ghost use Rattle.text.specs.Wrote.{Wrote};
 ghost use Rattle.lines_record.specs.Record.{nameOf};
@@ -178,7 +179,7 @@ fn put_span(out: &mut [u8], at: usize, span: u32) -> usize
 }
 
 fn put_curve(out: &mut [u8], at: usize, t: Table, knots: &[f64]) -> usize
-    requires most { ⌜ length (now knots) ≤ 4096 ⌝ }
+    requires most { ⌜ length (now knots) ≤ mostKnots ⌝ }
     requires room { ⌜ at + longest ≤ length (now out) ⌝ }
     ensures text { λ r. ⌜ Wrote (now (out .entry)) at (curveText (t .basis) (spansOf (t .span)) (now (knots .entry))) (now
         (out .exit)) r ⌝ }
@@ -196,7 +197,7 @@ fn put_curve(out: &mut [u8], at: usize, t: Table, knots: &[f64]) -> usize
 // The text of a reply, from place `at` on.
 pub fn put_reply(t: LineReply, converted: &[f64], out: &mut [u8], at: usize) -> usize
     requires lent { ⌜ lentOf t ≤ length (now converted) ⌝ }
-    requires converted { ⌜ length (now converted) ≡ 4096 ⌝ }
+    requires converted { ⌜ length (now converted) ≡ mostKnots ⌝ }
     requires room { ⌜ at + longest ≤ length (now out) ⌝ }
     ensures text { λ r. ⌜ Wrote (now (out .entry)) at (textOf (replyOf t (now (converted .entry)))) (now (out .exit)) r ⌝ }
     ensures short { λ r. ⌜ r ≤ at + longest ⌝ }

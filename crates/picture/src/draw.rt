@@ -1,6 +1,7 @@
 // The curve, its knots, and the whole picture.
 ghost use Prim.Native.Nat.{_≤_, _<_, _+_, _*_};
 ghost use lib.ListN.{length};
+ghost use Rattle.basis.specs.Basis.{mostKnots};
 ghost use Rattle.text.specs.Wrote.{Wrote};
 ghost use Rattle.lines_reply.specs.Contract.{longest};
 ghost use Rattle.picture_scale.specs.Bounds.{Open};
@@ -36,7 +37,7 @@ fn put_points(out: &mut [u8], at: usize, b: Basis, knots: &[f64], e: Extent, p: 
 // Knot j of n, if it is shown.
 fn put_knot(out: &mut [u8], at: usize, b: Basis, n: usize, e: Extent, j: usize, x: f64) -> usize
     requires knot { ⌜ j < n ⌝ }
-    requires most { ⌜ n ≤ 4096 ⌝ }
+    requires most { ⌜ n ≤ mostKnots ⌝ }
     requires open { ⌜ Open e ⌝ }
     requires room { ⌜ at + 12 ≤ length (now out) ⌝ }
     ensures text { λ r. ⌜ Wrote (now (out .entry)) at (knotText b n e j x) (now (out .exit)) r ⌝ }
@@ -50,7 +51,7 @@ fn put_knot(out: &mut [u8], at: usize, b: Basis, n: usize, e: Extent, j: usize, 
 }
 
 fn put_knots(out: &mut [u8], at: usize, b: Basis, knots: &[f64], e: Extent) -> usize
-    requires most { ⌜ length (now knots) ≤ 4096 ⌝ }
+    requires most { ⌜ length (now knots) ≤ mostKnots ⌝ }
     requires open { ⌜ Open e ⌝ }
     requires room { ⌜ at + 49152 ≤ length (now out) ⌝ }
     ensures text { λ r. ⌜ Wrote (now (out .entry)) at (knotsText b (now (knots .entry)) e (length (now (knots .entry)))) (now
@@ -68,7 +69,7 @@ fn put_knots(out: &mut [u8], at: usize, b: Basis, knots: &[f64], e: Extent) -> u
 
 // What is drawn of a table that is not refused: the labels of the depths, the knots, the curve and the finds.
 fn put_curve(out: &mut [u8], at: usize, m: EndsBy, b: Basis, knots: &[f64], f: Finds) -> usize
-    requires most { ⌜ length (now knots) ≤ 4096 ⌝ }
+    requires most { ⌜ length (now knots) ≤ mostKnots ⌝ }
     requires room { ⌜ at + 75000 ≤ length (now out) ⌝ }
     ensures text { λ r. ⌜ Wrote (now (out .entry)) at (curveText m b (now (knots .entry)) (targetsOf f)) (now (out .exit)) r ⌝ }
     ensures short { λ r. ⌜ r ≤ at + 75000 ⌝ }
@@ -102,7 +103,7 @@ fn put_body(
     f: Finds,
     v: Evaluation,
 ) -> usize
-    requires most { ⌜ length (now knots) ≤ 4096 ⌝ }
+    requires most { ⌜ length (now knots) ≤ mostKnots ⌝ }
     requires room { ⌜ at + 75000 ≤ length (now out) ⌝ }
     ensures text { λ r. ⌜ Wrote (now (out .entry)) at (bodyIn m b (now (knots .entry)) (targetsOf f) v) (now (out .exit)) r ⌝ }
     ensures short { λ r. ⌜ r ≤ at + 75000 ⌝ }
@@ -163,7 +164,7 @@ pub fn put_picture(
     out: &mut [u8],
     at: usize,
 ) -> usize
-    requires most { ⌜ length (now knots) ≤ 4096 ⌝ }
+    requires most { ⌜ length (now knots) ≤ mostKnots ⌝ }
     requires room { ⌜ at + longest ≤ length (now out) ⌝ }
     ensures text { λ r. ⌜ Wrote (now (out .entry)) at (pictureText t m (now (knots .entry)) (targetsOf f) fault) (now (out .exit)) r ⌝ }
     ensures short { λ r. ⌜ r ≤ at + longest ⌝ }

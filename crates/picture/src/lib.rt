@@ -122,7 +122,7 @@ fn turned(b: Basis, c: Basis, knots: &[f64]) -> LineReply
     ensures { λ r. ⌜ ((f : Fault) (s : ℕ) (l : List Float) → faultIn f (replyOf r l)
         ≡ faultIn f (curveReply s c (convertedOf b c (now (knots .entry)) places))) ⌝ }
 {
-    let v = convert::refusals::spline_verdict(b, c, knots, 4096);
+    let v = convert::refusals::spline_verdict(b, c, knots, basis::MOST_KNOTS);
     match v {
         Verdict::Passed => LineReply::Nothing,
         Verdict::Failed(r) => LineReply::Refused(r),

@@ -3,6 +3,7 @@ ghost use mathlib.Core.Path.{_≡_};
 ghost use mathlib.Core.List.{[]};
 ghost use Prim.Native.Nat.{_≤_, _+_, min};
 ghost use lib.ListN.{length};
+ghost use Rattle.basis.specs.Basis.{mostKnots};
 ghost use Rattle.text.specs.Wrote.{Wrote};
 ghost use Rattle.picture_scale.specs.Bounds.{Open};
 ghost use Rattle.picture_finds.specs.Finds.{
@@ -112,7 +113,7 @@ fn put_found(
     y: f64,
     i: Inversion,
 ) -> usize
-    requires most { ⌜ length (now knots) ≤ 4096 ⌝ }
+    requires most { ⌜ length (now knots) ≤ mostKnots ⌝ }
     requires open { ⌜ Open e ⌝ }
     requires slot { ⌜ slot ≤ 9 ⌝ }
     requires room { ⌜ at + 160 ≤ length (now out) ⌝ }
@@ -145,7 +146,7 @@ fn put_find(
     slot: u64,
     y: f64,
 ) -> usize
-    requires most { ⌜ length (now knots) ≤ 4096 ⌝ }
+    requires most { ⌜ length (now knots) ≤ mostKnots ⌝ }
     requires open { ⌜ Open e ⌝ }
     requires slot { ⌜ slot ≤ 9 ⌝ }
     requires room { ⌜ at + 160 ≤ length (now out) ⌝ }
@@ -181,7 +182,7 @@ pub fn put_finds(
     e: Extent,
     f: Finds,
 ) -> usize
-    requires most { ⌜ length (now knots) ≤ 4096 ⌝ }
+    requires most { ⌜ length (now knots) ≤ mostKnots ⌝ }
     requires open { ⌜ Open e ⌝ }
     requires room { ⌜ at + 1280 ≤ length (now out) ⌝ }
     ensures text { λ r. ⌜ Wrote (now (out .entry)) at (findsText m b (now (knots .entry)) e (targetsOf f) (length (targetsOf f))) (now

@@ -4,7 +4,7 @@ ghost use Prim.Native.Nat.{_≤_, _<_, _+_, _-_, min, max};
 ghost use lib.ListN.{length};
 ghost use lib.Dec.{leb, ltb};
 ghost use mathlib.Core.Bool.{_&&_};
-ghost use Rattle.basis.specs.Basis.{segmentsOf};
+ghost use Rattle.basis.specs.Basis.{mostKnots, segmentsOf};
 ghost use Rattle.picture_scale.specs.Scale.{
   heightOf,
   curveHeight,
@@ -117,7 +117,7 @@ pub fn segments(b: Basis, n: usize) -> usize
 
 // Into how many pieces the curve is cut.
 pub fn pieces(b: Basis, n: usize) -> usize
-    requires { ⌜ n ≤ 4096 ⌝ }
+    requires { ⌜ n ≤ mostKnots ⌝ }
     ensures answer { λ r. ⌜ r ≡ piecesOf b n ⌝ }
     ensures most { λ r. ⌜ r ≤ 2048 ⌝ }
 {
@@ -223,7 +223,7 @@ fn knots_extent(b: Basis, knots: &[f64], first: Extent) -> Extent
 
 // The extent of all that is shown, and a thousandth more on either side.
 pub fn extent_of(b: Basis, knots: &[f64]) -> Extent
-    requires { ⌜ length (now knots) ≤ 4096 ⌝ }
+    requires { ⌜ length (now knots) ≤ mostKnots ⌝ }
     ensures answer { λ r. ⌜ r ≡ extentOf b (now (knots .entry)) ⌝ }
     ensures open_after { λ r. ⌜ Open r ⌝ }
 {

@@ -5,6 +5,7 @@ use Prim.Native.Nat.{ℕ, suc}
 use lib.Dec.{leb, ltb, eqb}
 use lib.ListN.{length, drop, getD}
 use lib.Ieee.{Float}
+use Rattle.basis.specs.Basis.{mostKnots}
 use Rattle.basis.specs.declared.Basis.{Basis}
 use Rattle.error.specs.declared.Refusal.{Refusal}
 use Rattle.error.specs.declared.Refusal.the-variants.{TooMany, BadSheet}
@@ -42,7 +43,7 @@ pub data Sheet : Type 0 where
   faulty : Refusal → Sheet
 
 abbrev pub most : ℕ
-most = 4096
+most = mostKnots
 
 abbrev pub named : BasisName → Sheet
 named (N.Is b) = on b []

@@ -96,7 +96,7 @@ fn add(b: Basis, n: usize, l: &[u8], table: &mut [f64]) -> SheetState
     let Depth::Is(minus, k) = depth_line(l) else {
         return SheetState::Faulty(Refusal::BadSheet);
     };
-    if n < 4096 {
+    if n < basis::MOST_KNOTS {
         table[n] = sheet_depth::depth(minus, k);
         let next = n + 1;
         return SheetState::On(b, next);

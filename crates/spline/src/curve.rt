@@ -2,7 +2,7 @@
 ghost use mathlib.Core.Path.{_≡_};
 ghost use Prim.Native.Nat.{_≤_, _<_};
 ghost use lib.ListN.{length};
-ghost use Rattle.basis.specs.Basis.{matrixOf};
+ghost use Rattle.basis.specs.Basis.{mostKnots, matrixOf};
 ghost use Rattle.spline.specs.Segment.{segmentValue};
 ghost use Rattle.spline.specs.Curve.{curveValue};
 ghost use Rattle.spline.specs.Contract.{IsSpot};
@@ -18,7 +18,7 @@ pub struct Spot {
 // and serves both tests and the local place.
 fn place(k: usize, x: f64) -> Spot
     requires some { ⌜ 0 < k ⌝ }
-    requires segments { ⌜ k ≤ 4096 ⌝ }
+    requires segments { ⌜ k ≤ mostKnots ⌝ }
     ensures { λ r. ⌜ IsSpot k x (r .s) (r .t) ⌝ }
 {
     let p = doubles::clamped(x) * doubles::whole::double_of(k);
@@ -72,7 +72,7 @@ fn value_in(b: Basis, cv: &[f64], t: f64) -> f64
 // The segment is the part of the knots that starts at its place: nothing is copied.
 pub fn curve_value(b: Basis, x: f64, knots: &[f64]) -> f64
     requires enough { ⌜ 4 ≤ length (now knots) ⌝ }
-    requires most { ⌜ length (now knots) ≤ 4096 ⌝ }
+    requires most { ⌜ length (now knots) ≤ mostKnots ⌝ }
     ensures { λ r. ⌜ r ≡ curveValue b x (now (knots .entry)) ⌝ }
 {
     let k = basis::segments(b, knots.len());

@@ -3,6 +3,7 @@ ghost use mathlib.Core.Path.{_≡_};
 ghost use mathlib.Core.Bool.{true, false};
 ghost use Prim.Native.Nat.{_≤_};
 ghost use lib.ListN.{length};
+ghost use Rattle.basis.specs.Basis.{mostKnots};
 ghost use Rattle.stopped.specs.Contract.{isEnd, byEnd};
 ghost use Rattle.stopped.specs.Stopped.{endsOf, isBefore, isBeyond, between, saidOf, stoppedOf};
 ghost use Rattle.table.specs.Calls.{timedOf};
@@ -87,7 +88,7 @@ fn is_by_end(i: Inversion) -> bool
 fn said(b: Basis, span: u32, y: f64, knots: &[f64], i: Inversion) -> Job
     requires span { ⌜ goodSpan span ≡ true ⌝ }
     requires enough { ⌜ 4 ≤ length (now knots) ⌝ }
-    requires most { ⌜ length (now knots) ≤ 4096 ⌝ }
+    requires most { ⌜ length (now knots) ≤ mostKnots ⌝ }
     ensures { λ r. ⌜ r ≡ saidOf (endsOf b (now (knots .entry))) y (timedOf span i) ⌝ }
 {
     let k = basis::segments(b, knots.len());

@@ -7,7 +7,7 @@ ghost use lib.IntN.{subℕ, natAbs};
 ghost use lib.ListN.{length, drop};
 ghost use Rattle.error.specs.Refusals.{first};
 ghost use Rattle.basis.specs.declared.Basis.the-variants.{Power};
-ghost use Rattle.basis.specs.Basis.{stepOf, segmentsOf};
+ghost use Rattle.basis.specs.Basis.{mostKnots, stepOf, segmentsOf};
 ghost use Rattle.whole.specs.Held.{heldAll, turned, turnedAll, Small};
 ghost use Rattle.turns_back.specs.Curve.{neverFalls, startsNoLower, segmentNeverFalls, firstFall};
 ghost use Rattle.turns_back.specs.Product.{Wide};
@@ -138,7 +138,7 @@ fn raised(up: bool, k: i64) -> u64
 // Whether a segment starts no lower than the one before it ends. All but those of Power start where that one ends.
 pub fn is_start_no_lower(b: Basis, up: bool, knots: &[i64], s: usize) -> bool
     requires inside { ⌜ s * stepOf b + 4 ≤ length (now knots) ⌝ }
-    requires few { ⌜ length (now knots) ≤ 4096 ⌝ }
+    requires few { ⌜ length (now knots) ≤ mostKnots ⌝ }
     requires small { ⌜ Small most (heldAll (now knots)) ⌝ }
     ensures { λ r. ⌜ r ≡ startsNoLower b (turnedAll up (heldAll (now (knots .entry)))) s ⌝ }
 {
@@ -154,7 +154,7 @@ pub fn is_start_no_lower(b: Basis, up: bool, knots: &[i64], s: usize) -> bool
 
 fn is_power_start_no_lower(up: bool, knots: &[i64], s: usize) -> bool
     requires inside { ⌜ s * 4 + 4 ≤ length (now knots) ⌝ }
-    requires few { ⌜ length (now knots) ≤ 4096 ⌝ }
+    requires few { ⌜ length (now knots) ≤ mostKnots ⌝ }
     requires small { ⌜ Small most (heldAll (now knots)) ⌝ }
     ensures { λ r. ⌜ r ≡ startsNoLower Power (turnedAll up (heldAll (now (knots .entry)))) s ⌝ }
 {
@@ -180,7 +180,7 @@ struct Four {
 
 fn four_from(up: bool, knots: &[i64], at: usize) -> Four
     requires inside { ⌜ at + 4 ≤ length (now knots) ⌝ }
-    requires few { ⌜ length (now knots) ≤ 4096 ⌝ }
+    requires few { ⌜ length (now knots) ≤ mostKnots ⌝ }
     requires small { ⌜ Small most (heldAll (now knots)) ⌝ }
     ensures { λ r. ⌜ FourFrom up (heldAll (now (knots .entry))) at (r .k0) (r .k1) (r .k2) (r .k3) ⌝ }
 {
@@ -199,7 +199,7 @@ fn four_from(up: bool, knots: &[i64], at: usize) -> Four
 // One segment of a curve, whose knots start at a place.
 pub fn is_never_falling_at(b: Basis, up: bool, knots: &[i64], at: usize) -> bool
     requires inside { ⌜ at + 4 ≤ length (now knots) ⌝ }
-    requires few { ⌜ length (now knots) ≤ 4096 ⌝ }
+    requires few { ⌜ length (now knots) ≤ mostKnots ⌝ }
     requires small { ⌜ Small most (heldAll (now knots)) ⌝ }
     ensures { λ r. ⌜ r ≡ fourNeverFall b (drop at (turnedAll up (heldAll (now (knots .entry))))) ⌝ }
 {
@@ -210,7 +210,7 @@ pub fn is_never_falling_at(b: Basis, up: bool, knots: &[i64], at: usize) -> bool
 // Whether a segment never falls, and starts no lower than the one before it ends.
 fn is_segment_never_falling(b: Basis, up: bool, knots: &[i64], s: usize) -> bool
     requires inside { ⌜ s * stepOf b + 4 ≤ length (now knots) ⌝ }
-    requires few { ⌜ length (now knots) ≤ 4096 ⌝ }
+    requires few { ⌜ length (now knots) ≤ mostKnots ⌝ }
     requires small { ⌜ Small most (heldAll (now knots)) ⌝ }
     ensures { λ r. ⌜ r ≡ segmentNeverFalls b (turnedAll up (heldAll (now (knots .entry)))) s ⌝ }
 {
@@ -223,7 +223,7 @@ fn is_segment_never_falling(b: Basis, up: bool, knots: &[i64], s: usize) -> bool
 // The first segment that falls; the number of segments where none does.
 fn first_fall(b: Basis, up: bool, knots: &[i64]) -> usize
     requires enough { ⌜ 4 ≤ length (now knots) ⌝ }
-    requires few { ⌜ length (now knots) ≤ 4096 ⌝ }
+    requires few { ⌜ length (now knots) ≤ mostKnots ⌝ }
     requires small { ⌜ Small most (heldAll (now knots)) ⌝ }
     ensures first { λ r. ⌜ r ≡ firstFall b (turnedAll up (heldAll (now (knots .entry)))) ⌝ }
     ensures within { λ r. ⌜ r ≤ segmentsOf b (length (now (knots .entry))) ⌝ }
@@ -257,7 +257,7 @@ fn verdict(b: Basis, knots: &[i64]) -> Verdict
 // Where it turns back: the first segment that falls, or, where `up` is not said, that rises.
 fn in_direction(b: Basis, up: bool, knots: &[i64]) -> Turning
     requires enough { ⌜ 4 ≤ length (now knots) ⌝ }
-    requires few { ⌜ length (now knots) ≤ 4096 ⌝ }
+    requires few { ⌜ length (now knots) ≤ mostKnots ⌝ }
     requires small { ⌜ Small most (heldAll (now knots)) ⌝ }
     ensures { λ r. ⌜ r ≡ turningOf b up (heldAll (now (knots .entry))) ⌝ }
 {
@@ -318,7 +318,7 @@ fn end(b: Basis, k0: u64, k1: u64, k2: u64, k3: u64) -> u64
 // Where the last segment's knots begin.
 fn last(b: Basis, n: usize) -> usize
     requires enough { ⌜ 4 ≤ n ⌝ }
-    requires few { ⌜ n ≤ 4096 ⌝ }
+    requires few { ⌜ n ≤ mostKnots ⌝ }
     ensures is { λ r. ⌜ r ≡ (segmentsOf b n - 1) * stepOf b ⌝ }
     ensures within { λ r. ⌜ r + 4 ≤ n ⌝ }
 {
@@ -328,7 +328,7 @@ fn last(b: Basis, n: usize) -> usize
 // Whether the curve rises or falls from its start to its end, exactly.
 pub fn way_taken(b: Basis, knots: &[i64]) -> Way
     requires enough { ⌜ 4 ≤ length (now knots) ⌝ }
-    requires few { ⌜ length (now knots) ≤ 4096 ⌝ }
+    requires few { ⌜ length (now knots) ≤ mostKnots ⌝ }
     requires small { ⌜ Small most (heldAll (now knots)) ⌝ }
     ensures { λ r. ⌜ r ≡ wayOf (startOf b (heldAll (now (knots .entry)))) (endOf b (heldAll (now (knots .entry)))) ⌝ }
 {
@@ -348,7 +348,7 @@ pub fn way_taken(b: Basis, knots: &[i64]) -> Way
 // By that direction.
 fn by_ends(b: Basis, knots: &[i64]) -> Turning
     requires enough { ⌜ 4 ≤ length (now knots) ⌝ }
-    requires few { ⌜ length (now knots) ≤ 4096 ⌝ }
+    requires few { ⌜ length (now knots) ≤ mostKnots ⌝ }
     requires small { ⌜ Small most (heldAll (now knots)) ⌝ }
     ensures { λ r. ⌜ r ≡ byEnds (startOf b (heldAll (now (knots .entry)))) (endOf b (heldAll (now (knots .entry)))) b
         (heldAll (now (knots .entry))) ⌝ }
