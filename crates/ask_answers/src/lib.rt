@@ -98,6 +98,7 @@ fn by_word(w: &[u8], s: &[u8]) -> Question
     by_number(w, n as u32)
 }
 
+// The question that a whole line asks.
 fn by_line(l: &[u8]) -> Question
     ensures { λ r. ⌜ r ≡ question.questionOf (so (now (l .entry))) ⌝ }
 {
@@ -112,6 +113,7 @@ fn by_line(l: &[u8]) -> Question
     Question::Nothing
 }
 
+// The question of a line that may be too long; such a line asks nothing.
 fn asked(len: usize, line: &[u8]) -> Question
     requires { ⌜ length (now line) ≡ widest ⌝ }
     ensures { λ r. ⌜ r ≡ question.questionOf (openOf len (now (line .entry))) ⌝ }
@@ -133,12 +135,14 @@ fn curve_seconds(k: Kind, n: usize, m: u32) -> u64
     m as u64 * s as u64
 }
 
+// A span is from a second to a day.
 fn is_good(t: u64) -> bool
     ensures { λ r. ⌜ r ≡ goodSpan t ⌝ }
 {
     if 1 <= t { t <= 86400 } else { false }
 }
 
+// The answer to `row`: nothing for a good time between rows, and a refusal for one that makes the span too long.
 fn put_row(k: Kind, n: usize, m: u32, out: &mut [u8], at: usize) -> usize
     requires enough { ⌜ 4 ≤ n ⌝ }
     requires few { ⌜ n ≤ most ⌝ }
@@ -211,6 +215,7 @@ fn put_value(n: u32, y: f64, out: &mut [u8], at: usize) -> usize
     put_side(b"\t", y, out, b)
 }
 
+// The depth at second n of the span.
 fn put_moment(b: Basis, knots: &[f64], span: u32, n: u32, out: &mut [u8], at: usize) -> usize
     requires second { ⌜ n ≤ day ⌝ }
     requires room { ⌜ at + 40 ≤ length (now out) ⌝ }
@@ -224,6 +229,7 @@ fn put_moment(b: Basis, knots: &[f64], span: u32, n: u32, out: &mut [u8], at: us
     }
 }
 
+// The answer to `at`: the depth at second n, where there is a span and n lies in it.
 fn put_at(b: Basis, knots: &[f64], span: u32, n: u32, out: &mut [u8], at: usize) -> usize
     requires span { ⌜ span ≤ day ⌝ }
     requires room { ⌜ at + 40 ≤ length (now out) ⌝ }
@@ -259,6 +265,7 @@ fn put_multiples(b: Basis, knots: &[f64], span: u32, n: u32, out: &mut [u8], at:
     r
 }
 
+// The answer to `every`: the depth at each multiple of n seconds, and at the end.
 fn put_every(b: Basis, knots: &[f64], span: u32, n: u32, out: &mut [u8], at: usize) -> usize
     requires span { ⌜ span ≤ day ⌝ }
     requires room { ⌜ at + 57640 ≤ length (now out) ⌝ }
@@ -333,6 +340,7 @@ fn put_when(span: u32, s: u32, x: f64, out: &mut [u8], at: usize) -> usize
     put_digits(out, at, x, 6)
 }
 
+// One depth's place: when it is reached, and between which rows.
 fn put_reached(
     k: Kind,
     rows: usize,
@@ -360,6 +368,7 @@ fn put_reached(
     put_rows(k, rows, p.segment, labels, out, d)
 }
 
+// What `stopped` says of the depth, in the words of the answer.
 fn put_job(
     k: Kind,
     rows: usize,
@@ -403,6 +412,7 @@ fn table_by(k: Kind, span: u32) -> Table
     Table { basis: b, span: 1 }
 }
 
+// The answer to `find`: how far a job had come that stopped at the depth y.
 fn put_find(
     k: Kind,
     rows: usize,

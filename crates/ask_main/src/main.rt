@@ -103,6 +103,7 @@ fn whole(
     stream::written(fine, &out[0..at]);
 }
 
+// The buffers, once, and then all of the input.
 fn main() {
     let mut rows = [0i64; basis::MOST_KNOTS];
     let mut labels = [0u8; 69632];

@@ -42,6 +42,7 @@ pub enum SheetHeld {
     Faulty(usize, Reason),
 }
 
+// The kind of curve that a sheet's first line names.
 fn kind_named(l: &[u8]) -> KindName
     ensures { λ r. ⌜ r ≡ kindOf (now (l .entry)) ⌝ }
 {
@@ -65,6 +66,7 @@ fn first(l: &[u8]) -> SheetHeld
     SheetHeld::On(k, 0)
 }
 
+// The number with its sign.
 fn whole_of(minus: bool, n: u64) -> i64
     requires { ⌜ n ≤ 1000000000000 ⌝ }
     ensures { λ r. ⌜ r ≡ wholeOf minus n ⌝ }
@@ -75,6 +77,7 @@ fn whole_of(minus: bool, n: u64) -> i64
     monotone::up(n)
 }
 
+// The largest depth of a sheet, in thousandths; half as large for a monotone curve.
 fn most_in(k: Kind) -> u64
     ensures { λ r. ⌜ r ≡ mostIn k ⌝ }
 {

@@ -61,6 +61,7 @@ pub fn basis_of(k: Kind) -> Basis
     }
 }
 
+// Whether n rows make a curve of this kind.
 pub fn is_suited(k: Kind, n: usize) -> bool
     ensures { λ r. ⌜ r ≡ suits k n ⌝ }
 {
@@ -75,6 +76,7 @@ pub fn is_suited(k: Kind, n: usize) -> bool
     }
 }
 
+// The row at which the curve starts.
 pub fn first_row(k: Kind) -> usize
     ensures answer { λ r. ⌜ r ≡ firstRow k ⌝ }
     ensures most { λ r. ⌜ r ≤ 1 ⌝ }
@@ -90,6 +92,7 @@ pub fn first_row(k: Kind) -> usize
     }
 }
 
+// Rows from one segment's start to the next one's.
 pub fn row_step(k: Kind) -> usize
     ensures answer { λ r. ⌜ r ≡ rowStep k ⌝ }
     ensures positive { λ r. ⌜ 0 < r ⌝ }
@@ -101,6 +104,7 @@ pub fn row_step(k: Kind) -> usize
     }
 }
 
+// Whether the curve goes through its rows, so that a row that turns back is a fault of the row itself.
 fn is_through_rows(k: Kind) -> bool
     ensures { λ r. ⌜ r ≡ throughRows k ⌝ }
 {
@@ -163,6 +167,7 @@ fn put_number(out: &mut [u8], at: usize, w: &[u8], n: usize) -> usize
     text::put_byte(out, b, b'\n')
 }
 
+// A label that an earlier row has too: both rows' lines in the sheet.
 fn put_twice(labels: &[u8], n: usize, i: usize, out: &mut [u8], at: usize) -> usize
     requires inside { ⌜ i < n ⌝ }
     requires few { ⌜ n ≤ most ⌝ }
@@ -325,6 +330,7 @@ fn put_rows(
     r
 }
 
+// A curve that starts and ends at one depth.
 fn put_flat(w: Way, out: &mut [u8], at: usize) -> usize
     requires { ⌜ at + 5 ≤ length (now out) ⌝ }
     ensures text { λ r. ⌜ Wrote (now (out .entry)) at (faultsText (flatBy w)) (now (out .exit)) r ⌝ }
@@ -337,6 +343,7 @@ fn put_flat(w: Way, out: &mut [u8], at: usize) -> usize
     }
 }
 
+// Every fault of the rows, row by row, and then of the curve as a whole.
 fn put_faults(
     k: Kind,
     rows: &[i64],
@@ -386,6 +393,7 @@ fn fill(whole: &[i64], knots: &mut [f64])
     }
 }
 
+// A depth with three digits.
 fn put_depth(out: &mut [u8], at: usize, x: f64) -> usize
     requires { ⌜ at + 21 ≤ length (now out) ⌝ }
     ensures text { λ r. ⌜ Wrote (now (out .entry)) at (depthText x) (now (out .exit)) r ⌝ }
@@ -394,6 +402,7 @@ fn put_depth(out: &mut [u8], at: usize, x: f64) -> usize
     text_rounded::put_rounded(out, at, text::to_bits(x), 3)
 }
 
+// The verdict on a sheet without a fault: its number of rows, and the depths at its ends.
 fn put_fine(n: usize, e: Ends, out: &mut [u8], at: usize) -> usize
     requires number { ⌜ n ≤ mostKnots ⌝ }
     requires room { ⌜ at + longest ≤ length (now out) ⌝ }
@@ -461,6 +470,7 @@ fn told_of(
     }
 }
 
+// Why a line of the sheet cannot be read, in one word.
 fn put_reason(r: Reason, out: &mut [u8], at: usize) -> usize
     requires { ⌜ at + 9 ≤ length (now out) ⌝ }
     ensures text { λ n. ⌜ Wrote (now (out .entry)) at (reasonText r) (now (out .exit)) n ⌝ }

@@ -11,6 +11,7 @@ const BSPLINE: [[f64; 4]; 4] = [
     [1.0 / 6.0, 4.0 / 6.0, 1.0 / 6.0, 0.0 / 6.0],
 ];
 
+// The matrix of each basis, as the crate writes it.
 pub fn bspline() -> [[f64; 4]; 4]
     ensures { λ r. ⌜ r ≡ matrixOf Bspline ⌝ }
 {
@@ -82,6 +83,7 @@ pub fn power() -> [[f64; 4]; 4]
     POWER
 }
 
+// The matrix by which a segment of this basis is evaluated.
 pub fn matrix(b: Basis) -> [[f64; 4]; 4]
     ensures { λ r. ⌜ r ≡ matrixOf b ⌝ }
 {

@@ -17,6 +17,7 @@ pub enum Basis {
     Power,
 }
 
+// Knots from one segment's first knot to the next one's.
 pub fn step(b: Basis) -> usize
     ensures answer { λ r. ⌜ r ≡ stepOf b ⌝ }
     ensures positive { λ r. ⌜ 0 < r ⌝ }

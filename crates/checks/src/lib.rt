@@ -44,6 +44,7 @@ pub fn segment_length(n: usize) -> Verdict
     Verdict::Passed
 }
 
+// Whether a knot may be calculated with: its size is at most 2 to the 40, and it is no NaN.
 pub fn in_range(x: f64) -> bool
     ensures { λ r. ⌜ r ≡ inRange x ⌝ }
 {
@@ -61,6 +62,7 @@ fn all_in_range(knots: &[f64]) -> bool
     good
 }
 
+// The first knot that is out of range; the number of knots if there is none.
 fn first_bad(knots: &[f64]) -> usize
     ensures first { λ r. ⌜ r ≡ firstBad (now (knots .entry)) ⌝ }
     ensures within { λ r. ⌜ r ≤ length (now (knots .entry)) ⌝ }
@@ -94,6 +96,7 @@ pub fn knots(knots: &[f64]) -> Verdict
     Verdict::Passed
 }
 
+// A precision is positive and finite.
 pub fn is_precise(precision: f64) -> bool
     ensures { λ r. ⌜ r ≡ precise precision ⌝ }
 {

@@ -6,6 +6,7 @@ use basis::Basis;
 use error::Refusal;
 use error::Verdict;
 
+// The refusals of a claim, in the order of the table.
 pub fn verdict(b: Basis, y: f64, s: usize, x: f64, precision: f64, knots: &[f64]) -> Verdict
     ensures { λ r. ⌜ r ≡ first (claimUses b y s x precision (now (knots .entry))) ⌝ }
 {

@@ -81,6 +81,7 @@ fn after_place(y: &[u8], s: &[u8], x: &[u8], rest: &[u8]) -> ClaimRecord
     claim_with(y, s, x, rest)
 }
 
+// The claim of two fields and of what stands after their tab.
 fn after_segment(y: &[u8], s: &[u8], rest: &[u8]) -> ClaimRecord
     ensures { λ r. ⌜ r ≡ claimIn (now (y .entry) ∷ now (s .entry) ∷ fieldsOf (now (rest .entry))) ⌝ }
 {
@@ -92,6 +93,7 @@ fn after_segment(y: &[u8], s: &[u8], rest: &[u8]) -> ClaimRecord
     ClaimRecord::Listed(Record::Bad)
 }
 
+// The claim of one field and of what stands after its tab.
 fn after_target(y: &[u8], rest: &[u8]) -> ClaimRecord
     ensures { λ r. ⌜ r ≡ claimIn (now (y .entry) ∷ fieldsOf (now (rest .entry))) ⌝ }
 {
@@ -115,6 +117,7 @@ fn after_word(rest: &[u8]) -> ClaimRecord
     ClaimRecord::Listed(Record::Bad)
 }
 
+// What a line says that is not too long.
 fn said_in(line: &[u8]) -> ClaimRecord
     ensures { λ r. ⌜ r ≡ saidIn (fieldsOf (now (line .entry))) ⌝ }
 {
@@ -140,6 +143,7 @@ fn said_of(len: usize, line: &[u8]) -> ClaimRecord
     ClaimRecord::Listed(Record::Bad)
 }
 
+// The reply to a claim.
 fn put_claimed(out: &mut [u8], at: usize, c: ClaimAnswer) -> usize
     requires { ⌜ at + 18 ≤ length (now out) ⌝ }
     ensures text { λ r. ⌜ Wrote (now (out .entry)) at (claimText c) (now (out .exit)) r ⌝ }

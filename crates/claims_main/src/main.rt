@@ -91,6 +91,7 @@ fn whole(
     stream::written(fine, &out[0..at]);
 }
 
+// The buffers, once, and then all of the input.
 fn main() {
     let mut table = [0.0; basis::MOST_KNOTS];
     let mut converted = [0.0; basis::MOST_KNOTS];

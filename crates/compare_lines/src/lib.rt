@@ -62,6 +62,7 @@ pub struct LineResult {
     pub at: usize,
 }
 
+// The record of `curve` with this field.
 fn curve_of(s: &[u8]) -> CompareRecord
     ensures { λ r. ⌜ r ≡ curveSaid (namedOf (now (s .entry))) ⌝ }
 {
@@ -81,6 +82,7 @@ fn span_of(s: &[u8]) -> CompareRecord
     CompareRecord::Span(n as u32)
 }
 
+// The record of `knot` with this field: its 64 bits, since bits are compared.
 fn knot_of(s: &[u8]) -> CompareRecord
     ensures { λ r. ⌜ r ≡ knotSaid (hexOf (now (s .entry))) ⌝ }
 {
@@ -116,6 +118,7 @@ fn said_after(w: &[u8], s: &[u8]) -> CompareRecord
     meaning(w, s)
 }
 
+// The record that a line is.
 fn said_of(line: &[u8]) -> CompareRecord
     ensures { λ r. ⌜ r ≡ saidOf (now (line .entry)) ⌝ }
 {
@@ -141,6 +144,7 @@ fn said_by(len: usize, line: &[u8]) -> CompareRecord
     CompareRecord::Bad
 }
 
+// Whether the second listing starts here.
 fn is_other(s: CompareRecord) -> bool
     ensures { λ r. ⌜ r ≡ isOther s ⌝ }
 {
@@ -280,6 +284,7 @@ fn take_in(h: Comparison, s: CompareRecord, old: &mut [u64], new: &mut [u64]) ->
     }
 }
 
+// A refusal; nothing if there is none.
 fn put_verdict(v: Verdict, out: &mut [u8], at: usize) -> usize
     requires { ⌜ at + 18 ≤ length (now out) ⌝ }
     ensures text { λ r. ⌜ Wrote (now (out .entry)) at (verdictText v) (now (out .exit)) r ⌝ }

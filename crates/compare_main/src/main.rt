@@ -75,6 +75,7 @@ fn whole(chunk: &mut [u8], begun: &mut [u8], old: &mut [u64], new: &mut [u64], o
     stream::written(fine, &out[0..at]);
 }
 
+// The buffers, once, and then all of the input.
 fn main() {
     let mut old = [0u64; basis::MOST_KNOTS];
     let mut new = [0u64; basis::MOST_KNOTS];

@@ -24,6 +24,7 @@ pub fn output_verdict(to: Basis, knots: &[f64], need: usize, room: usize) -> Ver
     checks::knots(knots)
 }
 
+// The refusals of converting one segment, in the order of the table.
 pub fn segment_verdict(to: Basis, cv: &[f64], room: usize) -> Verdict
     ensures { λ r. ⌜ r ≡ first (convertSegmentUses to (now (cv .entry)) room) ⌝ }
 {
@@ -43,6 +44,7 @@ pub fn output_length(from: Basis, to: Basis, n: usize) -> usize
     4 + (n - 4) / basis::step(from) * basis::step(to)
 }
 
+// The refusals of converting a curve, in the order of the table.
 pub fn spline_verdict(from: Basis, to: Basis, knots: &[f64], room: usize) -> Verdict
     ensures { λ r. ⌜ r ≡ first (convertUses from to (now (knots .entry)) room) ⌝ }
 {

@@ -38,6 +38,7 @@ fn with_identity(m: [[f64; 4]; 4]) -> [[f64; 8]; 4]
     ]
 }
 
+// The first row from i on with a number other than zero in column i.
 fn pivot_row(a: [[f64; 8]; 4], i: usize) -> Pivot
     requires { ⌜ i < 4 ⌝ }
     ensures answer { λ r. ⌜ r ≡ pivotOf a i ⌝ }
@@ -54,6 +55,7 @@ fn pivot_row(a: [[f64; 8]; 4], i: usize) -> Pivot
     Pivot::Missing
 }
 
+// Rows i and k in each other's place.
 fn swap(a: [[f64; 8]; 4], i: usize, k: usize) -> [[f64; 8]; 4]
     requires row { ⌜ i < 4 ⌝ }
     requires column { ⌜ k < 4 ⌝ }
@@ -65,6 +67,7 @@ fn swap(a: [[f64; 8]; 4], i: usize, k: usize) -> [[f64; 8]; 4]
     b
 }
 
+// Row i divided by its number on the diagonal.
 fn divide(a: [[f64; 8]; 4], i: usize) -> [[f64; 8]; 4]
     requires { ⌜ i < 4 ⌝ }
     ensures { λ r. ⌜ r ≡ divided a i ⌝ }
@@ -101,6 +104,7 @@ fn reduce(r: [f64; 8], f: f64, p: [f64; 8]) -> [f64; 8]
     ]
 }
 
+// Row k with zero in column i: a multiple of row i is taken from it.
 fn clear_row(a: [[f64; 8]; 4], i: usize, k: usize) -> [f64; 8]
     requires row { ⌜ i < 4 ⌝ }
     requires column { ⌜ k < 4 ⌝ }
@@ -115,6 +119,7 @@ fn clear_row(a: [[f64; 8]; 4], i: usize, k: usize) -> [f64; 8]
     reduce(a[k], a[k][i], a[i])
 }
 
+// Every row but i with zero in column i.
 fn clear(a: [[f64; 8]; 4], i: usize) -> [[f64; 8]; 4]
     requires { ⌜ i < 4 ⌝ }
     ensures { λ r. ⌜ r ≡ cleared a i ⌝ }
@@ -135,6 +140,7 @@ fn eliminate(a: [[f64; 8]; 4], i: usize, k: usize) -> [[f64; 8]; 4]
     clear(divide(swap(a, i, k), i), i)
 }
 
+// The inverse, which stands to the right once the left half is the identity.
 fn right_half(a: [[f64; 8]; 4]) -> Inverse
     ensures { λ r. ⌜ r ≡ shown (goes (rightHalf a)) ⌝ }
 {
@@ -147,6 +153,7 @@ fn right_half(a: [[f64; 8]; 4]) -> Inverse
     }
 }
 
+// A matrix without a pivot has no inverse.
 fn no_inverse() -> Inverse
     ensures { λ r. ⌜ r ≡ shown no-inverse ⌝ }
 {
@@ -160,6 +167,7 @@ fn no_inverse() -> Inverse
     }
 }
 
+// The inverse of a matrix by Gauss-Jordan elimination, with the first usable row as pivot.
 pub fn invert_4x4(m: [[f64; 4]; 4]) -> Inverse
     ensures { λ r. ⌜ r ≡ shown (inverse m) ⌝ }
 {

@@ -30,6 +30,7 @@ const BSPLINE: [[f64; 4]; 4] = [
     ],
 ];
 
+// The inverse of each basis's matrix, as the elimination yields it. Linear's matrix has none.
 pub fn bspline() -> [[f64; 4]; 4]
     ensures { λ r. ⌜ r ≡ inverseOf Bspline ⌝ }
 {

@@ -13,6 +13,7 @@ pub enum Pivot {
     Missing,
 }
 
+// A row times a matrix.
 fn mul_row(r: [f64; 4], b: [[f64; 4]; 4]) -> [f64; 4]
     ensures { λ v. ⌜ v ≡ rowTimes r b ⌝ }
 {
@@ -38,6 +39,7 @@ pub fn inverse_of(b: Basis) -> [[f64; 4]; 4]
     }
 }
 
+// Row i of the inverse.
 fn inverse_row(b: Basis, i: usize) -> [f64; 4]
     requires { ⌜ i < 4 ⌝ }
     ensures { λ r. ⌜ r ≡ row (inverseOf b) i ⌝ }

@@ -12,6 +12,7 @@ use basis::Basis;
 use error::Refusal;
 use error::Verdict;
 
+// An allowance is zero or more, and finite.
 pub fn is_allowance(x: f64) -> bool
     ensures { λ r. ⌜ r ≡ allowable x ⌝ }
 {

@@ -9,6 +9,7 @@ ghost use Rattle.convert.specs.Contract.{listOf};
 ghost use Rattle.convert_strict.specs.Seams.{isApart, any, lostSeam};
 use spline::RowSums;
 
+// Whether the two sides of a seam lie further apart than the allowance.
 fn is_apart(allowance: f64, a: f64, b: f64) -> bool
     ensures { λ r. ⌜ r ≡ isApart allowance a b ⌝ }
 {

@@ -53,6 +53,7 @@ fn whole(chunk: &mut [u8], begun: &mut [u8], out: &mut [u8])
     stream::written(fine, &out[0..at]);
 }
 
+// The buffers, once, and then all of the input.
 fn main() {
     let mut begun = [0u8; 64];
     let mut chunk = [0u8; 65536];

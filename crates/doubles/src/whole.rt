@@ -12,6 +12,7 @@ pub fn double_of(n: usize) -> f64
     signed as f64
 }
 
+// The smaller of two numbers.
 pub fn lesser(a: usize, b: usize) -> usize
     ensures { λ r. ⌜ r ≡ min a b ⌝ }
 {

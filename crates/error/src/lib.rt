@@ -31,6 +31,7 @@ pub enum Verdict {
     Failed(Refusal),
 }
 
+// The refusal's number in the table.
 pub fn number(r: Refusal) -> u8
     ensures { λ n. ⌜ n ≡ numberOf r ⌝ }
 {

@@ -43,6 +43,7 @@ pub fn basis_of(n: u8) -> BasisChoice
     }
 }
 
+// The number by which C gets a ground.
 pub fn ground_number(g: Ground) -> usize
     ensures { λ r. ⌜ r ≡ groundNumber g ⌝ }
 {
@@ -104,6 +105,7 @@ pub fn length_told(a: ConversionAnswer, written: &mut usize) -> u32
     }
 }
 
+// The number by which C gets a conversion's answer.
 pub fn conversion_reply(a: ConversionAnswer) -> u32
     ensures { λ r. ⌜ r ≡ convertedReply a ⌝ }
 {

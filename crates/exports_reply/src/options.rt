@@ -9,6 +9,7 @@ pub enum Way {
     Unknown,
 }
 
+// The options' method by its number.
 fn by_method(ends: EndsBy, n: u8) -> Way
     ensures { λ r. ⌜ r ≡ methodOf ends n ⌝ }
 {

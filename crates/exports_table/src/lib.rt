@@ -52,6 +52,7 @@ pub fn timed_told(a: TableInversion, place: &mut [f64; 4], whole: &mut [usize; 4
     }
 }
 
+// The answer of a conversion that hands the span on, into what C lent for it.
 fn handed_told(a: TableConversion, handed: &mut u32, written: &mut usize) -> u32
     ensures answer { λ r. ⌜ r ≡ handedReply a ⌝ }
     ensures handed { λ _. ⌜ now (handed .exit) ≡ handedSpan a (now (handed .entry)) ⌝ }

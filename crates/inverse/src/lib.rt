@@ -43,6 +43,7 @@ pub struct Ends {
     pub high: f64,
 }
 
+// The ends by the knots: for a basis of step 1 the second and the last but one, else the first and the last.
 fn knot_ends(b: Basis, knots: &[f64]) -> Ends
     requires { ⌜ 4 ≤ length (now knots) ⌝ }
     ensures { λ r. ⌜ r ≡ knotEnds b (now (knots .entry)) ⌝ }
@@ -63,12 +64,14 @@ fn knot_ends(b: Basis, knots: &[f64]) -> Ends
     }
 }
 
+// Whether the target lies at the curve's start or before it.
 fn is_at_low(e: Ends, y: f64) -> bool
     ensures { λ r. ⌜ r ≡ atLow e y ⌝ }
 {
     if e.rising { y <= e.low } else { e.low <= y }
 }
 
+// Whether the target lies at the curve's end or beyond it.
 fn is_at_high(e: Ends, y: f64) -> bool
     ensures { λ r. ⌜ r ≡ atHigh e y ⌝ }
 {
@@ -106,6 +109,7 @@ fn end_place(s: usize, x: f64, n: u32) -> Inversion
     })
 }
 
+// The parameter of the local place x in segment s of k.
 fn parameter(k: usize, s: usize, x: f64) -> f64
     requires segments { ⌜ k ≤ mostKnots ⌝ }
     requires segment { ⌜ s ≤ mostKnots ⌝ }
@@ -183,6 +187,7 @@ fn ends_by(ends: EndsBy, b: Basis, knots: &[f64], k: usize) -> Ends
     }
 }
 
+// How many evaluations finding the ends takes.
 fn evaluations(ends: EndsBy) -> u32
     ensures answer { λ r. ⌜ r ≡ own ends ⌝ }
     ensures most { λ r. ⌜ r ≤ 2 ⌝ }

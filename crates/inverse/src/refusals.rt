@@ -5,6 +5,7 @@ ghost use Rattle.inverse.specs.Inverse.{inverseUses};
 use basis::Basis;
 use error::Verdict;
 
+// The refusals of an inversion, in the order of the table.
 pub fn verdict(b: Basis, y: f64, knots: &[f64], check: bool, limit: u16, precision: f64) -> Verdict
     ensures { λ r. ⌜ r ≡ first (inverseUses b y (now (knots .entry)) check limit precision) ⌝ }
 {

@@ -19,6 +19,7 @@ pub enum EndsBy {
     Curve,
 }
 
+// The knots' direction, by the second and the last but one.
 pub fn rising(knots: &[f64]) -> bool
     requires { ⌜ 4 ≤ length (now knots) ⌝ }
     ensures { λ r. ⌜ r ≡ rises (now (knots .entry)) ⌝ }
@@ -26,12 +27,14 @@ pub fn rising(knots: &[f64]) -> bool
     knots[1] < knots[knots.len() - 2]
 }
 
+// Whether y comes before v in the knots' direction.
 pub fn lies_before(rising: bool, y: f64, v: f64) -> bool
     ensures { λ r. ⌜ r ≡ before rising y v ⌝ }
 {
     if rising { y < v } else { v < y }
 }
 
+// Whether b may follow a: equal knots are in order.
 fn follows_in(rising: bool, a: f64, b: f64) -> bool
     ensures { λ r. ⌜ r ≡ follows rising a b ⌝ }
 {

@@ -123,6 +123,7 @@ pub fn tries(
     SearchResult::OffCurve(made)
 }
 
+// One less, but not below 0.
 fn one_less(n: usize) -> usize
     ensures { λ r. ⌜ r ≡ n - 1 ⌝ }
 {
@@ -167,6 +168,7 @@ fn number_of(g: Ground) -> u32
     }
 }
 
+// The ground by the number that the search carries it as.
 fn ground_of(n: u32) -> Ground
     ensures { λ r. ⌜ r ≡ groundOf n ⌝ }
 {

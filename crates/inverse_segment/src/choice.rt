@@ -61,6 +61,7 @@ fn reweighed(how: Method, y: f64, lower_moved_last: bool, b: Bracket) -> Bracket
     }
 }
 
+// The bracket, with the value at the end that stayed moved towards the target once the other end has moved twice in a row.
 fn weighed(how: Method, y: f64, regula_falsi: bool, st: State) -> Bracket
     ensures { λ r. ⌜ r ≡ weighed (weightingOf how) y «regula_falsi» st ⌝ }
 {
@@ -102,6 +103,7 @@ fn chord(how: Method, y: f64, regula_falsi: bool, st: State) -> NextPlace
     }
 }
 
+// The place if it lies inside the bracket, else the middle.
 fn inner(b: Bracket, x: f64) -> f64
     ensures { λ r. ⌜ r ≡ inner b x ⌝ }
 {

@@ -113,6 +113,7 @@ pub enum Inversion {
     At(Place),
 }
 
+// Where an inversion stopped, why, and after how many evaluations.
 pub fn stopped(ground: Ground, x: f64, b: Bracket, n: u32) -> Stop
     ensures { λ r. ⌜ r ≡ stopAt ground x b n ⌝ }
 {
@@ -141,6 +142,7 @@ pub fn place_of(parameter: f64, s: usize, e: Stop) -> Place
     }
 }
 
+// Whether the target lies between the two values, in either order.
 fn encloses(v0: f64, v1: f64, y: f64) -> bool
     ensures { λ r. ⌜ r ≡ encloses v0 v1 y ⌝ }
 {
@@ -151,6 +153,7 @@ fn encloses(v0: f64, v1: f64, y: f64) -> bool
     }
 }
 
+// Whether a value is less than twice the precision from the target: at a segment's end the inversion then stops.
 pub fn is_near(y: f64, v: f64, precision: f64) -> bool
     ensures { λ r. ⌜ r ≡ near y v precision ⌝ }
 {
@@ -186,6 +189,7 @@ fn entered(
     round::rounds(how, w, y, precision, v0 < v1, whole, limit, n)
 }
 
+// A segment's row sums, and its values at 0 and 1.
 fn ends_of(w: RowSums) -> SegmentEnds
     ensures { λ r. ⌜ r ≡ endsOf w ⌝ }
 {

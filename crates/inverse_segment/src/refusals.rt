@@ -4,6 +4,7 @@ ghost use Rattle.error.specs.Refusals.{first};
 ghost use Rattle.inverse_segment.specs.Answer.{inverseSegmentUses};
 use error::Verdict;
 
+// The refusals of inverting one segment, in the order of the table.
 pub fn segment_verdict(y: f64, cv: &[f64], limit: u16, precision: f64) -> Verdict
     ensures { λ r. ⌜ r ≡ first (inverseSegmentUses y (now (cv .entry)) limit precision) ⌝ }
 {

@@ -13,6 +13,7 @@ use crate::State;
 use crate::Stop;
 use spline::RowSums;
 
+// Whether the bracket is narrower than the precision.
 fn is_narrow(precision: f64, b: Bracket) -> bool
     ensures { λ r. ⌜ r ≡ narrow precision b ⌝ }
 {
@@ -25,6 +26,7 @@ fn is_narrow(precision: f64, b: Bracket) -> bool
     }
 }
 
+// The bracket after a round: the place x takes the place of one end; how often that end has moved in a row is counted.
 fn moved(lower_moves: bool, b: Bracket, st: State, x: f64, v: f64) -> State
     requires { ⌜ st .repeats < 65536 ⌝ }
     ensures answer { λ r. ⌜ r ≡ moved «lower_moves» b st x v ⌝ }
@@ -73,6 +75,7 @@ fn moved(lower_moves: bool, b: Bracket, st: State, x: f64, v: f64) -> State
     }
 }
 
+// Whether this round goes by the chord; else it halves.
 fn uses_regula_falsi(i: u32, early: u32, repeats: u32) -> bool
     ensures { λ r. ⌜ r ≡ (ltb i early && ltb repeats 3) ⌝ }
 {

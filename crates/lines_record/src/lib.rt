@@ -43,6 +43,7 @@ pub enum EndsName {
     Nothing,
 }
 
+// Which record a line's first field names.
 pub fn word_of(s: &[u8]) -> Word
     ensures { λ r. ⌜ r ≡ wordOf (now (s .entry)) ⌝ }
 {
@@ -70,6 +71,7 @@ pub fn word_of(s: &[u8]) -> Word
     Word::Other
 }
 
+// The basis by its name.
 pub fn basis_named(s: &[u8]) -> BasisName
     ensures { λ r. ⌜ r ≡ namedOf (now (s .entry)) ⌝ }
 {
@@ -94,6 +96,7 @@ pub fn basis_named(s: &[u8]) -> BasisName
     BasisName::Nothing
 }
 
+// The rule of the ends by its name.
 pub fn ends_named(s: &[u8]) -> EndsName
     ensures { λ r. ⌜ r ≡ endsOf (now (s .entry)) ⌝ }
 {
@@ -116,6 +119,7 @@ fn span_of(s: &[u8]) -> Record
     Record::Span(n as u32)
 }
 
+// The record of `ends` with this field.
 fn ends_of(s: &[u8]) -> Record
     ensures { λ r. ⌜ r ≡ withEnds (λ m. Ends m) (endsOf (now (s .entry))) ⌝ }
 {
@@ -176,6 +180,7 @@ fn record_after(w: &[u8], s: &[u8]) -> Record
     meaning(word_of(w), s)
 }
 
+// The record that a line is. A line without a tab is none.
 pub fn record_of(line: &[u8]) -> Record
     ensures { λ r. ⌜ r ≡ recordOf (now (line .entry)) ⌝ }
 {

@@ -63,6 +63,7 @@ fn put_places(out: &mut [u8], at: usize, w: Where) -> usize
     }
 }
 
+// The reply to a line that is refused.
 pub fn put_refused(out: &mut [u8], at: usize, r: Refusal) -> usize
     requires { ⌜ at + 18 ≤ length (now out) ⌝ }
     ensures text { λ n. ⌜ Wrote (now (out .entry)) at (refusedText r) (now (out .exit)) n ⌝ }
@@ -85,6 +86,7 @@ fn put_line(out: &mut [u8], at: usize, w: &[u8], x: f64) -> usize
     text::put_byte(out, b, b'\n')
 }
 
+// The word for a ground.
 fn put_ground(out: &mut [u8], at: usize, g: Ground) -> usize
     requires { ⌜ at + 5 ≤ length (now out) ⌝ }
     ensures text { λ r. ⌜ Wrote (now (out .entry)) at (groundName g) (now (out .exit)) r ⌝ }
@@ -99,6 +101,7 @@ fn put_ground(out: &mut [u8], at: usize, g: Ground) -> usize
     }
 }
 
+// The second, behind a tab.
 fn put_second(out: &mut [u8], at: usize, s: u32) -> usize
     requires { ⌜ at + 11 ≤ length (now out) ⌝ }
     ensures text { λ r. ⌜ Wrote (now (out .entry)) at (secondsText (s ∷ [])) (now (out .exit)) r ⌝ }
@@ -120,6 +123,7 @@ fn put_seconds(out: &mut [u8], at: usize, s: Seconds) -> usize
     }
 }
 
+// The reply to `find`: parameter, ground, evaluations, and the second where the table has a span.
 fn put_place(out: &mut [u8], at: usize, x: f64, g: Ground, n: u32, s: Seconds) -> usize
     requires { ⌜ at + 51 ≤ length (now out) ⌝ }
     ensures text { λ r. ⌜ Wrote (now (out .entry)) at (placeText x g n (secondsIn s)) (now (out .exit)) r ⌝ }
@@ -135,6 +139,7 @@ fn put_place(out: &mut [u8], at: usize, x: f64, g: Ground, n: u32, s: Seconds) -
     text::put_byte(out, h, b'\n')
 }
 
+// The name of a basis.
 pub fn put_basis(out: &mut [u8], at: usize, b: Basis) -> usize
     requires { ⌜ at + 10 ≤ length (now out) ⌝ }
     ensures text { λ r. ⌜ Wrote (now (out .entry)) at (nameOf b) (now (out .exit)) r ⌝ }
@@ -150,6 +155,7 @@ pub fn put_basis(out: &mut [u8], at: usize, b: Basis) -> usize
     }
 }
 
+// A line for each knot.
 fn put_knots(out: &mut [u8], at: usize, knots: &[f64]) -> usize
     requires { ⌜ at + 22 * length (now knots) ≤ length (now out) ⌝ }
     ensures text { λ r. ⌜ Wrote (now (out .entry)) at (knotsText (now (knots .entry))) (now (out .exit)) r ⌝ }
@@ -178,6 +184,7 @@ fn put_span(out: &mut [u8], at: usize, span: u32) -> usize
     at
 }
 
+// The reply to `turn`: a whole listing.
 fn put_curve(out: &mut [u8], at: usize, t: Table, knots: &[f64]) -> usize
     requires most { ⌜ length (now knots) ≤ mostKnots ⌝ }
     requires room { ⌜ at + longest ≤ length (now out) ⌝ }

@@ -16,6 +16,7 @@ pub enum Made {
     Wrote(usize),
 }
 
+// The smaller of two sizes.
 fn smaller(a: u64, b: u64) -> u64
     ensures { λ r. ⌜ r ≡ min a b ⌝ }
 {
@@ -35,6 +36,7 @@ fn limit(a: u64, b: u64) -> u64
     smaller((a + b) / 2, 3 * smaller(a, b))
 }
 
+// The size as a step up.
 pub fn up(m: u64) -> i64
     requires { ⌜ m ≤ 1000000000000 ⌝ }
     ensures { λ r. ⌜ r ≡ pos m ⌝ }
@@ -42,6 +44,7 @@ pub fn up(m: u64) -> i64
     m as i64
 }
 
+// The size as a step down.
 pub fn down(m: u64) -> i64
     requires { ⌜ m ≤ 1000000000000 ⌝ }
     ensures { λ r. ⌜ r ≡ negℤ (pos m) ⌝ }
@@ -78,6 +81,7 @@ fn raised(k: i64) -> u64
     whole::raised(500000000000, true, k)
 }
 
+// The row before, or the first row itself.
 fn previous(i: usize) -> usize
     ensures { λ r. ⌜ r ≡ i - 1 ⌝ }
 {
@@ -87,6 +91,7 @@ fn previous(i: usize) -> usize
     i - 1
 }
 
+// The row, or the last one if it lies beyond.
 fn within(i: usize, last: usize) -> usize
     ensures { λ r. ⌜ r ≡ min i last ⌝ }
 {
@@ -96,6 +101,7 @@ fn within(i: usize, last: usize) -> usize
     last
 }
 
+// The slope at row i, by the steps before and after it; at the first and the last row by the one step that there is.
 fn slope_at(rows: &[i64], i: usize) -> i64
     requires many { ⌜ 2 ≤ length (now rows) ⌝ }
     requires inside { ⌜ i < length (now rows) ⌝ }

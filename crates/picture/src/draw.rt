@@ -50,6 +50,7 @@ fn put_knot(out: &mut [u8], at: usize, b: Basis, n: usize, e: Extent, j: usize, 
     at
 }
 
+// A dot for each knot.
 fn put_knots(out: &mut [u8], at: usize, b: Basis, knots: &[f64], e: Extent) -> usize
     requires most { ⌜ length (now knots) ≤ mostKnots ⌝ }
     requires open { ⌜ Open e ⌝ }
@@ -94,6 +95,7 @@ fn put_curve(out: &mut [u8], at: usize, m: EndsBy, b: Basis, knots: &[f64], f: F
     picture_finds::put_finds(out, i, m, b, knots, e, f)
 }
 
+// The curve; or, where it cannot be evaluated, a note that says why.
 fn put_body(
     out: &mut [u8],
     at: usize,
@@ -122,6 +124,7 @@ fn put_body(
     }
 }
 
+// The picture's size and its style.
 fn put_head(out: &mut [u8], at: usize) -> usize
     requires { ⌜ at + 900 ≤ length (now out) ⌝ }
     ensures text { λ r. ⌜ Wrote (now (out .entry)) at headText (now (out .exit)) r ⌝ }

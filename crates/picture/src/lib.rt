@@ -61,6 +61,7 @@ pub fn begin() -> PictureReader
     }
 }
 
+// What is to be found after a record: a new curve forgets what was asked before.
 fn finds_after(f: Finds, r: Record) -> Finds
     ensures { λ s. ⌜ targetsOf s ≡ findsAfter (targetsOf f) r ⌝ }
 {
@@ -76,6 +77,7 @@ fn finds_after(f: Finds, r: Record) -> Finds
     }
 }
 
+// The latest refusal.
 fn fault_in(f: Fault, t: LineReply) -> Fault
     ensures { λ s. ⌜ ((l : List Float) → s ≡ faultIn f (replyOf t l)) ⌝ }
 {
@@ -88,6 +90,7 @@ fn fault_in(f: Fault, t: LineReply) -> Fault
     }
 }
 
+// The latest refusal after a record: a new curve forgets those before it.
 fn fault_after(f: Fault, r: Record, t: LineReply) -> Fault
     ensures { λ s. ⌜ ((l : List Float) → s ≡ faultAfter f r (replyOf t l)) ⌝ }
 {
@@ -110,6 +113,7 @@ fn first(r: Record, table: &[f64]) -> SessionReply
     lines_answer::first(r, table, table)
 }
 
+// The table with a span.
 fn spanned(t: Table, m: EndsBy, n: usize, s: u32, table: &[f64]) -> SessionReply
     requires { ⌜ n ≤ places ⌝ }
     ensures { λ a. ⌜ Takes (on t m (take n (now (table .entry)))) (Span s) a (now (table .entry)) ⌝ }

@@ -33,6 +33,7 @@ fn put_label(out: &mut [u8], at: usize, h: u64) -> usize
     text_rounded::put_fixed(out, at, h - 2000000000000000, 3)
 }
 
+// A line across at the depth h, and its label at the left.
 fn put_depth(out: &mut [u8], at: usize, e: Extent, h: u64) -> usize
     requires open { ⌜ Open e ⌝ }
     requires height { ⌜ h ≤ highest ⌝ }
@@ -53,6 +54,7 @@ fn put_depth(out: &mut [u8], at: usize, e: Extent, h: u64) -> usize
     text::put_word(out, d, b"</text>\n")
 }
 
+// The same for a depth that the picture shows; nothing for one above it.
 fn put_depth_label(out: &mut [u8], at: usize, e: Extent, h: u64) -> usize
     requires open { ⌜ Open e ⌝ }
     requires room { ⌜ at + 128 ≤ length (now out) ⌝ }
@@ -95,6 +97,7 @@ pub fn stretch(span: u32) -> u64
     (span as u64) * 10 / 36
 }
 
+// The column of the time v, or of the parameter v where the table has no span.
 fn time_column(span: u32, v: u64) -> u64
     requires { ⌜ v ≤ 4294967296 ⌝ }
     ensures { λ r. ⌜ r ≡ timeColumn span v ⌝ }
@@ -105,6 +108,7 @@ fn time_column(span: u32, v: u64) -> u64
     picture_scale::column(v * 36, (span as u64) * 10)
 }
 
+// A line from top to bottom at the time v, and its label below.
 fn put_time(out: &mut [u8], at: usize, span: u32, v: u64) -> usize
     requires value { ⌜ v ≤ 4294967296 ⌝ }
     requires room { ⌜ at + 128 ≤ length (now out) ⌝ }
@@ -119,6 +123,7 @@ fn put_time(out: &mut [u8], at: usize, span: u32, v: u64) -> usize
     text::put_word(out, d, b"</text>\n")
 }
 
+// The same for a time within the span; nothing for one after it.
 fn put_time_label(out: &mut [u8], at: usize, span: u32, v: u64) -> usize
     requires { ⌜ at + 128 ≤ length (now out) ⌝ }
     ensures text { λ r. ⌜ Wrote (now (out .entry)) at (timeLabel span v) (now (out .exit)) r ⌝ }

@@ -43,6 +43,7 @@ pub fn none() -> Finds
     Finds { n: 0, ys: ys }
 }
 
+// One more find, but never more than eight.
 fn one_more(n: usize) -> usize
     ensures { λ r. ⌜ r ≡ min 8 (n + 1) ⌝ }
 {
@@ -59,12 +60,14 @@ pub fn ask(y: f64, f: Finds) -> Finds
     Finds { n: n, ys: ys }
 }
 
+// The column of a parameter.
 fn place_column(x: f64) -> u64
     ensures { λ r. ⌜ r ≡ placeColumn x ⌝ }
 {
     1000 + table_span::second(8600, x) as u64
 }
 
+// A mark on the curve, with lines to both axes.
 fn put_mark(out: &mut [u8], at: usize, x: u64, y: u64) -> usize
     requires { ⌜ at + 160 ≤ length (now out) ⌝ }
     ensures text { λ r. ⌜ Wrote (now (out .entry)) at (markText x y) (now (out .exit)) r ⌝ }
@@ -77,6 +80,7 @@ fn put_mark(out: &mut [u8], at: usize, x: u64, y: u64) -> usize
     text::put_word(out, d, b"h0\"/>\n")
 }
 
+// The mark of a place that was found.
 fn put_place(out: &mut [u8], at: usize, e: Extent, y: f64, p: Place) -> usize
     requires open { ⌜ Open e ⌝ }
     requires room { ⌜ at + 160 ≤ length (now out) ⌝ }
@@ -136,6 +140,7 @@ fn put_found(
     }
 }
 
+// Finds the depth y by the steady method, and draws what comes of it.
 fn put_find(
     out: &mut [u8],
     at: usize,

@@ -70,6 +70,7 @@ pub fn put_note(
     put_tail(out, f, b, n, r)
 }
 
+// A note on the latest line that was refused.
 pub fn put_fault(out: &mut [u8], at: usize, b: Basis, n: u64, f: Fault) -> usize
     requires { ⌜ at + 160 ≤ length (now out) ⌝ }
     ensures text { λ s. ⌜ Wrote (now (out .entry)) at (faultText b n f) (now (out .exit)) s ⌝ }

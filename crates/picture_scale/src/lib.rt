@@ -33,12 +33,14 @@ pub struct Extent {
     pub hi: u64,
 }
 
+// The smaller of two numbers.
 pub fn lesser(a: u64, b: u64) -> u64
     ensures { λ r. ⌜ r ≡ min a b ⌝ }
 {
     if a < b { a } else { b }
 }
 
+// The larger of two numbers.
 fn greater(a: u64, b: u64) -> u64
     ensures { λ r. ⌜ r ≡ max a b ⌝ }
 {
@@ -93,6 +95,7 @@ pub fn column(i: u64, m: u64) -> u64
     1000 + lesser(8600, i * 8600 / m)
 }
 
+// The row of the height h: the lowest height is at 5400, the highest at 400.
 pub fn row(e: Extent, h: u64) -> u64
     requires open { ⌜ Open e ⌝ }
     requires height { ⌜ h ≤ highest ⌝ }
@@ -124,6 +127,7 @@ pub fn pieces(b: Basis, n: usize) -> usize
     doubles::whole::lesser(2048, 256 * segments(b, n))
 }
 
+// Whether a knot is neither the first nor the last.
 fn is_inner(n: usize, j: usize) -> bool
     requires { ⌜ j < n ⌝ }
     ensures { λ r. ⌜ r ≡ (leb 1 j && ltb (j + 1) n) ⌝ }
@@ -165,6 +169,7 @@ pub fn knot_column(b: Basis, n: u64, j: u64) -> u64
     }
 }
 
+// The extent with one more height in it.
 fn widen(e: Extent, h: u64) -> Extent
     requires narrow { ⌜ Narrow e ⌝ }
     requires between { ⌜ Between h ⌝ }

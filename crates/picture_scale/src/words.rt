@@ -16,6 +16,7 @@ pub fn put_number(out: &mut [u8], at: usize, w: &[u8], n: u64) -> usize
     text::put_decimal(out, a, crate::lesser(n, 9999) as u32, 3)
 }
 
+// A point of a polyline.
 pub fn put_point(out: &mut [u8], at: usize, e: Extent, x: u64, h: u64) -> usize
     requires open { ⌜ Open e ⌝ }
     requires height { ⌜ h ≤ highest ⌝ }
@@ -27,6 +28,7 @@ pub fn put_point(out: &mut [u8], at: usize, e: Extent, x: u64, h: u64) -> usize
     put_number(out, a, b",", crate::row(e, h))
 }
 
+// A dot: a line of no length with a round end.
 pub fn put_dot(out: &mut [u8], at: usize, e: Extent, x: u64, h: u64) -> usize
     requires open { ⌜ Open e ⌝ }
     requires height { ⌜ h ≤ highest ⌝ }

@@ -34,6 +34,7 @@ pub enum SheetState {
     Faulty(Refusal),
 }
 
+// Whether a field starts with a minus sign.
 fn is_minus(s: &[u8]) -> bool
     ensures { λ r. ⌜ r ≡ eqb (getD (now (s .entry)) 0 0) MINUS ⌝ }
 {
@@ -43,6 +44,7 @@ fn is_minus(s: &[u8]) -> bool
     false
 }
 
+// A depth in thousandths, with its sign.
 pub fn depth_in(s: &[u8]) -> Depth
     ensures { λ r. ⌜ r ≡ depthIn (now (s .entry)) ⌝ }
 {
@@ -58,6 +60,7 @@ pub fn depth_in(s: &[u8]) -> Depth
     Depth::Is(false, n)
 }
 
+// The depth in a row of a sheet: a label of 1 to 16 bytes, a tab, the depth.
 pub fn depth_line(l: &[u8]) -> Depth
     ensures { λ r. ⌜ r ≡ depthLine (now (l .entry)) ⌝ }
 {

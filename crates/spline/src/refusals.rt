@@ -9,6 +9,7 @@ use basis::Basis;
 use error::Refusal;
 use error::Verdict;
 
+// The refusals of evaluating a curve, in the order of the table.
 pub fn curve_verdict(b: Basis, x: f64, knots: &[f64]) -> Verdict
     ensures { λ r. ⌜ r ≡ first (splineUses b x (now (knots .entry))) ⌝ }
 {
@@ -29,6 +30,7 @@ fn is_inside(x: f64) -> bool
     0.0 <= x && x <= 1.0
 }
 
+// The refusals of evaluating one segment, in the order of the table.
 pub fn segment_verdict(x: f64, cv: &[f64]) -> Verdict
     ensures { λ r. ⌜ r ≡ first (splineSegmentUses x (now (cv .entry))) ⌝ }
 {

@@ -7,6 +7,7 @@ ghost use Rattle.spline.specs.Segment.{rowSumsOf, hornerOf, segmentValue
 use crate::RowSums;
 use basis::Basis;
 
+// The four sums of knots times a row of the matrix: the cubic's coefficients.
 pub fn sums(m: [[f64; 4]; 4], cv: &[f64]) -> RowSums
     requires { ⌜ 4 ≤ length (now cv) ⌝ }
     ensures { λ r. ⌜ r ≡ rowSumsOf m (now (cv .entry)) ⌝ }
@@ -23,6 +24,7 @@ pub fn sums(m: [[f64; 4]; 4], cv: &[f64]) -> RowSums
     }
 }
 
+// The cubic's value at t.
 pub fn horner(w: RowSums, t: f64) -> f64
     ensures { λ r. ⌜ r ≡ hornerOf w t ⌝ }
 {

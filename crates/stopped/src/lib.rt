@@ -34,12 +34,14 @@ pub enum Job {
     Beyond,
 }
 
+// Whether a depth lies before the curve's start.
 fn is_before(e: Ends, y: f64) -> bool
     ensures { λ r. ⌜ r ≡ isBefore e y ⌝ }
 {
     if e.rising { y < e.low } else { e.low < y }
 }
 
+// Whether a depth lies beyond the curve's end.
 fn is_beyond(e: Ends, y: f64) -> bool
     ensures { λ r. ⌜ r ≡ isBeyond e y ⌝ }
 {
@@ -58,6 +60,7 @@ fn found(span: u32, i: Inversion) -> Job
     }
 }
 
+// Whether the end rule answered.
 fn is_end(g: Ground) -> bool
     ensures { λ r. ⌜ r ≡ isEnd g ⌝ }
 {

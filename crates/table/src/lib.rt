@@ -99,6 +99,7 @@ pub fn table_spline_inverse_steady(t: Table, y: f64, knots: &[f64], check: bool)
     table_spline_inverse_by(o, t, y, knots)
 }
 
+// A conversion's answer as a table of the new basis with the old span.
 fn handed_on(span: u32, to: Basis, c: ConversionAnswer) -> TableConversion
     ensures { λ r. ⌜ r ≡ handedOf span to c ⌝ }
 {

@@ -4,16 +4,19 @@ use basis::Basis;
 use convert::ConversionAnswer;
 use spline::Evaluation;
 
+// Prints a word.
 fn say(w: &[u8]) {
     io::write_all(1, w);
 }
 
+// Prints a double's bits, on a line of its own.
 fn say_double(x: f64) {
     let mut line = [10u8; 17];
     text::put_double(&mut line, 0, x);
     io::write_all(1, &line);
 }
 
+// Prints what a conversion answered.
 fn say_answer(c: ConversionAnswer) {
     match c {
         ConversionAnswer::Written(n) => {
@@ -34,6 +37,7 @@ fn say_all(out: &[f64]) {
     }
 }
 
+// Converts, and prints the answer.
 fn one(from: Basis, to: Basis, knots: &[f64], out: &mut [f64]) {
     say_answer(convert::convert_spline(from, to, knots, out));
 }
@@ -51,6 +55,7 @@ fn readings() {
     say_all(&nine);
 }
 
+// The bases by their numbers.
 fn basis_at(i: usize) -> Basis {
     if i == 0 {
         return Basis::Bspline;
@@ -70,6 +75,7 @@ fn basis_at(i: usize) -> Basis {
     Basis::Power
 }
 
+// Whether a double is neither NaN nor infinite.
 fn is_finite(x: f64) -> bool {
     x - x == 0.0
 }
@@ -113,6 +119,7 @@ fn pair(from: Basis, to: Basis) {
     }
 }
 
+// One pair of bases, by their numbers.
 fn pair_at(i: usize, j: usize) {
     say(b"pair ");
     io::print_decimal(1, i as u64);
@@ -128,6 +135,7 @@ fn pairs_from(i: usize) {
     }
 }
 
+// Every pair of bases.
 fn pairs() {
     for i in 0..6 {
         pairs_from(i);
@@ -151,6 +159,7 @@ fn order() {
     say_all(&six);
 }
 
+// Lengths and knots at their limits, and just beyond.
 fn lengths() {
     say(b"lengths and knots at the boundaries\n");
     let mut out = [0.0; 4096];
@@ -165,6 +174,7 @@ fn lengths() {
     one(Basis::Bezier, Basis::Power, &above, &mut out);
 }
 
+// Prints what an evaluation answered.
 fn say_value(e: Evaluation) {
     match e {
         Evaluation::Value(v) => say_double(v),
@@ -187,6 +197,7 @@ fn kink() {
     say_value(spline::spline(Basis::Hermite, 0.75, &out));
 }
 
+// Whether two doubles have the same bits.
 fn same(a: f64, b: f64) -> bool {
     text::to_bits(a) == text::to_bits(b)
 }
@@ -215,6 +226,7 @@ fn eliminated(i: usize) {
     }
 }
 
+// Each inverse by elimination, beside its constants.
 fn inverses() {
     say(b"the six inverses by elimination, beside the constants\n");
     eliminated(0);

@@ -27,6 +27,7 @@ fn note(tally: &mut [u32; 9], at: usize)
     tally[at] = std::num::wrapping_add_u32(tally[at], 1);
 }
 
+// Counts a promise that was broken.
 fn judge(tally: &mut [u32; 9], kept: bool) {
     if kept {
         return;
@@ -34,6 +35,7 @@ fn judge(tally: &mut [u32; 9], kept: bool) {
     note(tally, 7);
 }
 
+// Holds a count to its bound, and keeps the largest count.
 fn judge_count(tally: &mut [u32; 9], n: u32, bound: u32) {
     judge(tally, n <= bound);
     if tally[8] < n {
@@ -41,6 +43,7 @@ fn judge_count(tally: &mut [u32; 9], n: u32, bound: u32) {
     }
 }
 
+// The place of a ground in the tally.
 fn kind_of(g: Ground) -> usize
     ensures { λ r. ⌜ r < 5 ⌝ }
 {
@@ -74,6 +77,7 @@ fn lies_between(v: f64, y: f64, w: f64) -> bool {
     (v <= y && y <= w) || (w <= y && y <= v)
 }
 
+// Whether the parameter and the bracket lie from 0 to 1, and the local place in the bracket.
 fn places_kept(p: Place) -> bool {
     let parameter = 0.0 <= p.parameter && p.parameter <= 1.0;
     let bracket = 0.0 <= p.lower && p.upper <= 1.0;
@@ -107,6 +111,7 @@ fn may_be_spent(o: Options) -> bool {
     }
 }
 
+// Whether the answer keeps what its ground promises.
 fn ground_kept(a: Question, y: f64, p: Place, v: f64) -> bool {
     let apart = doubles::magnitude(v - y);
     let ground = p.ground;
@@ -138,6 +143,7 @@ fn judge_place(a: Question, y: f64, p: Place, bound: u32, knots: &[f64], tally: 
     judge(tally, lies_between(v0, y, v1));
 }
 
+// Holds one answer to all that is promised of it.
 fn judge_answer(
     a: Question,
     y: f64,
@@ -190,6 +196,7 @@ fn ask(a: Question, y: f64, knots: &[f64], tally: &mut [u32; 9]) {
     judge_answer(a, y, one, (o.limit as u32) + 2, knots, tally);
 }
 
+// Thirteen targets: infinite, at the ends, outside, and between them.
 fn target(j: u32, low: f64, high: f64) -> f64 {
     match j {
         0 => -1.0 / 0.0,
@@ -235,6 +242,7 @@ fn over_long(a: Question, ends: EndsBy, method: Method, knots: &[f64], tally: &m
     over_targets(with(a, false, 65535, 1e-300, ends, method), knots, tally);
 }
 
+// The usual options, and long ones.
 fn over_settings(a: Question, ends: EndsBy, method: Method, knots: &[f64], tally: &mut [u32; 9])
     requires { ⌜ 4 ≤ length (now knots) ⌝ }
 {
@@ -242,6 +250,7 @@ fn over_settings(a: Question, ends: EndsBy, method: Method, knots: &[f64], tally
     over_long(a, ends, method, knots, tally);
 }
 
+// The question with other options.
 fn with(
     a: Question,
     check: bool,
@@ -308,6 +317,7 @@ fn knot_at(kind: u32, i: u16) -> f64 {
     }
 }
 
+// Fills the table with knots of a kind.
 fn fill(kind: u32, knots: &mut [f64])
     requires { ⌜ 4096 ≤ length (now knots) ⌝ }
     ensures { λ _. ⌜ length (now (knots .exit)) ≡ length (now (knots .entry)) ⌝ }
@@ -331,6 +341,7 @@ fn longest(b: Basis) -> usize {
     }
 }
 
+// Curves of 1, 12, 13 and 100 segments, and the longest.
 fn over_sizes(b: Basis, knots: &[f64], tally: &mut [u32; 9])
     requires { ⌜ 4096 ≤ length (now knots) ⌝ }
 {
@@ -356,12 +367,14 @@ fn over_bases(knots: &[f64], tally: &mut [u32; 9])
     over_sizes(Basis::Power, knots, tally);
 }
 
+// Prints a name and a number.
 fn line(name: &[u8], n: u32) {
     io::write_all(1, name);
     io::print_decimal(1, n as u64);
     io::write_all(1, b"\n");
 }
 
+// Every kind of knots.
 fn over_kinds(knots: &mut [f64], tally: &mut [u32; 9])
     requires { ⌜ 4096 ≤ length (now knots) ⌝ }
 {

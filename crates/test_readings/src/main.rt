@@ -9,10 +9,12 @@ use inverse_segment::Inversion;
 use inverse_segment::Method;
 use spline::Evaluation;
 
+// Prints a word.
 fn say(w: &[u8]) {
     io::write_all(1, w);
 }
 
+// Prints a double's bits, behind a blank.
 fn say_double(x: f64) {
     let mut word = [b' '; 17];
     text::put_double(&mut word, 1, x);
@@ -38,6 +40,7 @@ fn say_refused(r: Refusal) {
     say(b"\n");
 }
 
+// Evaluates, and prints the answer.
 fn value(b: Basis, knots: &[f64], x: f64) {
     let e = spline::spline(b, x, knots);
     match e {
@@ -50,6 +53,7 @@ fn value(b: Basis, knots: &[f64], x: f64) {
     }
 }
 
+// Prints the word for a ground.
 fn say_ground(g: Ground) {
     match g {
         Ground::End => say(b" end "),
@@ -60,6 +64,7 @@ fn say_ground(g: Ground) {
     }
 }
 
+// Prints what an inversion answered.
 fn say_place(a: Inversion) {
     match a {
         Inversion::At(p) => {
@@ -79,6 +84,7 @@ fn say_place(a: Inversion) {
     }
 }
 
+// Inverts, and prints the answer.
 fn place(b: Basis, knots: &[f64], y: f64, check: bool, precision: f64) {
     say_place(inverse::spline_inverse_with(b, y, knots, check, 32, precision));
 }
@@ -110,6 +116,7 @@ fn bracket(b: Basis, cv: &[f64], y: f64, how: Method) {
     say(b"\n");
 }
 
+// Converts, and prints the answer with the whole output.
 fn converted(from: Basis, to: Basis, knots: &[f64], out: &mut [f64]) {
     let c = convert::convert_spline(from, to, knots, &mut *out);
     match c {

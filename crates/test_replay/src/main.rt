@@ -46,6 +46,7 @@ fn digit(b: u8) -> u64 {
     }
 }
 
+// A number as a byte; 255 if it is larger.
 fn byte(n: u64) -> u8 {
     if n < 256 { n as u8 } else { 255 }
 }
@@ -58,6 +59,7 @@ fn seconds(n: u64) -> u32 {
     if n < 4294967296 { n as u32 } else { 0 }
 }
 
+// The number, but at most 64.
 fn up_to_64(n: u64) -> usize
     ensures { λ r. ⌜ r ≤ 64 ⌝ }
 {
@@ -332,6 +334,7 @@ fn further_conversion_equal(letter: u8, w: [u64; 64], knots: &[f64]) -> bool {
     output_equal(reply, written, out, w[4], w[5], &w[6..]) & ((reply != 0) | (handed == span))
 }
 
+// Whether the call that a line's letter names answers as stored.
 fn is_equal(letter: u8, w: [u64; 64], knots: &[f64]) -> bool {
     let q = asked(w);
     match letter {
@@ -361,6 +364,7 @@ fn stored(w: &[u64], table: &mut [f64]) -> usize {
     w.len()
 }
 
+// What a whole line does: it sets knots, or asks and compares.
 fn ended(line: Line, w: [u64; 64], table: &mut [f64], t: Tally) -> Tally {
     if line.letter == b'k' {
         let words = up_to_64(line.words as u64);
@@ -424,6 +428,7 @@ fn pushed(line: Line, w: &mut [u64; 64]) -> Line {
     line
 }
 
+// A byte of a line: a digit, the end of a word, or the letter.
 fn step(line: Line, b: u8, w: &mut [u64; 64]) -> Line {
     let d = digit(b);
     if d < 16 {
@@ -451,6 +456,7 @@ struct Run {
     pub tally: Tally,
 }
 
+// A byte of the input.
 fn fed(r: Run, b: u8, w: &mut [u64; 64], table: &mut [f64]) -> Run {
     let line = r.line;
     let tally = r.tally;

@@ -29,10 +29,12 @@ fn digit(b: u8) -> u64 {
     }
 }
 
+// A number as a byte; 255 if it is larger.
 fn byte(n: u64) -> u8 {
     if n < 256 { n as u8 } else { 255 }
 }
 
+// The number, but at most 64.
 fn up_to_64(n: u64) -> usize
     ensures { λ r. ⌜ r ≤ 64 ⌝ }
 {
@@ -71,6 +73,7 @@ fn is_right(i: usize, n: usize, x: i64, w: &[u64]) -> bool {
     false
 }
 
+// Whether the output is as stored, place by place.
 fn same(n: usize, out: &[i64], w: &[u64]) -> bool {
     let mut good = true;
     for i in 0..out.len() {
@@ -98,6 +101,7 @@ fn table_equal(w: [u64; 64], rows: &[i64]) -> bool {
     output_equal(reply, written, out, w[0], w[1], &w[2..])
 }
 
+// Whether the call that a line's letter names answers as stored.
 fn is_equal(letter: u8, w: [u64; 64], numbers: &[i64]) -> bool {
     match letter {
         b't' => turning_equal(w, numbers),
@@ -120,6 +124,7 @@ fn stored(w: &[u64], table: &mut [i64]) -> usize {
     w.len()
 }
 
+// What a whole line does: it sets numbers, or asks and compares.
 fn ended(line: Line, w: [u64; 64], table: &mut [i64], t: Tally) -> Tally {
     if line.letter == b'k' {
         let words = up_to_64(line.words as u64);
@@ -183,6 +188,7 @@ fn pushed(line: Line, w: &mut [u64; 64]) -> Line {
     line
 }
 
+// A byte of a line: a digit, the end of a word, or the letter.
 fn step(line: Line, b: u8, w: &mut [u64; 64]) -> Line {
     let d = digit(b);
     if d < 16 {
@@ -210,6 +216,7 @@ struct Run {
     pub tally: Tally,
 }
 
+// A byte of the input.
 fn fed(r: Run, b: u8, w: &mut [u64; 64], table: &mut [i64]) -> Run {
     let line = r.line;
     let tally = r.tally;

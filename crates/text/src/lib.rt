@@ -117,6 +117,7 @@ pub fn put_byte(out: &mut [u8], at: usize, b: u8) -> usize
     at + 1
 }
 
+// Writes the bytes of w from place `at` on; the place behind them.
 pub fn put_word(out: &mut [u8], at: usize, w: &[u8]) -> usize
     requires { ⌜ at + length (now w) ≤ length (now out) ⌝ }
     ensures { λ r. ⌜ Wrote (now (out .entry)) at (now (w .entry)) (now (out .exit)) r ⌝ }
@@ -165,6 +166,7 @@ pub fn put_decimal(out: &mut [u8], at: usize, n: u32, k: usize) -> usize
     put_byte(out, r, 48 + (n % 10) as u8)
 }
 
+// A double as the sixteen digits of its bits.
 pub fn put_double(out: &mut [u8], at: usize, x: f64) -> usize
     requires { ⌜ at + 16 ≤ length (now out) ⌝ }
     ensures text { λ r. ⌜ Wrote (now (out .entry)) at (doubleText x) (now (out .exit)) r ⌝ }

@@ -120,6 +120,7 @@ pub fn put_fixed(out: &mut [u8], at: usize, n: u64, d: usize) -> usize
     text::put_byte(out, r, 48 + (n % 10) as u8)
 }
 
+// Whether a double's sign bit is set.
 fn is_minus(n: u64) -> bool
     ensures { λ r. ⌜ r ≡ minusIn n ⌝ }
 {
@@ -136,6 +137,7 @@ fn is_below_zero(n: u64, units: u64) -> bool
     is_minus(n)
 }
 
+// A minus sign, or nothing.
 fn put_sign(out: &mut [u8], at: usize, minus: bool) -> usize
     requires { ⌜ at + 1 ≤ length (now out) ⌝ }
     ensures text { λ r. ⌜ Wrote (now (out .entry)) at (signText minus) (now (out .exit)) r ⌝ }

@@ -152,6 +152,7 @@ pub fn is_start_no_lower(b: Basis, up: bool, knots: &[i64], s: usize) -> bool
     }
 }
 
+// Whether a segment of Power starts no lower than the one before it ends.
 fn is_power_start_no_lower(up: bool, knots: &[i64], s: usize) -> bool
     requires inside { ⌜ s * 4 + 4 ≤ length (now knots) ⌝ }
     requires few { ⌜ length (now knots) ≤ mostKnots ⌝ }
@@ -178,6 +179,7 @@ struct Four {
     k3: u64,
 }
 
+// Four knots, turned over if the curve is to fall.
 fn four_from(up: bool, knots: &[i64], at: usize) -> Four
     requires inside { ⌜ at + 4 ≤ length (now knots) ⌝ }
     requires few { ⌜ length (now knots) ≤ mostKnots ⌝ }

@@ -20,6 +20,7 @@ pub enum Mixture {
     Mixed(i64),
 }
 
+// A weight as a wide number.
 fn wide(w: u32) -> i64
     requires { ⌜ w ≤ 67108864 ⌝ }
     ensures { λ r. ⌜ r ≡ pos w ⌝ }
@@ -27,6 +28,7 @@ fn wide(w: u32) -> i64
     w as i64
 }
 
+// A product, whose bounds the contract states.
 fn times(a: i64, b: i64) -> i64
     requires { ⌜ SFits w64 (a *ℤ b) ⌝ }
     ensures { λ r. ⌜ r ≡ a *ℤ b ⌝ }
@@ -34,6 +36,7 @@ fn times(a: i64, b: i64) -> i64
     a * b
 }
 
+// A sum, whose bounds the contract states.
 fn plus(a: i64, b: i64) -> i64
     requires { ⌜ SFits w64 (a +ℤ b) ⌝ }
     ensures { λ r. ⌜ r ≡ a +ℤ b ⌝ }
@@ -72,6 +75,7 @@ fn is_small(k: i64) -> bool
     if -1000000 <= k { k <= 1000000 } else { false }
 }
 
+// The first knot that is too large; 4 if there is none.
 fn first_large(knots: &[i64]) -> usize
     requires { ⌜ 4 ≤ length (now knots) ⌝ }
     ensures answer { λ r. ⌜ r ≡ firstLarge (now (knots .entry)) ⌝ }

@@ -15,6 +15,7 @@ pub fn size(k: i64) -> u64
     (-1 - k) as u64 + 1
 }
 
+// Whether a whole number's size is at most `most`.
 pub fn is_small(most: u64, k: i64) -> bool
     ensures { λ r. ⌜ r ≡ small most k ⌝ }
 {
