@@ -1,6 +1,4 @@
 -- A sheet that is not fine, or a question about a curve.
-use mathlib.Core.Path.{_≡_, refl, sym, ap, _∙_, subst}
-use Prim.Native.Nat.{ℕ, _+_, _≤_}
 use Rattle.lines_machine.specs.Contract.{openOf}
 use Rattle.ask_verdict.specs.Contract.{Asks}
 use Rattle.ask.proofs.Steps.{as-text, bad-text, bad-after, fine-text, fine-after, asks-on}
@@ -9,29 +7,13 @@ use borrow.Author.Needs.{needs}
 use Rattle.ask.proofs.answer.Statement.{statement}
 use Rattle.ask.proofs.answer.Tie as tie
 
-enum-told : tie.Need-enum-told
-enum-told c = search needs
-
-slice-aggregate-put-word : tie.Need-slice-aggregate-put-word
-slice-aggregate-put-word c = search needs
-
-put-word-requires : tie.Need-put-word-requires
-put-word-requires c κs = search needs
-
-enum-known-a : tie.Need-enum-known-a
-enum-known-a c = search needs
-
 answer-requires : tie.Need-answer-requires
 answer-requires c κs =
     let at-a = c .before .before in
     let start = at-a .before .before .before .before .before .before in
-    let a : Asks (at-a .a .given .0 .1 .0) (at-a .a .given .0 .1 .1 .0) (at-a .a .given .0 .1 .1 .1 .0) = rw (at-a .a .given .1) at (start .pre .1 .0) in (
-      a .fewRows,
-      (a .enough, (a .few, (a .short, (start .pre .0, start .pre .1 .1)))),
-    )
-
-same-length : tie.Need-same-length
-same-length c = search needs
+    let a : Asks (at-a .a .given .0 .1 .0) (at-a .a .given .0 .1 .1 .0) (at-a .a .given .0 .1 .1 .1 .0) =
+    rw (at-a .a .given .1) at (start .pre .1 .0) in
+    (a .fewRows, (a .enough, (a .few, (a .short, (start .pre .0, start .pre .1 .1)))))
 
 returns : tie.Need-returns
 returns c =
@@ -42,9 +24,6 @@ returns c =
       as-text (bad-text (openOf (start .args .len) (start .args .line .now))) (at-put-word .put-word .ensures),
       (bad-after (openOf (start .args .len) (start .args .line .now)), (tt, omega (arith, at-put-word .put-word .ensures .next))),
     )
-
-same-length-2 : tie.Need-same-length-2
-same-length-2 c = search needs
 
 returns-2 : tie.Need-returns-2
 returns-2 c =
@@ -62,14 +41,5 @@ returns-2 c =
 
 pub answer-spec : {M : Type 1} → statement M
 answer-spec =
-    tie.close
-    (tie.spec
-    enum-told
-    slice-aggregate-put-word
-    put-word-requires
-    enum-known-a
-    answer-requires
-    same-length
-    returns
-    same-length-2
-    returns-2)
+    tie.close (tie.spec (λ c. search needs) (λ c. search needs) (λ c κs. search needs) (λ c. search needs) answer-requires (λ c. search needs) returns
+    (λ c. search needs) returns-2)

@@ -1,17 +1,12 @@
 -- The verdict, unless it was told.
-use mathlib.Core.Path.{_≡_, refl, sym, ap, _∙_, subst}
 use Rattle.text.proofs.Writing.{nothing}
 use Rattle.ask_sheet.specs.Contract.{sheetOf, lineIn, lastLine, Sound}
-use Rattle.lines_machine.specs.Contract.{openOf}
-use Prim.Native.Nat.{ℕ, _*_, _+_, _-_, _≤_, _<_, _^_}
+use Prim.Native.Nat.{_-_, _≤_}
 use Rattle.ask.proofs.Steps.{as-text, read-ends, told-ends}
 use native.Mathlib.Omega.{arith}
 use borrow.Author.Needs.{needs}
 use Rattle.ask.proofs.end.Statement.{statement}
 use Rattle.ask.proofs.end.Tie as tie
-
-enum-known-h : tie.Need-enum-known-h
-enum-known-h c = search needs
 
 verdict-requires : tie.Need-verdict-requires
 verdict-requires c κs =
@@ -20,23 +15,13 @@ verdict-requires c κs =
     let k : (lineIn (at-h .h .given .0 .0) ≤ lastLine) × Sound (sheetOf (at-h .h .given .0 .0) (start .args .rows .now) (start .args .labels .now)) = rw
     (at-h .h .given .1) at (start .pre .0) in (k .0, (start .pre .1 .0, (k .1, (start .pre .1 .1 .0, (start .pre .1 .1 .1 .0, start .pre .1 .1 .1 .1)))))
 
-enum-known-h-2 : tie.Need-enum-known-h-2
-enum-known-h-2 c = search needs
-
-same-length : tie.Need-same-length
-same-length c = search needs
-
-same-length-2 : tie.Need-same-length-2
-same-length-2 c = search needs
-
 returns : tie.Need-returns
 returns c =
     let at-verdict = c .before .before .before .before in
     let at-h = at-verdict .before .before .before .before in
     let start = at-h .before .before .before .before .before in
     rw (at-h .h .given .1) (
-      as-text (read-ends (sheetOf (at-h .h .given .0 .0) (start .args .rows .now) (start .args .labels .now)))
-          (at-verdict .verdict .ensures .0),
+      as-text (read-ends (sheetOf (at-h .h .given .0 .0) (start .args .rows .now) (start .args .labels .now))) (at-verdict .verdict .ensures .0),
       at-verdict .verdict .ensures .1 .0,
     )
 
@@ -44,13 +29,4 @@ returns-2 : tie.Need-returns-2
 returns-2 c = rw (c .before .h2 .given .1) (as-text (told-ends _) (nothing _ _), omega arith)
 
 pub end-spec : {M : Type 1} → statement M
-end-spec =
-    tie.close
-    (tie.spec
-    enum-known-h
-    verdict-requires
-    enum-known-h-2
-    same-length
-    same-length-2
-    returns
-    returns-2)
+end-spec = tie.close (tie.spec (λ c. search needs) verdict-requires (λ c. search needs) (λ c. search needs) (λ c. search needs) returns returns-2)

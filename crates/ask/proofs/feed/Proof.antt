@@ -1,5 +1,5 @@
 -- Invariant: the bytes passed were fed, and the text in hand fits; it stops where `out` may not hold a further text.
-use mathlib.Core.Path.{_≡_, refl, sym, ap, _∙_, subst}
+use mathlib.Core.Path.{_≡_}
 use lib.ListN.{length}
 use lib.Seq.{slice}
 use Rattle.sheet.specs.Sheet.{most}
@@ -42,51 +42,10 @@ loop-holds c = (
   omega arith,
 )
 
-sub-if1 : tie.Need-sub-if1 Inv-loop μ-loop
-sub-if1 c = search needs
-
-same-length : tie.Need-same-length Inv-loop μ-loop
-same-length c = search needs
-
-same-length-2 : tie.Need-same-length-2 Inv-loop μ-loop
-same-length-2 c = search needs
-
-same-length-3 : tie.Need-same-length-3 Inv-loop μ-loop
-same-length-3 c = search needs
-
-same-length-4 : tie.Need-same-length-4 Inv-loop μ-loop
-same-length-4 c = search needs
-
-same-length-5 : tie.Need-same-length-5 Inv-loop μ-loop
-same-length-5 c = search needs
-
 returns : tie.Need-returns Inv-loop μ-loop
 returns c =
-    let at-loop = c .before .before in
-    let l = at-loop .loop in (
-      l .inv .5,
-      (
-        l .inv .9,
-        (
-          l .inv .0,
-          (
-            l .inv .1,
-            (
-              l .inv .3,
-              λ p q. omega (
-                arith,
-                l .inv .5 .wrote .long,
-                c .if1 .taken,
-                l .inv .4,
-              ),
-            ),
-          ),
-        ),
-      ),
-    )
-
-cut-requires : tie.Need-cut-requires Inv-loop μ-loop
-cut-requires c κs = search needs
+    let l = c .before .before .loop in
+    (l .inv .5, (l .inv .9, (l .inv .0, (l .inv .1, (l .inv .3, λ p q. omega (arith, l .inv .5 .wrote .long, c .if1 .taken, l .inv .4))))))
 
 line-requires : tie.Need-line-requires Inv-loop μ-loop
 line-requires c κs =
@@ -100,57 +59,42 @@ add-i c =
     let at-loop = at-if2 .before .before .before .before .before .before .before in
     omega (arith, at-if2 .if2 .taken, at-loop .loop .inv .10)
 
-loop-less : tie.Need-loop-less Inv-loop μ-loop
-loop-less c = search needs
-
 loop-again : tie.Need-loop-again Inv-loop μ-loop
 loop-again c =
-    let l = c .before .before .before .before .before .before .before .before .before .before .before .before .before .before .before .before .before
-    .before .before .before .loop in let k = c .before .before .before .before .before .before .before .before .before .before .before .before .before
-    .before .before .before .cut in let w = c .before .before .before .before .before .before .before .line .ensures in let t = c .before .before .before
-    .before .before .before .before .before .before .before .before .before .before .if2 .taken in (
+    let at-if2 = c .before .before .before .before .before .before .before .before .before .before .before .before .before in
+    let start = at-if2 .before .before .before .before .before .before .before .before .before .before .before .before .before in
+    let l = at-if2 .before .before .before .before .before .before .before .loop in
+    let k = at-if2 .before .before .before .cut in
+    let w = c .before .before .before .before .before .before .before .line .ensures in
+    let t = at-if2 .if2 .taken in (
       omega (arith, l .inv .0, k .ensures .after),
-      omega
-          (arith, t),
+      omega (arith, t),
       omega (arith, l .inv .2),
       omega (arith, w .1 .1 .0 .long, w .1 .1 .1),
       omega (arith, w .1 .1 .1, l .inv .4, k .ensures .after),
-      fed-line
-          askProgram (c .before .before .before .before .before .before .before .before .before .before .before .before .before .before .before .before .before
-          .before .before .before .before .before .before .before .before .before .args .chunk .now) (c .before .before .before .before .before .before .before
-          .before .before .before .before .before .before .before .before .before .before .before .before .before .before .before .before .before .before
-          .before .args .from) (k .result .stop) (omega (arith, l .inv .0, k .ensures .after)) t (fed-stretch askProgram (c .before .before .before .before
-          .before .before .before .before .before .before .before .before .before .before .before .before .before .before .before .before .before .before
-          .before .before .before .before .args .chunk .now) (c .before .before .before .before .before .before .before .before .before .before .before .before
-          .before .before .before .before .before .before .before .before .before .before .before .before .before .before .args .from) (l .i) (k .result .stop)
-          (l .inv .0) (l .inv .1) (l .inv .5) (k .ensures)) (k .ensures .end t) (w .0) (w .1 .1 .0),
+      fed-line askProgram (start .args .chunk .now) (start .args .from) (k .result .stop) (omega (arith, l .inv .0, k .ensures .after)) t
+          (fed-stretch askProgram (start .args .chunk .now) (start .args .from) (l .i) (k .result .stop) (l .inv .0) (l .inv .1) (l .inv .5)
+          (k .ensures)) (k .ensures .end t) (w .0) (w .1 .1 .0),
       search needs,
       search needs,
       search needs,
       w .1 .0,
-      l .inv
-          .10,
+      l .inv .10,
     )
-
-loop-less-2 : tie.Need-loop-less-2 Inv-loop μ-loop
-loop-less-2 c = search needs
 
 loop-again-2 : tie.Need-loop-again-2 Inv-loop μ-loop
 loop-again-2 c =
     let at-cut = c .before .before .before in
     let at-loop = at-cut .before .before .before .before in
     let start = at-loop .before .before .before .before .before .before in
-    let l = at-loop .loop in let k = at-cut .cut in (
+    let l = at-loop .loop in
+    let k = at-cut .cut in (
       omega (arith, l .inv .0, k .ensures .after),
       omega (arith, k .ensures .within),
-      omega (
-        arith,
-        l .inv .2,
-      ),
+      omega (arith, l .inv .2),
       l .inv .3,
       omega (arith, l .inv .4, k .ensures .after),
-      fed-stretch askProgram (start .args .chunk .now) (start .args .from) (l .i)
-          (k .result .stop) (l .inv .0) (l .inv .1) (l .inv .5) (k .ensures),
+      fed-stretch askProgram (start .args .chunk .now) (start .args .from) (l .i) (k .result .stop) (l .inv .0) (l .inv .1) (l .inv .5) (k .ensures),
       l .inv .6,
       l .inv .7,
       l .inv .8,
@@ -158,48 +102,11 @@ loop-again-2 c =
       l .inv .10,
     )
 
-same-length-6 : tie.Need-same-length-6 Inv-loop μ-loop
-same-length-6 c = search needs
-
-same-length-7 : tie.Need-same-length-7 Inv-loop μ-loop
-same-length-7 c = search needs
-
-same-length-8 : tie.Need-same-length-8 Inv-loop μ-loop
-same-length-8 c = search needs
-
-same-length-9 : tie.Need-same-length-9 Inv-loop μ-loop
-same-length-9 c = search needs
-
-same-length-10 : tie.Need-same-length-10 Inv-loop μ-loop
-same-length-10 c = search needs
-
 returns-2 : tie.Need-returns-2 Inv-loop μ-loop
 returns-2 c = let l = c .before .loop in (l .inv .5, (l .inv .9, (l .inv .0, (l .inv .1, (l .inv .3, λ p q. omega arith)))))
 
 pub feed-spec : {M : Type 1} → statement M
 feed-spec =
-    tie.close
-    (tie.spec
-    Inv-loop
-    μ-loop
-    loop-holds
-    sub-if1
-    same-length
-    same-length-2
-    same-length-3
-    same-length-4
-    same-length-5
-    returns
-    cut-requires
-    line-requires
-    add-i
-    loop-less
-    loop-again
-    loop-less-2
-    loop-again-2
-    same-length-6
-    same-length-7
-    same-length-8
-    same-length-9
-    same-length-10
-    returns-2)
+    tie.close (tie.spec Inv-loop μ-loop loop-holds (λ c. search needs) (λ c. search needs) (λ c. search needs) (λ c. search needs) (λ c. search needs)
+    (λ c. search needs) returns (λ c κs. search needs) line-requires add-i (λ c. search needs) loop-again (λ c. search needs) loop-again-2
+    (λ c. search needs) (λ c. search needs) (λ c. search needs) (λ c. search needs) (λ c. search needs) returns-2)

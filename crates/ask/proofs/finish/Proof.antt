@@ -1,5 +1,4 @@
 -- A line that was begun ends first.
-use mathlib.Core.Path.{_≡_, refl, sym, ap, _∙_, subst}
 use Rattle.lines_machine.proofs.Feeding.{end-none, end-some}
 use Rattle.ask.specs.Ask.{askProgram}
 use Rattle.ask.specs.Contract.{askingOf}
@@ -12,18 +11,6 @@ end-requires : tie.Need-end-requires
 end-requires c κs =
     let start = c .before .before .before .before .before .before .before .before .before in
     (start .pre .1 .0, (start .pre .1 .1 .0, (start .pre .1 .1 .1 .0, (start .pre .1 .1 .1 .1 .0, omega (arith, start .pre .1 .1 .1 .1 .1)))))
-
-same-length : tie.Need-same-length
-same-length c = search needs
-
-same-length-2 : tie.Need-same-length-2
-same-length-2 c = search needs
-
-same-length-3 : tie.Need-same-length-3
-same-length-3 c = search needs
-
-same-length-4 : tie.Need-same-length-4
-same-length-4 c = search needs
 
 returns : tie.Need-returns
 returns c =
@@ -39,22 +26,7 @@ line-requires : tie.Need-line-requires
 line-requires c κs =
     let start = c .before .before .before .before .before .before .before .before .before in (
       start .pre .0,
-      (
-        start .pre .1 .0,
-        (
-          start .pre .1 .1 .0,
-          (
-            start .pre .1 .1 .1 .0,
-            (
-              start .pre .1 .1 .1 .1 .0,
-              omega (
-                arith,
-                start .pre .1 .1 .1 .1 .1,
-              ),
-            ),
-          ),
-        ),
-      ),
+      (start .pre .1 .0, (start .pre .1 .1 .0, (start .pre .1 .1 .1 .0, (start .pre .1 .1 .1 .1 .0, omega (arith, start .pre .1 .1 .1 .1 .1))))),
     )
 
 end-requires-2 : tie.Need-end-requires-2
@@ -66,30 +38,10 @@ end-requires-2 c κs =
         search needs,
         (
           search needs,
-          (
-            search needs,
-            omega (
-              arith,
-              at-line .line .ensures .1 .1 .1,
-              at-line .line .ensures .1 .1 .0 .long,
-              start .pre .1 .1 .1 .1 .1,
-            ),
-          ),
+          (search needs, omega (arith, at-line .line .ensures .1 .1 .1, at-line .line .ensures .1 .1 .0 .long, start .pre .1 .1 .1 .1 .1)),
         ),
       ),
     )
-
-same-length-5 : tie.Need-same-length-5
-same-length-5 c = search needs
-
-same-length-6 : tie.Need-same-length-6
-same-length-6 c = search needs
-
-same-length-7 : tie.Need-same-length-7
-same-length-7 c = search needs
-
-same-length-8 : tie.Need-same-length-8
-same-length-8 c = search needs
 
 returns-2 : tie.Need-returns-2
 returns-2 c =
@@ -105,18 +57,5 @@ returns-2 c =
 
 pub finish-spec : {M : Type 1} → statement M
 finish-spec =
-    tie.close
-    (tie.spec
-    end-requires
-    same-length
-    same-length-2
-    same-length-3
-    same-length-4
-    returns
-    line-requires
-    end-requires-2
-    same-length-5
-    same-length-6
-    same-length-7
-    same-length-8
-    returns-2)
+    tie.close (tie.spec end-requires (λ c. search needs) (λ c. search needs) (λ c. search needs) (λ c. search needs) returns line-requires
+    end-requires-2 (λ c. search needs) (λ c. search needs) (λ c. search needs) (λ c. search needs) returns-2)

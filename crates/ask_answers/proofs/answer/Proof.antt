@@ -9,18 +9,6 @@ use borrow.Author.Needs.{needs}
 use Rattle.ask_answers.proofs.answer.Statement.{statement}
 use Rattle.ask_answers.proofs.answer.Tie as tie
 
-asked-requires : tie.Need-asked-requires
-asked-requires c κs = search needs
-
-span-by-requires : tie.Need-span-by-requires
-span-by-requires c κs = search needs
-
-put-answer-requires : tie.Need-put-answer-requires
-put-answer-requires c κs = search needs
-
-same-length : tie.Need-same-length
-same-length c = search needs
-
 returns : tie.Need-returns
 unfolding answerText spanAfter
 returns c =
@@ -43,11 +31,4 @@ returns c =
     )
 
 pub answer-spec : {M : Type 1} → statement M
-answer-spec =
-    tie.close
-    (tie.spec
-    asked-requires
-    span-by-requires
-    put-answer-requires
-    same-length
-    returns)
+answer-spec = tie.close (tie.spec (λ c κs. search needs) (λ c κs. search needs) (λ c κs. search needs) (λ c. search needs) returns)

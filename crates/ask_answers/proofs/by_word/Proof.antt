@@ -8,38 +8,17 @@ use borrow.Author.Needs.{needs}
 use Rattle.ask_answers.proofs.by_word.Statement.{statement}
 use Rattle.ask_answers.proofs.by_word.Tie as tie
 
-slice-aggregate-is-word : tie.Need-slice-aggregate-is-word
-slice-aggregate-is-word c = search needs
-
-is-word-requires : tie.Need-is-word-requires
-is-word-requires c κs = search needs
-
-sought-requires : tie.Need-sought-requires
-sought-requires c κs = search needs
-
 returns : tie.Need-returns
 returns c =
-    let at-if1 = c .before in
-    let at-is-word = at-if1 .before in
-    let start = at-is-word .before .before .before .before in
-    find-word (start .args .w .now) (start .args .s .now) (at-is-word .is-word .ensures) (at-if1 .if1 .taken) (c .sought .ensures)
-
-number-in-requires : tie.Need-number-in-requires
-number-in-requires c κs = search needs
-
-enum-known-n : tie.Need-enum-known-n
-enum-known-n c = search needs
-
-enum-told : tie.Need-enum-told
-enum-told c = search needs
+    let start = c .before .before .before .before .before .before in
+    find-word (start .args .w .now) (start .args .s .now) (c .before .before .is-word .ensures) (c .before .if1 .taken) (c .sought .ensures)
 
 returns-2 : tie.Need-returns-2
 returns-2 c =
-    let at-number-in = c .before .before in
-    let at-if1 = at-number-in .before in
+    let at-if1 = c .before .before .before in
     let at-is-word = at-if1 .before in
     let start = at-is-word .before .before .before .before in
-    no-word (start .args .w .now) (start .args .s .now) (at-is-word .is-word .ensures) (at-if1 .if1 .left) (at-number-in .number-in .ensures)
+    no-word (start .args .w .now) (start .args .s .now) (at-is-word .is-word .ensures) (at-if1 .if1 .left) (c .before .before .number-in .ensures)
     (c .enum-told .given .1)
 
 cast-by-number : tie.Need-cast-by-number
@@ -50,9 +29,6 @@ cast-by-number c =
     let few : at-n .n .given .0 .0 < 100000 = number-small 5 (start .args .s .now) (at-n .n .given .0 .0)
     (sym (at-number-in .number-in .ensures) ∙ at-n .n .given .1) in
     omega arith
-
-by-number-requires : tie.Need-by-number-requires
-by-number-requires c κs = search needs
 
 returns-3 : tie.Need-returns-3
 returns-3 c =
@@ -66,16 +42,5 @@ returns-3 c =
 
 pub by-word-spec : {M : Type 1} → statement M
 by-word-spec =
-    tie.close
-    (tie.spec
-    slice-aggregate-is-word
-    is-word-requires
-    sought-requires
-    returns
-    number-in-requires
-    enum-known-n
-    enum-told
-    returns-2
-    cast-by-number
-    by-number-requires
-    returns-3)
+    tie.close (tie.spec (λ c. search needs) (λ c κs. search needs) (λ c κs. search needs) returns (λ c κs. search needs) (λ c. search needs)
+    (λ c. search needs) returns-2 cast-by-number (λ c κs. search needs) returns-3)

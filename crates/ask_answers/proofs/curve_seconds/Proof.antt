@@ -10,25 +10,18 @@ use borrow.Author.Needs.{needs}
 use Rattle.ask_answers.proofs.curve_seconds.Statement.{statement}
 use Rattle.ask_answers.proofs.curve_seconds.Tie as tie
 
-basis-of-requires : tie.Need-basis-of-requires
-basis-of-requires c κs = search needs
-
-segments-requires : tie.Need-segments-requires
-segments-requires c κs = search needs
-
 mul-result : tie.Need-mul-result
 mul-result c =
-    let at-basis-of = c .before in
-    let start = at-basis-of .before in
-    let few : c .segments .result ≤ 4096 = omega (arith, c .segments .ensures, segments-few (at-basis-of .basis-of .result) (start .args .n) (start .pre .1)) in
+    let start = c .before .before in
+    let few : c .segments .result ≤ 4096 =
+    omega (arith, c .segments .ensures, segments-few (c .before .basis-of .result) (start .args .n) (start .pre .1)) in
     let short : start .args .m ≤ 4294967295 = omega arith in
     omega (arith, mul-le-mul short few)
 
 returns : tie.Need-returns
 returns c =
-    let at-basis-of = c .before in
-    let start = at-basis-of .before in
-    ap (λ (x : ℕ). start .args .m * x) (c .segments .ensures ∙ ap (λ (b : Basis). segmentsOf b (start .args .n)) (at-basis-of .basis-of .ensures))
+    let start = c .before .before in
+    ap (λ (x : ℕ). start .args .m * x) (c .segments .ensures ∙ ap (λ (b : Basis). segmentsOf b (start .args .n)) (c .before .basis-of .ensures))
 
 pub curve-seconds-spec : {M : Type 1} → statement M
-curve-seconds-spec = tie.close (tie.spec basis-of-requires segments-requires mul-result returns)
+curve-seconds-spec = tie.close (tie.spec (λ c κs. search needs) (λ c κs. search needs) mul-result returns)

@@ -4,14 +4,10 @@ use Rattle.ask_answers.proofs.is_good.Statement.{statement}
 use Rattle.ask_answers.proofs.is_good.Tie as tie
 
 returns : tie.Need-returns
-returns c =
-    let start = c .before in
-    simp (le-leb 1 (start .args .t) (c .if1 .taken))
+returns c = simp (le-leb 1 (c .before .args .t) (c .if1 .taken))
 
 returns-2 : tie.Need-returns-2
-returns-2 c =
-    let start = c .before in
-    simp (lt-leb 1 (start .args .t) (c .if1 .left))
+returns-2 c = simp (lt-leb 1 (c .before .args .t) (c .if1 .left))
 
 pub is-good-spec : {M : Type 1} → statement M
 is-good-spec = tie.close (tie.spec returns returns-2)

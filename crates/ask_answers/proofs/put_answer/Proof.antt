@@ -8,89 +8,14 @@ use borrow.Author.Needs.{needs}
 use Rattle.ask_answers.proofs.put_answer.Statement.{statement}
 use Rattle.ask_answers.proofs.put_answer.Tie as tie
 
-basis-of-requires : tie.Need-basis-of-requires
-basis-of-requires c κs = search needs
-
-enum-told : tie.Need-enum-told
-enum-told c = search needs
-
-put-reply-requires : tie.Need-put-reply-requires
-put-reply-requires c κs = search needs
-
-enum-known-q : tie.Need-enum-known-q
-enum-known-q c = search needs
-
-put-row-requires : tie.Need-put-row-requires
-put-row-requires c κs = search needs
-
-enum-known-q-2 : tie.Need-enum-known-q-2
-enum-known-q-2 c = search needs
-
-sub-put-find : tie.Need-sub-put-find
-sub-put-find c = search needs
-
-part-put-find-start : tie.Need-part-put-find-start
-part-put-find-start c = search needs
-
-part-put-find-end : tie.Need-part-put-find-end
-part-put-find-end c = search needs
-
-put-find-requires : tie.Need-put-find-requires
-put-find-requires c κs = search needs
-
-enum-known-q-3 : tie.Need-enum-known-q-3
-enum-known-q-3 c = search needs
-
-sub-put-at : tie.Need-sub-put-at
-sub-put-at c = search needs
-
-part-put-at-start : tie.Need-part-put-at-start
-part-put-at-start c = search needs
-
-part-put-at-end : tie.Need-part-put-at-end
-part-put-at-end c = search needs
-
-put-at-requires : tie.Need-put-at-requires
-put-at-requires c κs = search needs
-
-enum-known-q-4 : tie.Need-enum-known-q-4
-enum-known-q-4 c = search needs
-
-sub-put-every : tie.Need-sub-put-every
-sub-put-every c = search needs
-
-part-put-every-start : tie.Need-part-put-every-start
-part-put-every-start c = search needs
-
-part-put-every-end : tie.Need-part-put-every-end
-part-put-every-end c = search needs
-
-put-every-requires : tie.Need-put-every-requires
-put-every-requires c κs = search needs
-
-enum-told-2 : tie.Need-enum-told-2
-enum-told-2 c = search needs
-
-put-refused-requires : tie.Need-put-refused-requires
-put-refused-requires c κs = search needs
-
-same-length : tie.Need-same-length
-same-length c = search needs
-
 returns : tie.Need-returns
 unfolding textBy
 returns c =
     let at-put-reply = c .before .before in
     let at-enum-told = at-put-reply .before .before in
     let at-basis-of = at-enum-told .before .before in
-    rw (at-enum-told .enum-told .given .1) (
-      rw (at-basis-of .basis-of .ensures) at (at-put-reply .put-reply .ensures .0),
-      omega
-          (arith, at-put-reply .put-reply .ensures .1),
-    )
-
-same-length-2 : tie.Need-same-length-2
-same-length-2 c = search needs
+    rw (at-enum-told .enum-told .given .1)
+    (rw (at-basis-of .basis-of .ensures) at (at-put-reply .put-reply .ensures .0), omega (arith, at-put-reply .put-reply .ensures .1))
 
 returns-2 : tie.Need-returns-2
 unfolding textBy
@@ -104,9 +29,6 @@ returns-2 c =
       omega (arith, at-put-row .put-row .ensures .1),
     )
 
-same-length-3 : tie.Need-same-length-3
-same-length-3 c = search needs
-
 returns-3 : tie.Need-returns-3
 unfolding textBy
 returns-3 c =
@@ -115,9 +37,6 @@ returns-3 c =
     let start = at-q2 .before .before .before .before .before .before in
     let z : start .args .n - 0 ≡ start .args .n = omega arith in
     rw (at-q2 .q2 .given .1) (rw z at (at-put-find .put-find .ensures .0), omega (arith, at-put-find .put-find .ensures .1))
-
-same-length-4 : tie.Need-same-length-4
-same-length-4 c = search needs
 
 returns-4 : tie.Need-returns-4
 unfolding textBy
@@ -129,9 +48,6 @@ returns-4 c =
     let z : start .args .n - 0 ≡ start .args .n = omega arith in
     rw (at-q3 .q3 .given .1) (rw (z, at-basis-of .basis-of .ensures) at (at-put-at .put-at .ensures .0), omega (arith, at-put-at .put-at .ensures .1))
 
-same-length-5 : tie.Need-same-length-5
-same-length-5 c = search needs
-
 returns-5 : tie.Need-returns-5
 unfolding textBy
 returns-5 c =
@@ -140,14 +56,8 @@ returns-5 c =
     let at-basis-of = at-q4 .before .before in
     let start = at-basis-of .before .before .before .before in
     let z : start .args .n - 0 ≡ start .args .n = omega arith in
-    rw (at-q4 .q4 .given .1) (
-      rw (z, at-basis-of .basis-of .ensures) at (at-put-every .put-every .ensures .0),
-      omega
-          (arith, at-put-every .put-every .ensures .1),
-    )
-
-same-length-6 : tie.Need-same-length-6
-same-length-6 c = search needs
+    rw (at-q4 .q4 .given .1)
+    (rw (z, at-basis-of .basis-of .ensures) at (at-put-every .put-every .ensures .0), omega (arith, at-put-every .put-every .ensures .1))
 
 returns-6 : tie.Need-returns-6
 unfolding textBy
@@ -158,39 +68,8 @@ returns-6 c =
 
 pub put-answer-spec : {M : Type 1} → statement M
 put-answer-spec =
-    tie.close
-    (tie.spec
-    basis-of-requires
-    enum-told
-    put-reply-requires
-    enum-known-q
-    put-row-requires
-    enum-known-q-2
-    sub-put-find
-    part-put-find-start
-    part-put-find-end
-    put-find-requires
-    enum-known-q-3
-    sub-put-at
-    part-put-at-start
-    part-put-at-end
-    put-at-requires
-    enum-known-q-4
-    sub-put-every
-    part-put-every-start
-    part-put-every-end
-    put-every-requires
-    enum-told-2
-    put-refused-requires
-    same-length
-    returns
-    same-length-2
-    returns-2
-    same-length-3
-    returns-3
-    same-length-4
-    returns-4
-    same-length-5
-    returns-5
-    same-length-6
-    returns-6)
+    tie.close (tie.spec (λ c κs. search needs) (λ c. search needs) (λ c κs. search needs) (λ c. search needs) (λ c κs. search needs)
+    (λ c. search needs) (λ c. search needs) (λ c. search needs) (λ c. search needs) (λ c κs. search needs) (λ c. search needs) (λ c. search needs)
+    (λ c. search needs) (λ c. search needs) (λ c κs. search needs) (λ c. search needs) (λ c. search needs) (λ c. search needs) (λ c. search needs)
+    (λ c κs. search needs) (λ c. search needs) (λ c κs. search needs) (λ c. search needs) returns (λ c. search needs) returns-2 (λ c. search needs)
+    returns-3 (λ c. search needs) returns-4 (λ c. search needs) returns-5 (λ c. search needs) returns-6)

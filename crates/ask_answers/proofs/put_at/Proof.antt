@@ -6,12 +6,6 @@ use borrow.Author.Needs.{needs}
 use Rattle.ask_answers.proofs.put_at.Statement.{statement}
 use Rattle.ask_answers.proofs.put_at.Tie as tie
 
-put-refused-requires : tie.Need-put-refused-requires
-put-refused-requires c κs = search needs
-
-same-length : tie.Need-same-length
-same-length c = search needs
-
 returns : tie.Need-returns
 returns c =
     let at-put-refused = c .before .before in
@@ -21,12 +15,6 @@ returns c =
       omega (arith, at-put-refused .put-refused .ensures .1),
     )
 
-put-refused-requires-2 : tie.Need-put-refused-requires-2
-put-refused-requires-2 c κs = search needs
-
-same-length-2 : tie.Need-same-length-2
-same-length-2 c = search needs
-
 returns-2 : tie.Need-returns-2
 returns-2 c =
     let at-put-refused2 = c .before .before in
@@ -35,12 +23,6 @@ returns-2 c =
           (at-put-refused2 .put-refused2 .ensures .0),
       omega (arith, at-put-refused2 .put-refused2 .ensures .1),
     )
-
-put-moment-requires : tie.Need-put-moment-requires
-put-moment-requires c κs = search needs
-
-same-length-3 : tie.Need-same-length-3
-same-length-3 c = search needs
 
 returns-3 : tie.Need-returns-3
 returns-3 c =
@@ -53,14 +35,5 @@ returns-3 c =
 
 pub put-at-spec : {M : Type 1} → statement M
 put-at-spec =
-    tie.close
-    (tie.spec
-    put-refused-requires
-    same-length
-    returns
-    put-refused-requires-2
-    same-length-2
-    returns-2
-    put-moment-requires
-    same-length-3
-    returns-3)
+    tie.close (tie.spec (λ c κs. search needs) (λ c. search needs) returns (λ c κs. search needs) (λ c. search needs) returns-2 (λ c κs. search needs)
+    (λ c. search needs) returns-3)

@@ -7,15 +7,6 @@ use borrow.Author.Needs.{needs}
 use Rattle.ask_answers.proofs.put_digits.Statement.{statement}
 use Rattle.ask_answers.proofs.put_digits.Tie as tie
 
-to-bits-requires : tie.Need-to-bits-requires
-to-bits-requires c κs = search needs
-
-put-rounded-requires : tie.Need-put-rounded-requires
-put-rounded-requires c κs = search needs
-
-same-length : tie.Need-same-length
-same-length c = search needs
-
 returns : tie.Need-returns
 returns c =
     let at-put-rounded = c .before .before in
@@ -26,4 +17,4 @@ returns c =
     )
 
 pub put-digits-spec : {M : Type 1} → statement M
-put-digits-spec = tie.close (tie.spec to-bits-requires put-rounded-requires same-length returns)
+put-digits-spec = tie.close (tie.spec (λ c κs. search needs) (λ c κs. search needs) (λ c. search needs) returns)

@@ -13,12 +13,6 @@ use borrow.Author.Needs.{needs}
 use Rattle.ask_answers.proofs.put_find.Statement.{statement}
 use Rattle.ask_answers.proofs.put_find.Tie as tie
 
-table-by-requires : tie.Need-table-by-requires
-table-by-requires c κs = search needs
-
-stopped-requires : tie.Need-stopped-requires
-stopped-requires c κs = search needs
-
 put-job-requires : tie.Need-put-job-requires
 put-job-requires c κs =
     let at-stopped = c .before in
@@ -27,17 +21,11 @@ put-job-requires c κs =
       start .pre .0,
       (
         placed (at-table-by .table-by .result) (start .args .y) (start .args .knots .now) false
-            (table-short (start .args .k) (start .args .span) (start .pre .1 .0)
-            (at-table-by .table-by .ensures)) (start .pre .1 .1 .1 .0) (at-stopped .stopped .result) (at-stopped .stopped .ensures),
-        (
-          start .pre .1 .1 .0,
-          omega (arith, start .pre .1 .1 .1 .1),
-        ),
+            (table-short (start .args .k) (start .args .span) (start .pre .1 .0) (at-table-by .table-by .ensures)) (start .pre .1 .1 .1 .0)
+            (at-stopped .stopped .result) (at-stopped .stopped .ensures),
+        (start .pre .1 .1 .0, omega (arith, start .pre .1 .1 .1 .1)),
       ),
     )
-
-same-length : tie.Need-same-length
-same-length c = search needs
 
 returns : tie.Need-returns
 returns c =
@@ -52,5 +40,4 @@ returns c =
     )
 
 pub put-find-spec : {M : Type 1} → statement M
-put-find-spec =
-    tie.close (tie.spec table-by-requires stopped-requires put-job-requires same-length returns)
+put-find-spec = tie.close (tie.spec (λ c κs. search needs) (λ c κs. search needs) put-job-requires (λ c. search needs) returns)

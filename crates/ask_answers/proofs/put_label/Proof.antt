@@ -9,33 +9,6 @@ use borrow.Author.Needs.{needs}
 use Rattle.ask_answers.proofs.put_label.Statement.{statement}
 use Rattle.ask_answers.proofs.put_label.Tie as tie
 
-mul-a : tie.Need-mul-a
-mul-a c = search needs
-
-add-a : tie.Need-add-a
-add-a c = search needs
-
-label-len-requires : tie.Need-label-len-requires
-label-len-requires c κs = search needs
-
-add-e : tie.Need-add-e
-add-e c = search needs
-
-sub-put-word : tie.Need-sub-put-word
-sub-put-word c = search needs
-
-part-put-word-start : tie.Need-part-put-word-start
-part-put-word-start c = search needs
-
-part-put-word-end : tie.Need-part-put-word-end
-part-put-word-end c = search needs
-
-put-word-requires : tie.Need-put-word-requires
-put-word-requires c κs = search needs
-
-same-length : tie.Need-same-length
-same-length c = search needs
-
 returns : tie.Need-returns
 returns c =
     let at-put-word = c .before .before in
@@ -53,16 +26,5 @@ returns-2 c =
 
 pub put-label-spec : {M : Type 1} → statement M
 put-label-spec =
-    tie.close
-    (tie.spec
-    mul-a
-    add-a
-    label-len-requires
-    add-e
-    sub-put-word
-    part-put-word-start
-    part-put-word-end
-    put-word-requires
-    same-length
-    returns
-    returns-2)
+    tie.close (tie.spec (λ c. search needs) (λ c. search needs) (λ c κs. search needs) (λ c. search needs) (λ c. search needs) (λ c. search needs)
+    (λ c. search needs) (λ c κs. search needs) (λ c. search needs) returns returns-2)

@@ -19,16 +19,8 @@ Inv-loop b knots span n out₀ at m r₀ i₀ out r i =
 abbrev μ-loop : tie.MeasureT-loop
 μ-loop b knots span n out₀ at m r₀ i₀ out r i = m - i
 
-sub-m : tie.Need-sub-m Inv-loop μ-loop
-sub-m c = search needs
-
-div-m : tie.Need-div-m Inv-loop μ-loop
-div-m c = search needs
-
 add-m : tie.Need-add-m Inv-loop μ-loop
-add-m c =
-    let start = c .before .before in
-    omega (arith, div-le-self (start .args .span - 1) (start .args .n))
+add-m c = let start = c .before .before in omega (arith, div-le-self (start .args .span - 1) (start .args .n))
 
 loop-holds : tie.Need-loop-holds Inv-loop μ-loop
 loop-holds c =
@@ -44,10 +36,10 @@ mul-put-moment c =
 
 put-moment-requires : tie.Need-put-moment-requires Inv-loop μ-loop
 put-moment-requires c κs =
-    let at-loop-test = c .before in
-    let at-loop = at-loop-test .before in
+    let at-loop = c .before .before in
     let start = at-loop .before .before .before in
-    let h : at-loop .loop .i < multiplesBelow (start .args .span) (start .args .n) = omega (arith, at-loop .loop .inv .0, at-loop-test .loop-test .taken) in (
+    let h : at-loop .loop .i < multiplesBelow (start .args .span) (start .args .n) =
+    omega (arith, at-loop .loop .inv .0, c .before .loop-test .taken) in (
       omega (arith, multiple-below (start .args .span) (start .args .n) (at-loop .loop .i) h, start .pre .1 .0),
       omega (
         arith,
@@ -66,9 +58,6 @@ add-i c =
     let h : at-loop .loop .i < multiplesBelow (start .args .span) (start .args .n) = omega (arith, at-loop .loop .inv .0, at-loop-test .loop-test .taken) in
     omega (arith, multiples-few (start .args .span) (start .args .n) (at-loop .loop .i) (start .pre .1 .0) (start .pre .1 .1 .0) h)
 
-loop-less : tie.Need-loop-less Inv-loop μ-loop
-loop-less c = search needs
-
 loop-again : tie.Need-loop-again Inv-loop μ-loop
 loop-again c =
     let at-put-moment = c .before .before in
@@ -81,9 +70,6 @@ loop-again c =
           (at-put-moment .put-moment .ensures .0),
       omega (arith, at-put-moment .put-moment .ensures .1, at-loop .loop .inv .3),
     )
-
-same-length : tie.Need-same-length Inv-loop μ-loop
-same-length c = search needs
 
 returns : tie.Need-returns Inv-loop μ-loop
 returns c =
@@ -101,18 +87,5 @@ returns c =
 
 pub put-multiples-spec : {M : Type 1} → statement M
 put-multiples-spec =
-    tie.close
-    (tie.spec
-    Inv-loop
-    μ-loop
-    sub-m
-    div-m
-    add-m
-    loop-holds
-    mul-put-moment
-    put-moment-requires
-    add-i
-    loop-less
-    loop-again
-    same-length
-    returns)
+    tie.close (tie.spec Inv-loop μ-loop (λ c. search needs) (λ c. search needs) add-m loop-holds mul-put-moment put-moment-requires add-i
+    (λ c. search needs) loop-again (λ c. search needs) returns)

@@ -5,27 +5,6 @@ use borrow.Author.Needs.{needs}
 use Rattle.ask_answers.proofs.put_reached.Statement.{statement}
 use Rattle.ask_answers.proofs.put_reached.Tie as tie
 
-slice-aggregate-put-word : tie.Need-slice-aggregate-put-word
-slice-aggregate-put-word c = search needs
-
-put-word-requires : tie.Need-put-word-requires
-put-word-requires c κs = search needs
-
-put-digits-requires : tie.Need-put-digits-requires
-put-digits-requires c κs = search needs
-
-put-byte-requires : tie.Need-put-byte-requires
-put-byte-requires c κs = search needs
-
-put-when-requires : tie.Need-put-when-requires
-put-when-requires c κs = search needs
-
-put-rows-requires : tie.Need-put-rows-requires
-put-rows-requires c κs = search needs
-
-same-length : tie.Need-same-length
-same-length c = search needs
-
 returns : tie.Need-returns
 returns c =
     let at-put-rows = c .before .before in
@@ -40,21 +19,12 @@ returns c =
         at-put-word .put-word .ensures .next,
         at-put-digits .put-digits .ensures .1,
         at-put-byte .put-byte .ensures .next,
-        at-put-when
-            .put-when .ensures .1,
+        at-put-when .put-when .ensures .1,
         at-put-rows .put-rows .ensures .1,
       ),
     )
 
 pub put-reached-spec : {M : Type 1} → statement M
 put-reached-spec =
-    tie.close
-    (tie.spec
-    slice-aggregate-put-word
-    put-word-requires
-    put-digits-requires
-    put-byte-requires
-    put-when-requires
-    put-rows-requires
-    same-length
-    returns)
+    tie.close (tie.spec (λ c. search needs) (λ c κs. search needs) (λ c κs. search needs) (λ c κs. search needs) (λ c κs. search needs)
+    (λ c κs. search needs) (λ c. search needs) returns)

@@ -11,28 +11,15 @@ use borrow.Author.Needs.{needs}
 use Rattle.ask_answers.proofs.put_row.Statement.{statement}
 use Rattle.ask_answers.proofs.put_row.Tie as tie
 
-curve-seconds-requires : tie.Need-curve-seconds-requires
-curve-seconds-requires c κs = search needs
-
-is-good-requires : tie.Need-is-good-requires
-is-good-requires c κs = search needs
-
 returns : tie.Need-returns
 returns c =
-    let at-is-good = c .before in
-    let at-curve-seconds = at-is-good .before in
+    let at-curve-seconds = c .before .before in
     let start = at-curve-seconds .before .before in (
       λ ks e. as-text (row-good (start .args .k) ks (start .args .m) (at-curve-seconds .curve-seconds .result)
           (at-curve-seconds .curve-seconds .ensures ∙ ap (λ (x : ℕ). start .args .m * segmentsOf (basisOf (start .args .k)) x) (sym e))
-          (at-is-good .is-good .ensures) (c .if1 .taken)) (nothing _ _),
+          (c .before .is-good .ensures) (c .if1 .taken)) (nothing _ _),
       omega arith,
     )
-
-put-refused-requires : tie.Need-put-refused-requires
-put-refused-requires c κs = search needs
-
-same-length : tie.Need-same-length
-same-length c = search needs
 
 returns-2 : tie.Need-returns-2
 returns-2 c =
@@ -48,12 +35,4 @@ returns-2 c =
     )
 
 pub put-row-spec : {M : Type 1} → statement M
-put-row-spec =
-    tie.close
-    (tie.spec
-    curve-seconds-requires
-    is-good-requires
-    returns
-    put-refused-requires
-    same-length
-    returns-2)
+put-row-spec = tie.close (tie.spec (λ c κs. search needs) (λ c κs. search needs) returns (λ c κs. search needs) (λ c. search needs) returns-2)

@@ -5,18 +5,6 @@ use borrow.Author.Needs.{needs}
 use Rattle.ask_answers.proofs.put_side.Statement.{statement}
 use Rattle.ask_answers.proofs.put_side.Tie as tie
 
-put-word-requires : tie.Need-put-word-requires
-put-word-requires c κs = search needs
-
-put-digits-requires : tie.Need-put-digits-requires
-put-digits-requires c κs = search needs
-
-put-byte-requires : tie.Need-put-byte-requires
-put-byte-requires c κs = search needs
-
-same-length : tie.Need-same-length
-same-length c = search needs
-
 returns : tie.Need-returns
 returns c =
     let at-put-byte = c .before .before in
@@ -27,6 +15,4 @@ returns c =
     )
 
 pub put-side-spec : {M : Type 1} → statement M
-put-side-spec =
-    tie.close
-    (tie.spec put-word-requires put-digits-requires put-byte-requires same-length returns)
+put-side-spec = tie.close (tie.spec (λ c κs. search needs) (λ c κs. search needs) (λ c κs. search needs) (λ c. search needs) returns)

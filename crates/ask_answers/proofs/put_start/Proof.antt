@@ -13,31 +13,13 @@ use borrow.Author.Needs.{needs}
 use Rattle.ask_answers.proofs.put_start.Statement.{statement}
 use Rattle.ask_answers.proofs.put_start.Tie as tie
 
-first-row-requires : tie.Need-first-row-requires
-first-row-requires c κs = search needs
-
-row-step-requires : tie.Need-row-step-requires
-row-step-requires c κs = search needs
-
 mul-i : tie.Need-mul-i
-mul-i c =
-    let start = c .before .before .before .before in
-    omega (arith, mul-le-mul (start .pre .1 .0) (c .row-step .ensures .1 .1))
+mul-i c = let start = c .before .before .before .before in omega (arith, mul-le-mul (start .pre .1 .0) (c .row-step .ensures .1 .1))
 
 add-i : tie.Need-add-i
 add-i c =
-    let at-first-row = c .before in
-    let start = at-first-row .before .before .before in
-    omega (arith, mul-le-mul (start .pre .1 .0) (c .row-step .ensures .1 .1), at-first-row .first-row .ensures .1)
-
-put-byte-requires : tie.Need-put-byte-requires
-put-byte-requires c κs = search needs
-
-put-label-requires : tie.Need-put-label-requires
-put-label-requires c κs = search needs
-
-same-length : tie.Need-same-length
-same-length c = search needs
+    let start = c .before .before .before .before in
+    omega (arith, mul-le-mul (start .pre .1 .0) (c .row-step .ensures .1 .1), c .before .first-row .ensures .1)
 
 returns : tie.Need-returns
 returns c =
@@ -55,12 +37,4 @@ returns c =
 pub put-start-spec : {M : Type 1} → statement M
 put-start-spec =
     tie.close
-    (tie.spec
-    first-row-requires
-    row-step-requires
-    mul-i
-    add-i
-    put-byte-requires
-    put-label-requires
-    same-length
-    returns)
+    (tie.spec (λ c κs. search needs) (λ c κs. search needs) mul-i add-i (λ c κs. search needs) (λ c κs. search needs) (λ c. search needs) returns)

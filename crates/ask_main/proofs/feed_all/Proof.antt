@@ -1,10 +1,9 @@
 -- Invariant: the bytes handed on are those before `from`; each pass takes one or more.
 use mathlib.Core.Path.{_≡_}
-use Prim.Native.Nat.{_≤_, _-_, _*_}
+use Prim.Native.Nat.{_≤_, _-_}
 use lib.ListN.{length, take}
 use Rattle.sheet.specs.Sheet.{most}
 use Rattle.ask_sheet.specs.Contract.{cells}
-use Rattle.ask_verdict.specs.Contract.{longest}
 use Rattle.lines_machine.specs.Program.{widest}
 use Rattle.lines_machine.specs.Bytes.{ranOf}
 use Rattle.lines_machine.proofs.Feeding.{ran-none, ran-on, ran-all}
@@ -42,64 +41,32 @@ feed-requires c κs =
     let at-loop = c .before .before .before .before .before .before in
     let l = at-loop .loop in (l .inv .0, (omega (arith, l .inv .1), (l .inv .7, (l .inv .4, (l .inv .5, l .inv .6)))))
 
-sub-written : tie.Need-sub-written Inv-loop μ-loop
-sub-written c = search needs
-
-part-written-start : tie.Need-part-written-start Inv-loop μ-loop
-part-written-start c = search needs
-
-part-written-end : tie.Need-part-written-end Inv-loop μ-loop
-part-written-end c = search needs
-
-written-requires : tie.Need-written-requires Inv-loop μ-loop
-written-requires c κs = search needs
-
 loop-less : tie.Need-loop-less Inv-loop μ-loop
 loop-less c =
     let at-feed = c .before .before .before .before .before .before .before .before .before .before .before .before .before in
     let at-loop-test = at-feed .before .before .before .before .before .before in
     let at-loop = at-loop-test .before in
     let start = at-loop .before .before .before .before .before .before in
-    let f = at-feed .feed .ensures in let l = at-loop .loop in let t = at-loop-test .loop-test .taken in omega (
-      arith,
-      t,
-      f .1 .1 .1 .0,
-      f .1 .1 .1 .1 .1
-          t (omega (arith, l .inv .2, start .pre)),
-    )
+    let f = at-feed .feed .ensures in
+    let l = at-loop .loop in
+    let t = at-loop-test .loop-test .taken in
+    omega (arith, t, f .1 .1 .1 .0, f .1 .1 .1 .1 .1 t (omega (arith, l .inv .2, start .pre)))
 
 loop-again : tie.Need-loop-again Inv-loop μ-loop
 loop-again c =
-    let l = c .before .before .before .before .before .before .before .before .before .before .before .before .before .before .before .before .before
-    .before .before .before .loop in let f = c .before .before .before .before .before .before .before .before .before .before .before .before .before
-    .feed in (
+    let at-feed = c .before .before .before .before .before .before .before .before .before .before .before .before .before in
+    let start = at-feed .before .before .before .before .before .before .before .before .before .before .before .before .before in
+    let l = at-feed .before .before .before .before .before .before .before .loop in
+    let f = at-feed .feed in (
       f .ensures .1 .1 .1 .0,
       search needs,
       search needs,
-      ran-on askProgram _ (c .before .before .before .before .before .before .before .before
-          .before .before .before .before .before .before .before .before .before .before .before .before .before .before .before .before .before .before .args
-          .chunk .now) (l .«from») (f .result .next) (l .inv .0) (f .ensures .1 .1 .0) (l .inv .3) (f .ensures .0),
+      ran-on askProgram _ (start .args .chunk .now) (l .«from») (f .result .next) (l .inv .0) (f .ensures .1 .1 .0) (l .inv .3) (f .ensures .0),
       search needs,
       search needs,
       search needs,
-      f
-          .ensures .1 .0,
+      f .ensures .1 .0,
     )
-
-same-length : tie.Need-same-length Inv-loop μ-loop
-same-length c = search needs
-
-same-length-2 : tie.Need-same-length-2 Inv-loop μ-loop
-same-length-2 c = search needs
-
-same-length-3 : tie.Need-same-length-3 Inv-loop μ-loop
-same-length-3 c = search needs
-
-same-length-4 : tie.Need-same-length-4 Inv-loop μ-loop
-same-length-4 c = search needs
-
-same-length-5 : tie.Need-same-length-5 Inv-loop μ-loop
-same-length-5 c = search needs
 
 returns : tie.Need-returns Inv-loop μ-loop
 returns c =
@@ -108,21 +75,5 @@ returns c =
 
 pub feed-all-spec : {M : Type 1} → statement M
 feed-all-spec =
-    tie.close
-    (tie.spec
-    Inv-loop
-    μ-loop
-    loop-holds
-    feed-requires
-    sub-written
-    part-written-start
-    part-written-end
-    written-requires
-    loop-less
-    loop-again
-    same-length
-    same-length-2
-    same-length-3
-    same-length-4
-    same-length-5
-    returns)
+    tie.close (tie.spec Inv-loop μ-loop loop-holds feed-requires (λ c. search needs) (λ c. search needs) (λ c. search needs) (λ c κs. search needs)
+    loop-less loop-again (λ c. search needs) (λ c. search needs) (λ c. search needs) (λ c. search needs) (λ c. search needs) returns)

@@ -1,61 +1,26 @@
 -- What a line does to each state of the sheet, case by case.
 use Prim.Native.Nat.{_≤_, _+_}
-use Rattle.sheet.specs.Sheet.{most}
-use Rattle.ask_sheet.specs.Contract.{labelsTo, lastLine}
+use Rattle.ask_sheet.specs.Contract.{lastLine}
 use Rattle.ask_sheet.proofs.Lines.{named-line, grown-line, over-first, over-later, still-faulty}
 use native.Mathlib.Omega.{arith}
 use borrow.Author.Needs.{needs}
 use Rattle.ask_sheet.proofs.line.Statement.{statement}
 use Rattle.ask_sheet.proofs.line.Tie as tie
 
-enum-told : tie.Need-enum-told
-enum-told c = search needs
-
-sub-first : tie.Need-sub-first
-sub-first c = search needs
-
-part-first-start : tie.Need-part-first-start
-part-first-start c = search needs
-
-part-first-end : tie.Need-part-first-end
-part-first-end c = search needs
-
-first-requires : tie.Need-first-requires
-first-requires c κs = search needs
-
 returns : tie.Need-returns
 returns c =
     let at-enum-told = c .before .before .before in
     let start = at-enum-told .before .before .before .before in
     rw (at-enum-told .enum-told .given .1) (
-      named-line (start .args .len) (start .args .line .now) (omega arith) (c .first .ensures .0
-          (start .args .rows .now) (start .args .labels .now)),
+      named-line (start .args .len) (start .args .line .now) (omega arith) (c .first .ensures .0 (start .args .rows .now) (start .args .labels .now)),
       c .first .ensures .1,
     )
-
-enum-known-h : tie.Need-enum-known-h
-enum-known-h c = search needs
-
-sub-add : tie.Need-sub-add
-sub-add c = search needs
-
-part-add-start : tie.Need-part-add-start
-part-add-start c = search needs
-
-part-add-end : tie.Need-part-add-end
-part-add-end c = search needs
 
 add-requires : tie.Need-add-requires
 add-requires c κs =
     let at-h = c .before .before .before .before .before in
     let start = at-h .before .before .before .before in
     let k : at-h .h .given .0 .1 .0 + 2 ≤ lastLine = rw (at-h .h .given .1) at (start .pre .1 .0) in (omega arith, start .pre .1 .1)
-
-same-length : tie.Need-same-length
-same-length c = search needs
-
-same-length-2 : tie.Need-same-length-2
-same-length-2 c = search needs
 
 returns-2 : tie.Need-returns-2
 returns-2 c =
@@ -74,9 +39,6 @@ add-t26 c =
     let start = at-h .before .before .before .before in
     let k : at-h .h .given .0 .1 .0 + 2 ≤ lastLine = rw (at-h .h .given .1) at (start .pre .1 .0) in omega arith
 
-enum-known-h-2 : tie.Need-enum-known-h-2
-enum-known-h-2 c = search needs
-
 returns-3 : tie.Need-returns-3
 returns-3 c =
     let start = c .before .before .before .before .before in
@@ -86,41 +48,18 @@ returns-4 : tie.Need-returns-4
 returns-4 c =
     let at-h = c .before .before in
     let start = at-h .before .before .before .before in
-    let k : at-h .h .given .0 .1 .0 + 2 ≤ lastLine = rw (at-h .h .given .1) at (start .pre .1 .0) in rw (at-h .h .given .1) (
-      over-later _ _
-          (start .args .rows .now) _ (start .args .len) (start .args .line .now) (omega arith) (start .pre .1 .1 .0) (omega arith),
-      k,
-    )
+    let k : at-h .h .given .0 .1 .0 + 2 ≤ lastLine = rw (at-h .h .given .1) at (start .pre .1 .0) in
+    rw (at-h .h .given .1)
+    (over-later _ _ (start .args .rows .now) _ (start .args .len) (start .args .line .now) (omega arith) (start .pre .1 .1 .0) (omega arith), k)
 
 returns-5 : tie.Need-returns-5
 returns-5 c =
     let start = c .before .before .before .before .before in
-    let k : c .before .h2 .given .0 .0 ≤ lastLine = rw (c .before .h2 .given .1) at (start .pre .1 .0) in rw (c .before .h2 .given .1) (
-      still-faulty _ _
-          _,
-      k,
-    )
+    let k : c .before .h2 .given .0 .0 ≤ lastLine = rw (c .before .h2 .given .1) at (start .pre .1 .0) in
+    rw (c .before .h2 .given .1) (still-faulty _ _ _, k)
 
 pub line-spec : {M : Type 1} → statement M
 line-spec =
-    tie.close
-    (tie.spec
-    enum-told
-    sub-first
-    part-first-start
-    part-first-end
-    first-requires
-    returns
-    enum-known-h
-    sub-add
-    part-add-start
-    part-add-end
-    add-requires
-    same-length
-    same-length-2
-    returns-2
-    add-t26
-    enum-known-h-2
-    returns-3
-    returns-4
-    returns-5)
+    tie.close (tie.spec (λ c. search needs) (λ c. search needs) (λ c. search needs) (λ c. search needs) (λ c κs. search needs) returns
+    (λ c. search needs) (λ c. search needs) (λ c. search needs) (λ c. search needs) add-requires (λ c. search needs) (λ c. search needs) returns-2
+    add-t26 (λ c. search needs) returns-3 returns-4 returns-5)

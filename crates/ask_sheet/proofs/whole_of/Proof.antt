@@ -1,5 +1,5 @@
 -- A number with its sign.
-use mathlib.Core.Path.{refl, sym, ap, _∙_}
+use mathlib.Core.Path.{sym, ap, _∙_}
 use mathlib.Core.Bool.{Bool}
 use Rattle.whole.specs.Held.{held}
 use Rattle.ask_sheet.specs.Sheet.{wholeOf}
@@ -8,17 +8,11 @@ use borrow.Author.Needs.{needs}
 use Rattle.ask_sheet.proofs.whole_of.Statement.{statement}
 use Rattle.ask_sheet.proofs.whole_of.Tie as tie
 
-down-requires : tie.Need-down-requires
-down-requires c κs = search needs
-
 returns : tie.Need-returns
 returns c =
     let start = c .before .before in
     ap held (c .down .ensures ∙ ap (λ (b : Bool). wholeOf b (start .args .n)) (sym (c .before .if1 .taken))) ∙ whole-held (start .args .minus)
     (start .args .n) (start .pre)
-
-up-requires : tie.Need-up-requires
-up-requires c κs = search needs
 
 returns-2 : tie.Need-returns-2
 returns-2 c =
@@ -27,10 +21,4 @@ returns-2 c =
     (start .args .n) (start .pre)
 
 pub whole-of-spec : {M : Type 1} → statement M
-whole-of-spec =
-    tie.close
-    (tie.spec
-    down-requires
-    returns
-    up-requires
-    returns-2)
+whole-of-spec = tie.close (tie.spec (λ c κs. search needs) returns (λ c κs. search needs) returns-2)

@@ -1,5 +1,5 @@
 -- One division, and the sign only where something is left of the number.
-use mathlib.Core.Path.{_≡_, refl, sym, ap, _∙_, subst}
+use mathlib.Core.Path.{_∙_}
 use lib.Dec.{le→leb}
 use Prim.Native.Nat.{_^_}
 use lib.Ieee.{inFloat, ofBits}
@@ -8,9 +8,6 @@ use native.Mathlib.Omega.{arith}
 use borrow.Author.Needs.{needs}
 use Rattle.ask_verdict.proofs.double_of.Statement.{statement}
 use Rattle.ask_verdict.proofs.double_of.Tie as tie
-
-size-requires : tie.Need-size-requires
-size-requires c κs = search needs
 
 returns : tie.Need-returns
 unfolding ofBits
@@ -28,11 +25,11 @@ int-to-float-result c =
 returns-2 : tie.Need-returns-2
 unfolding ofBits
 returns-2 c =
-    let at-if1 = c .before .before in
-    let at-size = at-if1 .before in
+    let at-size = c .before .before .before in
     let start = at-size .before in
-    plus-knot (at-size .size .result) (omega (arith, size-is (start .args .z) (start .pre) (at-size .size .ensures), start .pre)) (at-if1 .if1 .left) ∙
-    up-knot (start .args .z) (at-size .size .result) (size-is (start .args .z) (start .pre) (at-size .size .ensures)) (start .pre) (c .before .if2 .taken)
+    plus-knot (at-size .size .result) (omega (arith, size-is (start .args .z) (start .pre) (at-size .size .ensures), start .pre))
+    (c .before .before .if1 .left) ∙ up-knot (start .args .z) (at-size .size .result) (size-is (start .args .z) (start .pre) (at-size .size .ensures))
+    (start .pre) (c .before .if2 .taken)
 
 int-to-float-result-2 : tie.Need-int-to-float-result-2
 unfolding inFloat
@@ -44,20 +41,11 @@ int-to-float-result-2 c =
 returns-3 : tie.Need-returns-3
 unfolding ofBits
 returns-3 c =
-    let at-if1 = c .before .before in
-    let at-size = at-if1 .before in
+    let at-size = c .before .before .before in
     let start = at-size .before in
-    minus-knot (at-size .size .result) (omega (arith, size-is (start .args .z) (start .pre) (at-size .size .ensures), start .pre)) (at-if1 .if1 .left) ∙
-    down-knot (start .args .z) (at-size .size .result) (size-is (start .args .z) (start .pre) (at-size .size .ensures)) (start .pre)
-    (c .before .if2 .left)
+    minus-knot (at-size .size .result) (omega (arith, size-is (start .args .z) (start .pre) (at-size .size .ensures), start .pre))
+    (c .before .before .if1 .left) ∙ down-knot (start .args .z) (at-size .size .result)
+    (size-is (start .args .z) (start .pre) (at-size .size .ensures)) (start .pre) (c .before .if2 .left)
 
 pub double-of-spec : {M : Type 1} → statement M
-double-of-spec =
-    tie.close
-    (tie.spec
-    size-requires
-    returns
-    int-to-float-result
-    returns-2
-    int-to-float-result-2
-    returns-3)
+double-of-spec = tie.close (tie.spec (λ c κs. search needs) returns int-to-float-result returns-2 int-to-float-result-2 returns-3)

@@ -1,10 +1,9 @@
 -- Invariant: the knots passed are written.
-use mathlib.Core.Path.{_≡_, refl, sym, ap, _∙_, subst}
-use Rattle.whole.specs.Held.{held, heldAll, turnedAll}
+use mathlib.Core.Path.{_≡_, refl}
+use Rattle.whole.specs.Held.{heldAll}
 use mathlib.Core.List.{map}
-use Prim.Native.Nat.{ℕ, _+_, _-_, _≤_, _<_}
-use lib.ListN.{length, take, getD}
-use lib.IntN.{pos}
+use Prim.Native.Nat.{_-_, _≤_}
+use lib.ListN.{length, take}
 use Rattle.whole.proofs.Held.{small-at}
 use Rattle.turns_back.specs.Call as turns
 use Rattle.ask_verdict.specs.Curve.{doubleOf}
@@ -23,29 +22,10 @@ abbrev μ-loop : tie.MeasureT-loop
 loop-holds : tie.Need-loop-holds Inv-loop μ-loop
 loop-holds c = (omega arith, (refl, refl))
 
-mul-double-of : tie.Need-mul-double-of Inv-loop μ-loop
-mul-double-of c = search needs
-
-shared-slice-copy-out-double-of : tie.Need-shared-slice-copy-out-double-of Inv-loop μ-loop
-shared-slice-copy-out-double-of c = search needs
-
 double-of-requires : tie.Need-double-of-requires Inv-loop μ-loop
 double-of-requires c κs =
-    let at-loop = c .before .before in
-    let start = at-loop .before .before in
-    small-at turns.most (start .args .whole .now) (start .pre .0) (at-loop .loop .i) (omega (arith, c .before .loop-test .taken))
-
-mul-knots : tie.Need-mul-knots Inv-loop μ-loop
-mul-knots c = search needs
-
-slice-write-knots : tie.Need-slice-write-knots Inv-loop μ-loop
-slice-write-knots c = search needs
-
-add-i : tie.Need-add-i Inv-loop μ-loop
-add-i c = search needs
-
-loop-less : tie.Need-loop-less Inv-loop μ-loop
-loop-less c = search needs
+    let start = c .before .before .before .before in
+    small-at turns.most (start .args .whole .now) (start .pre .0) (c .before .before .loop .i) (omega (arith, c .before .loop-test .taken))
 
 loop-again : tie.Need-loop-again Inv-loop μ-loop
 loop-again c =
@@ -61,32 +41,13 @@ loop-again c =
       ),
     )
 
-same-length : tie.Need-same-length Inv-loop μ-loop
-same-length c = search needs
-
 returns : tie.Need-returns Inv-loop μ-loop
 returns c =
     let start = c .before .before .before in
-    let e : c .before .loop .i ≡ length (start .args .whole .now) = omega arith in (
-      filled (start .args .whole .now) (c .before .loop .knots) (rw e at
-          (c .before .loop .inv .1 .1)),
-      c .before .loop .inv .1 .0,
-    )
+    let e : c .before .loop .i ≡ length (start .args .whole .now) = omega arith in
+    (filled (start .args .whole .now) (c .before .loop .knots) (rw e at (c .before .loop .inv .1 .1)), c .before .loop .inv .1 .0)
 
 pub fill-spec : {M : Type 1} → statement M
 fill-spec =
-    tie.close
-    (tie.spec
-    Inv-loop
-    μ-loop
-    loop-holds
-    mul-double-of
-    shared-slice-copy-out-double-of
-    double-of-requires
-    mul-knots
-    slice-write-knots
-    add-i
-    loop-less
-    loop-again
-    same-length
-    returns)
+    tie.close (tie.spec Inv-loop μ-loop loop-holds (λ c. search needs) (λ c. search needs) double-of-requires (λ c. search needs) (λ c. search needs)
+    (λ c. search needs) (λ c. search needs) loop-again (λ c. search needs) returns)

@@ -1,7 +1,7 @@
 -- Invariant: none before j is the same, so that the first from there on is the first of all.
-use mathlib.Core.Path.{_≡_, refl, sym, ap, _∙_, subst}
-use mathlib.Core.List.{List, []}
-use Prim.Native.Nat.{ℕ, _-_, _≤_, _<_}
+use mathlib.Core.Path.{_≡_, sym, _∙_}
+use mathlib.Core.List.{[]}
+use Prim.Native.Nat.{_-_, _≤_}
 use lib.ListN.{getD}
 use Rattle.ask_sheet.specs.Contract.{labelsTo}
 use Rattle.ask_verdict.specs.Faults.{sameFrom, firstSame}
@@ -20,47 +20,32 @@ abbrev μ-loop : tie.MeasureT-loop
 loop-holds : tie.Need-loop-holds Inv-loop μ-loop
 loop-holds c = (omega arith, from-first (labelsTo (c .before .args .labels .now) (c .before .args .n)) (c .before .args .i))
 
-is-same-requires : tie.Need-is-same-requires Inv-loop μ-loop
-is-same-requires c κs = search needs
-
 returns : tie.Need-returns Inv-loop μ-loop
 returns c =
     let at-loop-test = c .before .before in
     let at-loop = at-loop-test .before in
     let start = at-loop .before .before in
-    let a = start .args in let j = at-loop .loop .j in let e = both (label-of (a .labels .now) (a .n) j (omega (
-      arith,
-      start .pre .0,
-      at-loop-test .loop-test .taken,
-    ))) (label-of (a .labels .now) (a .n) (a .i) (start .pre .0)) in (
-      found (labelsTo (a .labels .now) (a .n)) _ (a .i) j
-          (omega (arith, at-loop-test .loop-test .taken)) (at-loop .loop .inv .1) (e ∙ sym (c .before .is-same .ensures) ∙ c .if1 .taken),
-      omega (
-        arith,
-        at-loop .loop .inv .0,
-      ),
+    let a = start .args in
+    let j = at-loop .loop .j in
+    let e = both (label-of (a .labels .now) (a .n) j (omega (arith, start .pre .0, at-loop-test .loop-test .taken)))
+    (label-of (a .labels .now) (a .n) (a .i) (start .pre .0)) in (
+      found (labelsTo (a .labels .now) (a .n)) _ (a .i) j (omega (arith, at-loop-test .loop-test .taken)) (at-loop .loop .inv .1)
+          (e ∙ sym (c .before .is-same .ensures) ∙ c .if1 .taken),
+      omega (arith, at-loop .loop .inv .0),
     )
-
-add-j : tie.Need-add-j Inv-loop μ-loop
-add-j c = search needs
-
-loop-less : tie.Need-loop-less Inv-loop μ-loop
-loop-less c = search needs
 
 loop-again : tie.Need-loop-again Inv-loop μ-loop
 loop-again c =
     let at-loop-test = c .before .before in
     let at-loop = at-loop-test .before in
     let start = at-loop .before .before in
-    let a = start .args in let j = at-loop .loop .j in let e = both (label-of (a .labels .now) (a .n) j (omega (
-      arith,
-      start .pre .0,
-      at-loop-test .loop-test .taken,
-    ))) (label-of (a .labels .now) (a .n) (a .i) (start .pre .0)) in (
+    let a = start .args in
+    let j = at-loop .loop .j in
+    let e = both (label-of (a .labels .now) (a .n) j (omega (arith, start .pre .0, at-loop-test .loop-test .taken)))
+    (label-of (a .labels .now) (a .n) (a .i) (start .pre .0)) in (
       omega (arith, at-loop-test .loop-test .taken),
-      passed
-          (labelsTo (a .labels .now) (a .n)) _ (a .i) j (omega (arith, at-loop-test .loop-test .taken)) (at-loop .loop .inv .1) (e ∙ sym
-          (c .before .is-same .ensures) ∙ c .if1 .left),
+      passed (labelsTo (a .labels .now) (a .n)) _ (a .i) j (omega (arith, at-loop-test .loop-test .taken)) (at-loop .loop .inv .1)
+          (e ∙ sym (c .before .is-same .ensures) ∙ c .if1 .left),
     )
 
 returns-2 : tie.Need-returns-2 Inv-loop μ-loop
@@ -72,14 +57,4 @@ returns-2 c =
 
 pub first-same-spec : {M : Type 1} → statement M
 first-same-spec =
-    tie.close
-    (tie.spec
-    Inv-loop
-    μ-loop
-    loop-holds
-    is-same-requires
-    returns
-    add-j
-    loop-less
-    loop-again
-    returns-2)
+    tie.close (tie.spec Inv-loop μ-loop loop-holds (λ c κs. search needs) returns (λ c. search needs) (λ c. search needs) loop-again returns-2)

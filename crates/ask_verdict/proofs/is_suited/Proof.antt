@@ -1,18 +1,9 @@
 -- Each kind has its lengths.
-use mathlib.Core.Path.{_≡_, refl, sym, ap, _∙_, subst}
+use mathlib.Core.Path.{refl}
 use borrow.Author.Tests.{lt-leb, le-leb}
 use borrow.Author.Needs.{needs}
 use Rattle.ask_verdict.proofs.is_suited.Statement.{statement}
 use Rattle.ask_verdict.proofs.is_suited.Tie as tie
-
-enum-known-k : tie.Need-enum-known-k
-enum-known-k c = search needs
-
-is-len-ok-requires : tie.Need-is-len-ok-requires
-is-len-ok-requires c κs = search needs
-
-enum-told : tie.Need-enum-told
-enum-told c = search needs
 
 returns : tie.Need-returns
 returns c = rw (c .before .enum-told .given .1, lt-leb 2 (c .before .before .before .args .n) (c .if1 .taken)) refl
@@ -24,12 +15,4 @@ returns-3 : tie.Need-returns-3
 returns-3 c = rw (c .before .enum-told .given .1, le-leb 2 (c .before .before .before .args .n) (c .if1 .left)) refl
 
 pub is-suited-spec : {M : Type 1} → statement M
-is-suited-spec =
-    tie.close
-    (tie.spec
-    enum-known-k
-    is-len-ok-requires
-    enum-told
-    returns
-    returns-2
-    returns-3)
+is-suited-spec = tie.close (tie.spec (λ c. search needs) (λ c κs. search needs) (λ c. search needs) returns returns-2 returns-3)

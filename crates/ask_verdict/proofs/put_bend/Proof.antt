@@ -1,8 +1,8 @@
 -- The row begins a segment, or none.
-use mathlib.Core.Path.{_≡_, refl, sym, ap, _∙_, subst}
-use Rattle.text.proofs.Writing.{nothing, then}
-use Rattle.ask_verdict.proofs.Texts.{as-text, one-text, no-text}
-use Rattle.whole.specs.Held.{held, heldAll, turnedAll}
+use mathlib.Core.Path.{sym, ap, _∙_}
+use Rattle.text.proofs.Writing.{nothing}
+use Rattle.ask_verdict.proofs.Texts.{as-text}
+use Rattle.whole.specs.Held.{heldAll}
 use Rattle.whole.proofs.Held.{long}
 use Rattle.basis.specs.declared.Basis.{Basis}
 use Rattle.basis.specs.Basis.{segmentsOf}
@@ -15,9 +15,6 @@ use borrow.Author.Needs.{needs}
 use Rattle.ask_verdict.proofs.put_bend.Statement.{statement}
 use Rattle.ask_verdict.proofs.put_bend.Tie as tie
 
-first-row-requires : tie.Need-first-row-requires
-first-row-requires c κs = search needs
-
 returns : tie.Need-returns
 returns c =
     let start = c .before .before .before in (
@@ -26,27 +23,15 @@ returns c =
       omega arith,
     )
 
-row-step-requires : tie.Need-row-step-requires
-row-step-requires c κs = search needs
-
-rem-if2 : tie.Need-rem-if2
-rem-if2 c = search needs
-
 returns-2 : tie.Need-returns-2
 returns-2 c =
-    let at-if1 = c .before .before in
-    let at-first-row = at-if1 .before in
+    let at-first-row = c .before .before .before in
     let start = at-first-row .before .before in (
       as-text (between-rows (start .args .k) (start .args .up) (heldAll (start .args .rows .now)) (heldAll (start .args .knots .now)) (start .args .i)
-          (start .pre .1 .0 .is) (at-first-row .first-row .ensures .0) (c .before .row-step .ensures .0) (at-if1 .if1 .left) (c .if2 .taken)) (nothing _ _),
+          (start .pre .1 .0 .is) (at-first-row .first-row .ensures .0) (c .before .row-step .ensures .0) (c .before .before .if1 .left)
+          (c .if2 .taken)) (nothing _ _),
       omega arith,
     )
-
-div-s : tie.Need-div-s
-div-s c = search needs
-
-basis-of-requires : tie.Need-basis-of-requires
-basis-of-requires c κs = search needs
 
 segments-requires : tie.Need-segments-requires
 segments-requires c κs =
@@ -55,21 +40,14 @@ segments-requires c κs =
 
 put-bend-of-requires : tie.Need-put-bend-of-requires
 put-bend-of-requires c κs =
-    let at-segments = c .before .before in
-    let at-basis-of = at-segments .before in
+    let at-basis-of = c .before .before .before in
     let start = at-basis-of .before .before .before .before .before .before in (
       start .pre .0,
       (
         start .pre .1 .0,
-        (
-          rw (← at-basis-of .basis-of .ensures) (omega (arith, at-segments .segments .ensures, c .before .if3 .taken)),
-          start .pre .1 .1,
-        ),
+        (rw (← at-basis-of .basis-of .ensures) (omega (arith, c .before .before .segments .ensures, c .before .if3 .taken)), start .pre .1 .1),
       ),
     )
-
-same-length : tie.Need-same-length
-same-length c = search needs
 
 returns-3 : tie.Need-returns-3
 returns-3 c =
@@ -92,33 +70,20 @@ returns-3 c =
 
 returns-4 : tie.Need-returns-4
 returns-4 c =
-    let at-basis-of = c .before .before in
-    let at-if2 = at-basis-of .before in
+    let at-if2 = c .before .before .before in
     let at-row-step = at-if2 .before in
     let at-if1 = at-row-step .before in
     let at-first-row = at-if1 .before in
     let start = at-first-row .before .before in
-    let e = c .before .segments .ensures ∙ ap (λ (b : Basis). segmentsOf b (length (start .args .knots .now))) (at-basis-of .basis-of .ensures) ∙ ap (λ (n
-    : ℕ). segmentsOf (basisOf (start .args .k)) n) (sym (long (start .args .knots .now))) in (
-      as-text (past-last (start .args .k) (start .args .up)
-          (heldAll (start .args .rows .now)) (heldAll (start .args .knots .now)) (start .args .i) (start .pre .1 .0 .is) (at-first-row .first-row .ensures .0)
-          (at-row-step .row-step .ensures .0) (at-if1 .if1 .left) (at-if2 .if2 .left) e (c .if3 .left)) (nothing _ _),
+    let e = c .before .segments .ensures ∙ ap (λ (b : Basis). segmentsOf b (length (start .args .knots .now))) (c .before .before .basis-of .ensures)
+    ∙ ap (λ (n : ℕ). segmentsOf (basisOf (start .args .k)) n) (sym (long (start .args .knots .now))) in (
+      as-text (past-last (start .args .k) (start .args .up) (heldAll (start .args .rows .now)) (heldAll (start .args .knots .now)) (start .args .i)
+          (start .pre .1 .0 .is) (at-first-row .first-row .ensures .0) (at-row-step .row-step .ensures .0) (at-if1 .if1 .left) (at-if2 .if2 .left) e
+          (c .if3 .left)) (nothing _ _),
       omega arith,
     )
 
 pub put-bend-spec : {M : Type 1} → statement M
 put-bend-spec =
-    tie.close
-    (tie.spec
-    first-row-requires
-    returns
-    row-step-requires
-    rem-if2
-    returns-2
-    div-s
-    basis-of-requires
-    segments-requires
-    put-bend-of-requires
-    same-length
-    returns-3
-    returns-4)
+    tie.close (tie.spec (λ c κs. search needs) returns (λ c κs. search needs) (λ c. search needs) returns-2 (λ c. search needs) (λ c κs. search needs)
+    segments-requires put-bend-of-requires (λ c. search needs) returns-3 returns-4)

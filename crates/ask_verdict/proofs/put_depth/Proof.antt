@@ -1,20 +1,11 @@
 -- The pattern, rounded.
-use mathlib.Core.Path.{_≡_, refl, sym, ap, _∙_, subst}
+use mathlib.Core.Path.{ap}
 use Prim.Native.Nat.{ℕ}
 use Rattle.text_rounded.specs.Rounded.{roundedText}
-use Rattle.ask_verdict.proofs.Texts.{as-text, one-text, no-text}
+use Rattle.ask_verdict.proofs.Texts.{as-text}
 use borrow.Author.Needs.{needs}
 use Rattle.ask_verdict.proofs.put_depth.Statement.{statement}
 use Rattle.ask_verdict.proofs.put_depth.Tie as tie
-
-to-bits-requires : tie.Need-to-bits-requires
-to-bits-requires c κs = search needs
-
-put-rounded-requires : tie.Need-put-rounded-requires
-put-rounded-requires c κs = search needs
-
-same-length : tie.Need-same-length
-same-length c = search needs
 
 returns : tie.Need-returns
 returns c =
@@ -25,10 +16,4 @@ returns c =
     )
 
 pub put-depth-spec : {M : Type 1} → statement M
-put-depth-spec =
-    tie.close
-    (tie.spec
-    to-bits-requires
-    put-rounded-requires
-    same-length
-    returns)
+put-depth-spec = tie.close (tie.spec (λ c κs. search needs) (λ c κs. search needs) (λ c. search needs) returns)

@@ -1,16 +1,10 @@
 -- The direction, the rows, and whether there is a direction.
-use mathlib.Core.Path.{_≡_, refl, sym, ap, _∙_, subst}
-use Rattle.text.proofs.Writing.{nothing, then}
-use Rattle.whole.specs.Held.{held, heldAll, turnedAll}
+use mathlib.Core.Path.{sym, ap}
+use Rattle.whole.specs.Held.{heldAll}
 use Rattle.whole.proofs.Held.{long}
-use Prim.Native.Nat.{ℕ, _*_}
+use Prim.Native.Nat.{ℕ}
 use lib.ListN.{length}
-use lib.IntN.{ℤ}
-use mathlib.Core.List.{List}
-use Rattle.basis.specs.declared.Basis.{Basis}
-use Rattle.turns_back.specs.Call.{startOf, endOf, wayOf}
 use Rattle.ask_sheet.specs.Contract.{labelsTo}
-use Rattle.ask_verdict.specs.Curve.{basisOf, knotsOf}
 use Rattle.ask_verdict.specs.Faults.{faultsTo}
 use Rattle.ask_verdict.specs.Told.{faultsText}
 use Rattle.ask_verdict.proofs.Texts.{as-text, all-rows}
@@ -20,25 +14,16 @@ use borrow.Author.Needs.{needs}
 use Rattle.ask_verdict.proofs.put_faults.Statement.{statement}
 use Rattle.ask_verdict.proofs.put_faults.Tie as tie
 
-basis-of-requires : tie.Need-basis-of-requires
-basis-of-requires c κs = search needs
-
 way-taken-requires : tie.Need-way-taken-requires
 way-taken-requires c κs =
     let start = c .before .before .before in
     let d = start .pre .0 in let e = long (start .args .knots .now) in (omega (arith, d .enough, e), (omega (arith, d .few, e), d .small))
-
-put-rows-requires : tie.Need-put-rows-requires
-put-rows-requires c κs = search needs
 
 put-flat-requires : tie.Need-put-flat-requires
 put-flat-requires c κs =
     let at-put-rows = c .before .before .before in
     let start = at-put-rows .before .before .before .before .before .before in
     omega (arith, at-put-rows .put-rows .ensures .1, at-put-rows .put-rows .ensures .0 .long, start .pre .0 .rows, long (start .args .rows .now))
-
-same-length : tie.Need-same-length
-same-length c = search needs
 
 returns : tie.Need-returns
 returns c =
@@ -47,29 +32,14 @@ returns c =
     let at-way-taken = at-put-rows .before .before in
     let at-basis-of = at-way-taken .before in
     let start = at-basis-of .before .before .before in
-    let z = heldAll (start .args .rows .now) in let ls = labelsTo (start .args .labels .now) (length (start .args .rows .now)) in (
-      all-rows
-          (start .args .k) (at-way-taken .way-taken .result) z ls (way-there (start .args .k) z (heldAll (start .args .knots .now)) (start .pre .0 .is)
-          (at-basis-of .basis-of .ensures) (at-way-taken .way-taken .ensures)) (as-text (ap (λ (n : ℕ). faultsText (faultsTo (start .args .k)
-          (at-way-taken .way-taken .result) z ls n)) (sym (long (start .args .rows .now)))) (at-put-rows .put-rows .ensures .0))
-          (at-put-flat .put-flat .ensures .0),
-      omega (
-        arith,
-        at-put-rows .put-rows .ensures .1,
-        at-put-flat .put-flat .ensures .1,
-        start .pre .0 .rows,
-        long
-            (start .args .rows .now),
-      ),
+    let z = heldAll (start .args .rows .now) in
+    let ls = labelsTo (start .args .labels .now) (length (start .args .rows .now)) in (
+      all-rows (start .args .k) (at-way-taken .way-taken .result) z ls (way-there (start .args .k) z (heldAll (start .args .knots .now))
+          (start .pre .0 .is) (at-basis-of .basis-of .ensures) (at-way-taken .way-taken .ensures)) (as-text
+          (ap (λ (n : ℕ). faultsText (faultsTo (start .args .k) (at-way-taken .way-taken .result) z ls n)) (sym (long (start .args .rows .now))))
+          (at-put-rows .put-rows .ensures .0)) (at-put-flat .put-flat .ensures .0),
+      omega (arith, at-put-rows .put-rows .ensures .1, at-put-flat .put-flat .ensures .1, start .pre .0 .rows, long (start .args .rows .now)),
     )
 
 pub put-faults-spec : {M : Type 1} → statement M
-put-faults-spec =
-    tie.close
-    (tie.spec
-    basis-of-requires
-    way-taken-requires
-    put-rows-requires
-    put-flat-requires
-    same-length
-    returns)
+put-faults-spec = tie.close (tie.spec (λ c κs. search needs) way-taken-requires (λ c κs. search needs) put-flat-requires (λ c. search needs) returns)

@@ -1,21 +1,9 @@
 -- The word, the number, two depths.
-use Rattle.text.proofs.Writing.{nothing, then}
+use Rattle.text.proofs.Writing.{then}
 use native.Mathlib.Omega.{arith}
 use borrow.Author.Needs.{needs}
 use Rattle.ask_verdict.proofs.put_fine.Statement.{statement}
 use Rattle.ask_verdict.proofs.put_fine.Tie as tie
-
-slice-aggregate-put-word : tie.Need-slice-aggregate-put-word
-slice-aggregate-put-word c = search needs
-
-put-word-requires : tie.Need-put-word-requires
-put-word-requires c κs = search needs
-
-cast-put-decimal : tie.Need-cast-put-decimal
-cast-put-decimal c = search needs
-
-put-decimal-requires : tie.Need-put-decimal-requires
-put-decimal-requires c κs = search needs
 
 put-byte-requires : tie.Need-put-byte-requires
 put-byte-requires c κs =
@@ -107,9 +95,6 @@ put-byte-requires-3 c κs =
       at-put-depth2 .put-depth2 .ensures .0 .long,
     )
 
-same-length : tie.Need-same-length
-same-length c = search needs
-
 returns : tie.Need-returns
 returns c =
     let at-put-byte3 = c .before .before in
@@ -136,16 +121,5 @@ returns c =
 
 pub put-fine-spec : {M : Type 1} → statement M
 put-fine-spec =
-    tie.close
-    (tie.spec
-    slice-aggregate-put-word
-    put-word-requires
-    cast-put-decimal
-    put-decimal-requires
-    put-byte-requires
-    put-depth-requires
-    put-byte-requires-2
-    put-depth-requires-2
-    put-byte-requires-3
-    same-length
-    returns)
+    tie.close (tie.spec (λ c. search needs) (λ c κs. search needs) (λ c. search needs) (λ c κs. search needs) put-byte-requires put-depth-requires
+    put-byte-requires-2 put-depth-requires-2 put-byte-requires-3 (λ c. search needs) returns)

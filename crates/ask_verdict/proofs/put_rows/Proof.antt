@@ -1,9 +1,9 @@
 -- Invariant: the faults of the rows passed are written.
-use mathlib.Core.Path.{_≡_, refl, sym, ap, _∙_, subst}
-use Rattle.text.proofs.Writing.{nothing, then}
-use Rattle.whole.specs.Held.{held, heldAll, turnedAll}
+use mathlib.Core.Path.{_≡_}
+use Rattle.text.proofs.Writing.{nothing}
+use Rattle.whole.specs.Held.{heldAll}
 use Rattle.whole.proofs.Held.{long}
-use Prim.Native.Nat.{ℕ, _+_, _*_, _-_, _≤_, _<_}
+use Prim.Native.Nat.{_+_, _*_, _-_, _≤_}
 use lib.ListN.{length}
 use Rattle.text.specs.Wrote.{Wrote}
 use Rattle.ask_sheet.specs.Contract.{labelsTo}
@@ -43,15 +43,7 @@ put-twice-requires c κs =
         omega (arith, d, long (start .args .rows .now)),
         (
           start .pre .1 .0,
-          omega (
-            arith,
-            d,
-            long
-                (start .args .rows .now),
-            at-loop .loop .inv .1 .1,
-            at-loop .loop .inv .1 .0 .long,
-            start .pre .1 .1,
-          ),
+          omega (arith, d, long (start .args .rows .now), at-loop .loop .inv .1 .1, at-loop .loop .inv .1 .0 .long, start .pre .1 .1),
         ),
       ),
     )
@@ -83,9 +75,6 @@ put-bent-requires c κs =
 add-i : tie.Need-add-i Inv-loop μ-loop
 add-i c = omega (arith, c .before .before .before .before .before .before .before .before .loop-test .taken)
 
-loop-less : tie.Need-loop-less Inv-loop μ-loop
-loop-less c = search needs
-
 loop-again : tie.Need-loop-again Inv-loop μ-loop
 loop-again c =
     let at-put-bent = c .before .before in
@@ -102,31 +91,13 @@ loop-again c =
       ),
     )
 
-same-length : tie.Need-same-length Inv-loop μ-loop
-same-length c = search needs
-
 returns : tie.Need-returns Inv-loop μ-loop
 returns c =
     let start = c .before .before .before .before in
-    let e : c .before .loop .i ≡ length (start .args .rows .now) = omega arith in (
-      (rw e at (c .before .loop .inv .1 .0)),
-      omega (
-        arith,
-        c .before .loop .inv .1 .1,
-      ),
-    )
+    let e : c .before .loop .i ≡ length (start .args .rows .now) = omega arith in
+    ((rw e at (c .before .loop .inv .1 .0)), omega (arith, c .before .loop .inv .1 .1))
 
 pub put-rows-spec : {M : Type 1} → statement M
 put-rows-spec =
     tie.close
-    (tie.spec
-    Inv-loop
-    μ-loop
-    loop-holds
-    put-twice-requires
-    put-bent-requires
-    add-i
-    loop-less
-    loop-again
-    same-length
-    returns)
+    (tie.spec Inv-loop μ-loop loop-holds put-twice-requires put-bent-requires add-i (λ c. search needs) loop-again (λ c. search needs) returns)

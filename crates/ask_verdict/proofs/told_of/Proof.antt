@@ -1,8 +1,7 @@
 -- Faults were written, or none.
-use mathlib.Core.Path.{_≡_, refl, sym, ap, _∙_, subst}
-use Rattle.whole.specs.Held.{held, heldAll, turnedAll}
-use lib.ListN.{length, take}
-use lib.Ieee.{Float}
+use mathlib.Core.Path.{sym, ap, _∙_}
+use Rattle.whole.specs.Held.{heldAll}
+use lib.ListN.{length}
 use mathlib.Core.List.{List, map}
 use Prim.Native.Nat.{ℕ, _-_}
 use lib.IntN.{ℤ}
@@ -17,12 +16,6 @@ use borrow.Author.Needs.{needs}
 use Rattle.ask_verdict.proofs.told_of.Statement.{statement}
 use Rattle.ask_verdict.proofs.told_of.Tie as tie
 
-put-faults-requires : tie.Need-put-faults-requires
-put-faults-requires c κs = search needs
-
-same-length : tie.Need-same-length
-same-length c = search needs
-
 returns : tie.Need-returns
 returns c =
     let at-put-faults = c .before .before .before in
@@ -32,9 +25,8 @@ returns c =
       (
         at-put-faults .put-faults .ensures .1,
         (
-          not-asked (start .args .k) (heldAll
-              (start .args .rows .now)) (labelsTo (start .args .labels .now) (length (start .args .rows .now))) (at-put-faults .put-faults .ensures .0)
-              (c .if1 .taken),
+          not-asked (start .args .k) (heldAll (start .args .rows .now)) (labelsTo (start .args .labels .now) (length (start .args .rows .now)))
+              (at-put-faults .put-faults .ensures .0) (c .if1 .taken),
           tt,
         ),
       ),
@@ -44,15 +36,6 @@ fill-requires : tie.Need-fill-requires
 fill-requires c κs =
     let start = c .before .before .before .before .before .before .before .before .before in
     (start .pre .0 .small, omega (arith, start .pre .0 .few, long (start .args .whole .now), start .pre .1 .1 .0))
-
-basis-of-requires : tie.Need-basis-of-requires
-basis-of-requires c κs = search needs
-
-sub-curve-ends : tie.Need-sub-curve-ends
-sub-curve-ends c = search needs
-
-part-curve-ends-start : tie.Need-part-curve-ends-start
-part-curve-ends-start c = search needs
 
 part-curve-ends-end : tie.Need-part-curve-ends-end
 part-curve-ends-end c =
@@ -71,17 +54,8 @@ curve-ends-requires c κs =
     let at-fill = at-basis-of .before .before .before in
     let start = at-fill .before .before .before .before .before .before .before .before .before .before in
     let l = cut-long (start .args .whole .now) _ (at-fill .fill .ensures .0) in (
-      c .segments .ensures ∙ ap (λ (n : ℕ). segmentsOf
-          (at-basis-of .basis-of .result) n) (sym l),
-      (
-        omega (arith, l, start .pre .0 .enough, long (start .args .whole .now)),
-        omega (
-          arith,
-          l,
-          start .pre .0 .few,
-          long (start .args .whole .now),
-        ),
-      ),
+      c .segments .ensures ∙ ap (λ (n : ℕ). segmentsOf (at-basis-of .basis-of .result) n) (sym l),
+      (omega (arith, l, start .pre .0 .enough, long (start .args .whole .now)), omega (arith, l, start .pre .0 .few, long (start .args .whole .now))),
     )
 
 put-fine-requires : tie.Need-put-fine-requires
@@ -89,12 +63,6 @@ put-fine-requires c κs =
     let at-put-faults = c .before .before .before .before .before .before .before .before .before .before .before .before .before in
     let start = at-put-faults .before .before .before .before .before in
     (omega (arith, start .pre .0 .rows, long (start .args .rows .now)), omega (arith, at-put-faults .put-faults .ensures .0 .long, start .pre .1 .1 .1))
-
-same-length-2 : tie.Need-same-length-2
-same-length-2 c = search needs
-
-same-length-3 : tie.Need-same-length-3
-same-length-3 c = search needs
 
 returns-2 : tie.Need-returns-2
 returns-2 c =
@@ -106,18 +74,18 @@ returns-2 c =
     let at-if1 = at-fill .before .before in
     let at-put-faults = at-if1 .before .before .before in
     let start = at-put-faults .before .before .before .before .before in
-    let z = heldAll (start .args .rows .now) in let l = cut-long (start .args .whole .now) _ (at-fill .fill .ensures .0) in let d = ends-are
-    (start .args .k) z (heldAll (start .args .whole .now)) (start .pre .0 .is) (at-basis-of .basis-of .ensures) (cut-doubles (start .args .whole .now) _
-    (at-fill .fill .ensures .0)) (at-segments .segments .ensures ∙ ap (λ (n : ℕ). segmentsOf (at-basis-of .basis-of .result) n) (sym l))
-    (at-curve-ends .curve-ends .ensures) in (
-      fine-told (start .args .k) (heldAll (start .args .rows .now)) (labelsTo (start .args .labels .now) (length
-          (start .args .rows .now))) (at-put-faults .put-faults .ensures .0) (at-if1 .if1 .left) (sym (long (start .args .rows .now))) d
-          (at-put-fine .put-fine .ensures .0),
+    let z = heldAll (start .args .rows .now) in
+    let l = cut-long (start .args .whole .now) _ (at-fill .fill .ensures .0) in
+    let d = ends-are (start .args .k) z (heldAll (start .args .whole .now)) (start .pre .0 .is) (at-basis-of .basis-of .ensures)
+    (cut-doubles (start .args .whole .now) _ (at-fill .fill .ensures .0))
+    (at-segments .segments .ensures ∙ ap (λ (n : ℕ). segmentsOf (at-basis-of .basis-of .result) n) (sym l)) (at-curve-ends .curve-ends .ensures) in (
+      fine-told (start .args .k) (heldAll (start .args .rows .now)) (labelsTo (start .args .labels .now) (length (start .args .rows .now)))
+          (at-put-faults .put-faults .ensures .0) (at-if1 .if1 .left) (sym (long (start .args .rows .now))) d (at-put-fine .put-fine .ensures .0),
       (
         at-put-fine .put-fine .ensures .1,
         (
-          may-be-asked (start .args .k) (heldAll (start .args .rows .now)) (labelsTo
-              (start .args .labels .now) (length (start .args .rows .now))) (at-put-faults .put-faults .ensures .0) (at-if1 .if1 .left)
+          may-be-asked (start .args .k) (heldAll (start .args .rows .now)) (labelsTo (start .args .labels .now) (length (start .args .rows .now)))
+              (at-put-faults .put-faults .ensures .0) (at-if1 .if1 .left)
               (at-fill .fill .ensures .0 ∙ ap (λ (y : List ℤ). map doubleOf y) (start .pre .0 .is)),
           may-ask (start .args .k) z (heldAll (start .args .whole .now)) (start .pre .0) (long (start .args .rows .now))
               (long (start .args .whole .now)),
@@ -127,19 +95,5 @@ returns-2 c =
 
 pub told-of-spec : {M : Type 1} → statement M
 told-of-spec =
-    tie.close
-    (tie.spec
-    put-faults-requires
-    same-length
-    returns
-    fill-requires
-    basis-of-requires
-    sub-curve-ends
-    part-curve-ends-start
-    part-curve-ends-end
-    segments-requires
-    curve-ends-requires
-    put-fine-requires
-    same-length-2
-    same-length-3
-    returns-2)
+    tie.close (tie.spec (λ c κs. search needs) (λ c. search needs) returns fill-requires (λ c κs. search needs) (λ c. search needs)
+    (λ c. search needs) part-curve-ends-end segments-requires curve-ends-requires put-fine-requires (λ c. search needs) (λ c. search needs) returns-2)

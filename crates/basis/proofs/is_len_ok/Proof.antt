@@ -7,11 +7,8 @@ use Rattle.basis.proofs.is_len_ok.Tie as tie
 returns : tie.Need-returns
 returns c = simp (lt-leb 4 (c .before .args .n) (c .if1 .taken))
 
-is-regular-requires : tie.Need-is-regular-requires
-is-regular-requires c κs = search needs
-
 returns-2 : tie.Need-returns-2
 returns-2 c = simp (le-leb 4 (c .before .before .args .n) (c .before .if1 .left), c .is-regular .ensures)
 
 pub is-len-ok-spec : {M : Type 1} → statement M
-is-len-ok-spec = tie.close (tie.spec returns is-regular-requires returns-2)
+is-len-ok-spec = tie.close (tie.spec returns (λ c κs. search needs) returns-2)

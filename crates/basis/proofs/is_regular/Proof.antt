@@ -4,27 +4,6 @@ use borrow.Author.Needs.{needs}
 use Rattle.basis.proofs.is_regular.Statement.{statement}
 use Rattle.basis.proofs.is_regular.Tie as tie
 
-sub-m : tie.Need-sub-m
-sub-m c = search needs
-
-enum-told : tie.Need-enum-told
-enum-told c = search needs
-
-enum-told-2 : tie.Need-enum-told-2
-enum-told-2 c = search needs
-
-enum-told-3 : tie.Need-enum-told-3
-enum-told-3 c = search needs
-
-enum-told-4 : tie.Need-enum-told-4
-enum-told-4 c = search needs
-
-enum-told-5 : tie.Need-enum-told-5
-enum-told-5 c = search needs
-
-enum-told-6 : tie.Need-enum-told-6
-enum-told-6 c = search needs
-
 returns : tie.Need-returns
 returns c = simp (c .enum-told .given .1, mod-one)
 
@@ -45,18 +24,5 @@ returns-6 c = simp (c .enum-told6 .given .1)
 
 pub is-regular-spec : {M : Type 1} → statement M
 is-regular-spec =
-    tie.close
-    (tie.spec
-    sub-m
-    enum-told
-    enum-told-2
-    enum-told-3
-    enum-told-4
-    enum-told-5
-    enum-told-6
-    returns
-    returns-2
-    returns-3
-    returns-4
-    returns-5
-    returns-6)
+    tie.close (tie.spec (λ c. search needs) (λ c. search needs) (λ c. search needs) (λ c. search needs) (λ c. search needs) (λ c. search needs)
+    (λ c. search needs) returns returns-2 returns-3 returns-4 returns-5 returns-6)

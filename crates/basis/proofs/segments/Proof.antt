@@ -6,45 +6,6 @@ use borrow.Author.Needs.{needs}
 use Rattle.basis.proofs.segments.Statement.{statement}
 use Rattle.basis.proofs.segments.Tie as tie
 
-sub-m : tie.Need-sub-m
-sub-m c = search needs
-
-enum-told : tie.Need-enum-told
-enum-told c = search needs
-
-add-result : tie.Need-add-result
-add-result c = search needs
-
-enum-told-2 : tie.Need-enum-told-2
-enum-told-2 c = search needs
-
-add-result-2 : tie.Need-add-result-2
-add-result-2 c = search needs
-
-enum-told-3 : tie.Need-enum-told-3
-enum-told-3 c = search needs
-
-add-result-3 : tie.Need-add-result-3
-add-result-3 c = search needs
-
-enum-told-4 : tie.Need-enum-told-4
-enum-told-4 c = search needs
-
-add-result-4 : tie.Need-add-result-4
-add-result-4 c = search needs
-
-enum-told-5 : tie.Need-enum-told-5
-enum-told-5 c = search needs
-
-add-result-5 : tie.Need-add-result-5
-add-result-5 c = search needs
-
-enum-told-6 : tie.Need-enum-told-6
-enum-told-6 c = search needs
-
-add-result-6 : tie.Need-add-result-6
-add-result-6 c = search needs
-
 returns : tie.Need-returns
 returns c = by-one (c .before .before .args .b) Bspline (c .before .before .args .n) (c .enum-told .given .1) refl
 
@@ -65,24 +26,6 @@ returns-6 c = by-step (c .before .before .args .b) Power (c .before .before .arg
 
 pub segments-spec : {M : Type 1} → statement M
 segments-spec =
-    tie.close
-    (tie.spec
-    sub-m
-    enum-told
-    add-result
-    enum-told-2
-    add-result-2
-    enum-told-3
-    add-result-3
-    enum-told-4
-    add-result-4
-    enum-told-5
-    add-result-5
-    enum-told-6
-    add-result-6
-    returns
-    returns-2
-    returns-3
-    returns-4
-    returns-5
-    returns-6)
+    tie.close (tie.spec (λ c. search needs) (λ c. search needs) (λ c. search needs) (λ c. search needs) (λ c. search needs) (λ c. search needs)
+    (λ c. search needs) (λ c. search needs) (λ c. search needs) (λ c. search needs) (λ c. search needs) (λ c. search needs) (λ c. search needs)
+    returns returns-2 returns-3 returns-4 returns-5 returns-6)

@@ -9,9 +9,6 @@ use Rattle.checks.proofs.asked.Tie as tie
 returns : tie.Need-returns
 returns c = simp (sym (ne-itself (c .before .args .y)) ∙ c .if1 .taken)
 
-is-precise-requires : tie.Need-is-precise-requires
-is-precise-requires c κs = search needs
-
 returns-2 : tie.Need-returns-2
 returns-2 c =
     let number = sym (ne-itself (c .before .before .before .args .y)) ∙ c .before .before .if1 .left in
@@ -19,15 +16,13 @@ returns-2 c =
 
 returns-3 : tie.Need-returns-3
 returns-3 c =
-    let p = c .before .before in
-    let number = sym (ne-itself (p .before .before .args .y)) ∙ p .before .if1 .left in
-    simp (number, sym (p .is-precise .ensures) ∙ not-false _ (c .before .if2 .left), eq-eqb _ _ (c .if3 .taken))
+    let number = sym (ne-itself (c .before .before .before .before .args .y)) ∙ c .before .before .before .if1 .left in
+    simp (number, sym (c .before .before .is-precise .ensures) ∙ not-false _ (c .before .if2 .left), eq-eqb _ _ (c .if3 .taken))
 
 returns-4 : tie.Need-returns-4
 returns-4 c =
-    let p = c .before .before in
-    let number = sym (ne-itself (p .before .before .args .y)) ∙ p .before .if1 .left in
-    simp (number, sym (p .is-precise .ensures) ∙ not-false _ (c .before .if2 .left), ne-eqb _ _ (c .if3 .left))
+    let number = sym (ne-itself (c .before .before .before .before .args .y)) ∙ c .before .before .before .if1 .left in
+    simp (number, sym (c .before .before .is-precise .ensures) ∙ not-false _ (c .before .if2 .left), ne-eqb _ _ (c .if3 .left))
 
 pub asked-spec : {M : Type 1} → statement M
-asked-spec = tie.close (tie.spec returns is-precise-requires returns-2 returns-3 returns-4)
+asked-spec = tie.close (tie.spec returns (λ c κs. search needs) returns-2 returns-3 returns-4)

@@ -8,9 +8,6 @@ use Rattle.checks.proofs.curve_length.Tie as tie
 returns : tie.Need-returns
 returns c = simp (lt-ltb (c .before .args .n) 4 (c .if1 .taken))
 
-is-regular-requires : tie.Need-is-regular-requires
-is-regular-requires c κs = search needs
-
 returns-2 : tie.Need-returns-2
 returns-2 c =
     let n = c .before .before .before .args .n in
@@ -29,4 +26,4 @@ returns-4 c =
     simp (le-ltb n 4 (p .before .if1 .left), sym (p .is-regular .ensures) ∙ not-false _ (c .before .if2 .left), le-ltb 4096 n (c .if3 .left))
 
 pub curve-length-spec : {M : Type 1} → statement M
-curve-length-spec = tie.close (tie.spec returns is-regular-requires returns-2 returns-3 returns-4)
+curve-length-spec = tie.close (tie.spec returns (λ c κs. search needs) returns-2 returns-3 returns-4)

@@ -6,12 +6,6 @@ use borrow.Author.Needs.{needs}
 use Rattle.checks.proofs.knots.Statement.{statement}
 use Rattle.checks.proofs.knots.Tie as tie
 
-all-in-range-requires : tie.Need-all-in-range-requires
-all-in-range-requires c κs = search needs
-
-bad-knot-requires : tie.Need-bad-knot-requires
-bad-knot-requires c κs = search needs
-
 returns : tie.Need-returns
 returns c = simp (sym (c .before .before .all-in-range .ensures) ∙ not-true _ (c .before .if1 .taken)) (ap Failed (c .bad-knot .ensures))
 
@@ -19,4 +13,4 @@ returns-2 : tie.Need-returns-2
 returns-2 c = simp (sym (c .before .all-in-range .ensures) ∙ not-false _ (c .if1 .left))
 
 pub knots-spec : {M : Type 1} → statement M
-knots-spec = tie.close (tie.spec all-in-range-requires bad-knot-requires returns returns-2)
+knots-spec = tie.close (tie.spec (λ c κs. search needs) (λ c κs. search needs) returns returns-2)

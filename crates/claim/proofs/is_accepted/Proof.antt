@@ -6,14 +6,6 @@ use Rattle.claim.proofs.Cases.{below-nought, above-one, in-unit}
 use borrow.Author.Needs.{needs}
 use Rattle.claim.proofs.is_accepted.Statement.{statement}
 use Rattle.claim.proofs.is_accepted.Tie as tie
-use Rattle.claim.proofs.is_accepted.Reads as reads
-use Rattle.claim.proofs.is_accepted.Lts as lts
-use Rattle.basis.proofs.step.Reads as step-reads
-use Rattle.inverse_segment.proofs.is_near.Reads as is-near-reads
-use Rattle.spline.proofs.segment.segment_value.Reads as segment-value-reads
-
-step-requires : tie.Need-step-requires
-step-requires c κs = search needs
 
 mul-start : tie.Need-mul-start
 mul-start c = let e = ap (λ (z : ℕ). c .before .before .before .before .args .s * z) (c .step .ensures .0) in search (needs, e)
@@ -27,30 +19,22 @@ sub-segment-value c = let e = ap (λ (z : ℕ). c .before .before .before .befor
 part-segment-value-start : tie.Need-part-segment-value-start
 part-segment-value-start c = let e = ap (λ (z : ℕ). c .before .before .before .before .args .s * z) (c .step .ensures .0) in search (needs, e)
 
-part-segment-value-end : tie.Need-part-segment-value-end
-part-segment-value-end c = search needs
-
 segment-value-requires : tie.Need-segment-value-requires
 segment-value-requires c κs = let e = ap (λ (z : ℕ). c .before .before .before .before .before .args .s * z) (c .before .step .ensures .0) in search (needs, e)
-
-is-near-requires : tie.Need-is-near-requires
-is-near-requires c κs = search needs
 
 returns : tie.Need-returns
 unfolding ofBits
 returns c =
-    in-unit (c .before .before .before .before .before .before .before .args .b) (c .before .before .before .before .before .before .before .args .y)
-    (c .before .before .before .before .before .before .before .args .s) (c .before .before .before .before .before .before .before .args .x)
-    (c .before .before .before .before .before .before .before .args .precision)
-    (c .before .before .before .before .before .before .before .args .knots .now) (c .before .before .before .before .before .if1 .taken)
-    (c .before .before .before .before .if2 .taken) (c .before .before .before .step .ensures .0) (c .before .segment-value .ensures)
-    (c .is-near .ensures)
+    let start = c .before .before .before .before .before .before .before in
+    in-unit (start .args .b) (start .args .y) (start .args .s) (start .args .x) (start .args .precision) (start .args .knots .now)
+    (c .before .before .before .before .before .if1 .taken) (c .before .before .before .before .if2 .taken)
+    (c .before .before .before .step .ensures .0) (c .before .segment-value .ensures) (c .is-near .ensures)
 
 returns-2 : tie.Need-returns-2
 unfolding ofBits
 returns-2 c =
-    above-one (c .before .before .before .args .b) (c .before .before .before .args .y) (c .before .before .before .args .s)
-    (c .before .before .before .args .x) (c .before .before .before .args .precision) (c .before .before .before .args .knots .now)
+    let start = c .before .before .before in
+    above-one (start .args .b) (start .args .y) (start .args .s) (start .args .x) (start .args .precision) (start .args .knots .now)
     (c .before .if1 .taken) (c .if2 .left)
 
 returns-3 : tie.Need-returns-3
@@ -61,16 +45,5 @@ returns-3 c =
 
 pub is-accepted-spec : {M : Type 1} → statement M
 is-accepted-spec =
-    tie.close
-    (tie.spec
-    step-requires
-    mul-start
-    mul-segment-value
-    sub-segment-value
-    part-segment-value-start
-    part-segment-value-end
-    segment-value-requires
-    is-near-requires
-    returns
-    returns-2
-    returns-3)
+    tie.close (tie.spec (λ c κs. search needs) mul-start mul-segment-value sub-segment-value part-segment-value-start (λ c. search needs)
+    segment-value-requires (λ c κs. search needs) returns returns-2 returns-3)

@@ -39,41 +39,14 @@ loop-holds c = let a = c .before .before .before .before .before .args in (
   omega arith,
 )
 
-sub-if1 : tie.Need-sub-if1 Inv-loop μ-loop
-sub-if1 c = search needs
-
-same-length : tie.Need-same-length Inv-loop μ-loop
-same-length c = search needs
-
-same-length-2 : tie.Need-same-length-2 Inv-loop μ-loop
-same-length-2 c = search needs
-
-same-length-3 : tie.Need-same-length-3 Inv-loop μ-loop
-same-length-3 c = search needs
-
-same-length-4 : tie.Need-same-length-4 Inv-loop μ-loop
-same-length-4 c = search needs
-
 returns : tie.Need-returns Inv-loop μ-loop
 returns c = let l = c .before .before .loop in
     (l .inv .5, (l .inv .8, (l .inv .0, (l .inv .1, (l .inv .3, λ p q. omega (arith, l .inv .5 .wrote .long))))))
 
-cut-requires : tie.Need-cut-requires Inv-loop μ-loop
-cut-requires c κs = search needs
-
-line-requires : tie.Need-line-requires Inv-loop μ-loop
-line-requires c κs = search needs
-
 add-i : tie.Need-add-i Inv-loop μ-loop
-add-i c = omega (
-  arith,
-  c .before .before .before .before .before .before .before .before .before .before .before .if2 .taken,
-  c .before .before
-      .before .before .before .before .before .before .before .before .before .before .before .before .before .before .before .before .loop .inv .9,
-)
-
-loop-less : tie.Need-loop-less Inv-loop μ-loop
-loop-less c = search needs
+add-i c =
+    let at-if2 = c .before .before .before .before .before .before .before .before .before .before .before in
+    omega (arith, at-if2 .if2 .taken, at-if2 .before .before .before .before .before .before .before .loop .inv .9)
 
 loop-again : tie.Need-loop-again Inv-loop μ-loop
 loop-again c = let a = c .before .before .before .before .before .before .before .before .before .before .before .before .before .before .before
@@ -97,9 +70,6 @@ loop-again c = let a = c .before .before .before .before .before .before .before
       l .inv .9,
     )
 
-loop-less-2 : tie.Need-loop-less-2 Inv-loop μ-loop
-loop-less-2 c = search needs
-
 loop-again-2 : tie.Need-loop-again-2 Inv-loop μ-loop
 loop-again-2 c = let a = c .before .before .before .before .before .before .before .before .before .before .before .before .before .args in
     let l = c .before .before .before .before .before .before .before .loop in
@@ -116,43 +86,11 @@ loop-again-2 c = let a = c .before .before .before .before .before .before .befo
       l .inv .9,
     )
 
-same-length-5 : tie.Need-same-length-5 Inv-loop μ-loop
-same-length-5 c = search needs
-
-same-length-6 : tie.Need-same-length-6 Inv-loop μ-loop
-same-length-6 c = search needs
-
-same-length-7 : tie.Need-same-length-7 Inv-loop μ-loop
-same-length-7 c = search needs
-
-same-length-8 : tie.Need-same-length-8 Inv-loop μ-loop
-same-length-8 c = search needs
-
 returns-2 : tie.Need-returns-2 Inv-loop μ-loop
 returns-2 c = let l = c .before .loop in (l .inv .5, (l .inv .8, (l .inv .0, (l .inv .1, (l .inv .3, λ p q. omega arith)))))
 
 pub feed-spec : {M : Type 1} → statement M
 feed-spec =
-    tie.close
-    (tie.spec
-    Inv-loop
-    μ-loop
-    loop-holds
-    sub-if1
-    same-length
-    same-length-2
-    same-length-3
-    same-length-4
-    returns
-    cut-requires
-    line-requires
-    add-i
-    loop-less
-    loop-again
-    loop-less-2
-    loop-again-2
-    same-length-5
-    same-length-6
-    same-length-7
-    same-length-8
-    returns-2)
+    tie.close (tie.spec Inv-loop μ-loop loop-holds (λ c. search needs) (λ c. search needs) (λ c. search needs) (λ c. search needs) (λ c. search needs)
+    returns (λ c κs. search needs) (λ c κs. search needs) add-i (λ c. search needs) loop-again (λ c. search needs) loop-again-2 (λ c. search needs)
+    (λ c. search needs) (λ c. search needs) (λ c. search needs) returns-2)

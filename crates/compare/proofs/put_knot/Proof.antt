@@ -5,76 +5,30 @@ use borrow.Author.Needs.{needs}
 use Rattle.compare.proofs.put_knot.Statement.{statement}
 use Rattle.compare.proofs.put_knot.Tie as tie
 
-slice-aggregate-put-word : tie.Need-slice-aggregate-put-word
-slice-aggregate-put-word c = search needs
-
-put-word-requires : tie.Need-put-word-requires
-put-word-requires c κs = search needs
-
-cast-put-decimal : tie.Need-cast-put-decimal
-cast-put-decimal c = search needs
-
-put-decimal-requires : tie.Need-put-decimal-requires
-put-decimal-requires c κs = search needs
-
-put-byte-requires : tie.Need-put-byte-requires
-put-byte-requires c κs = search needs
-
-put-hex-requires : tie.Need-put-hex-requires
-put-hex-requires c κs = search needs
-
-put-byte-requires-2 : tie.Need-put-byte-requires-2
-put-byte-requires-2 c κs = search needs
-
-put-hex-requires-2 : tie.Need-put-hex-requires-2
-put-hex-requires-2 c κs = search needs
-
-put-byte-requires-3 : tie.Need-put-byte-requires-3
-put-byte-requires-3 c κs = search needs
-
-same-length : tie.Need-same-length
-same-length c = search needs
-
 returns : tie.Need-returns
-returns c = (
-  then (then (then (then (then
-      (then (c .before .before .before .before .before .before .before .before .before .before .before .before .before .before .before .before .before
-      .before .before .before .before .before .before .before .before .before .put-word .ensures)
-      (c .before .before .before .before .before .before .before .before .before .before .before .before .before .before .before .before .before
-      .before .before .before .before .before .put-decimal .ensures .0))
-      (c .before .before .before .before .before .before .before .before .before .before .before .before .before .before .before .before
-      .before .before .put-byte .ensures))
-      (c .before .before .before .before .before .before .before .before .before .before .before .before .before .before .put-hex
-      .ensures .0)) (c .before .before .before .before .before .before .before .before .before .before .put-byte2 .ensures))
-      (c .before .before .before .before .before .before .put-hex2 .ensures .0)) (c .before .before .put-byte3 .ensures),
-  omega (
-    arith,
-    c .before .before .before .before .before .before .before .before .before .before .before .before .before .before .before .before .before .before
-        .before .before .before .before .before .before .before .before .put-word .ensures .next,
-    c .before .before .before .before .before .before .before .before .before .before .before .before .before .before .before .before .before
-        .before .before .before .before .before .put-decimal .ensures .1,
-    c .before .before .before .before .before .before .before .before .before .before .before .before .before .before .before .before
-        .before .before .put-byte .ensures .next,
-    c .before .before .before .before .before .before .before .before .before .before .before .before .before .before .put-hex
-        .ensures .1,
-    c .before .before .before .before .before .before .before .before .before .before .put-byte2 .ensures .next,
-    c .before .before .before .before .before .before .put-hex2 .ensures .1,
-    c .before .before .put-byte3 .ensures .next,
-  ),
-)
+returns c =
+    let at-put-hex2 = c .before .before .before .before .before .before in
+    let at-put-byte2 = at-put-hex2 .before .before .before .before in
+    let at-put-hex = at-put-byte2 .before .before .before .before in
+    let at-put-byte = at-put-hex .before .before .before .before in
+    let at-put-decimal = at-put-byte .before .before .before .before in
+    let at-put-word = at-put-decimal .before .before .before .before in (
+      then (then (then (then (then (then (at-put-word .put-word .ensures) (at-put-decimal .put-decimal .ensures .0)) (at-put-byte .put-byte .ensures))
+          (at-put-hex .put-hex .ensures .0)) (at-put-byte2 .put-byte2 .ensures)) (at-put-hex2 .put-hex2 .ensures .0))
+          (c .before .before .put-byte3 .ensures),
+      omega (
+        arith,
+        at-put-word .put-word .ensures .next,
+        at-put-decimal .put-decimal .ensures .1,
+        at-put-byte .put-byte .ensures .next,
+        at-put-hex .put-hex .ensures .1,
+        at-put-byte2 .put-byte2 .ensures .next,
+        at-put-hex2 .put-hex2 .ensures .1,
+        c .before .before .put-byte3 .ensures .next,
+      ),
+    )
 
 pub put-knot-spec : {M : Type 1} → statement M
 put-knot-spec =
-    tie.close
-    (tie.spec
-    slice-aggregate-put-word
-    put-word-requires
-    cast-put-decimal
-    put-decimal-requires
-    put-byte-requires
-    put-hex-requires
-    put-byte-requires-2
-    put-hex-requires-2
-    put-byte-requires-3
-    same-length
-    returns)
+    tie.close (tie.spec (λ c. search needs) (λ c κs. search needs) (λ c. search needs) (λ c κs. search needs) (λ c κs. search needs)
+    (λ c κs. search needs) (λ c κs. search needs) (λ c κs. search needs) (λ c κs. search needs) (λ c. search needs) returns)

@@ -6,50 +6,24 @@ use borrow.Author.Needs.{needs}
 use Rattle.compare.proofs.put_last.Statement.{statement}
 use Rattle.compare.proofs.put_last.Tie as tie
 
-slice-aggregate-put-word : tie.Need-slice-aggregate-put-word
-slice-aggregate-put-word c = search needs
-
-put-word-requires : tie.Need-put-word-requires
-put-word-requires c κs = search needs
-
-same-length : tie.Need-same-length
-same-length c = search needs
-
 returns : tie.Need-returns
-returns c = (
-  rw (eq-eqb (c .before .before .before .before .before .before .before .args .c .at)
-      (c .before .before .before .before .before .before .before .args .start) (c .before .before .before .before .before .if1 .taken))
-      (c .before .before .put-word .ensures),
-  omega (arith, c .before .before .put-word .ensures .next),
-)
-
-put-decimal-requires : tie.Need-put-decimal-requires
-put-decimal-requires c κs = search needs
-
-put-byte-requires : tie.Need-put-byte-requires
-put-byte-requires c κs = search needs
-
-same-length-2 : tie.Need-same-length-2
-same-length-2 c = search needs
+returns c =
+    let at-if1 = c .before .before .before .before .before in
+    let start = at-if1 .before .before in (
+      rw (eq-eqb (start .args .c .at) (start .args .start) (at-if1 .if1 .taken)) (c .before .before .put-word .ensures),
+      omega (arith, c .before .before .put-word .ensures .next),
+    )
 
 returns-2 : tie.Need-returns-2
-returns-2 c = (
-  rw (ne-eqb (c .before .before .before .before .before .before .before .before .before .before .args .c .at)
-      (c .before .before .before .before .before .before .before .before .before .before .args .start)
-      (c .before .before .before .before .before .before .before .before .if1 .left))
-      (then (c .before .before .before .before .before .before .put-decimal .ensures .0) (c .before .before .put-byte .ensures)),
-  omega (arith, c .before .before .before .before .before .before .put-decimal .ensures .1, c .before .before .put-byte .ensures .next),
-)
+returns-2 c =
+    let at-put-decimal = c .before .before .before .before .before .before in
+    let start = at-put-decimal .before .before .before .before in (
+      rw (ne-eqb (start .args .c .at) (start .args .start) (at-put-decimal .before .before .if1 .left))
+          (then (at-put-decimal .put-decimal .ensures .0) (c .before .before .put-byte .ensures)),
+      omega (arith, at-put-decimal .put-decimal .ensures .1, c .before .before .put-byte .ensures .next),
+    )
 
 pub put-last-spec : {M : Type 1} → statement M
 put-last-spec =
-    tie.close
-    (tie.spec
-    slice-aggregate-put-word
-    put-word-requires
-    same-length
-    returns
-    put-decimal-requires
-    put-byte-requires
-    same-length-2
-    returns-2)
+    tie.close (tie.spec (λ c. search needs) (λ c κs. search needs) (λ c. search needs) returns (λ c κs. search needs) (λ c κs. search needs)
+    (λ c. search needs) returns-2)

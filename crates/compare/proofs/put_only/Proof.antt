@@ -5,58 +5,25 @@ use borrow.Author.Needs.{needs}
 use Rattle.compare.proofs.put_only.Statement.{statement}
 use Rattle.compare.proofs.put_only.Tie as tie
 
-slice-aggregate-put-word : tie.Need-slice-aggregate-put-word
-slice-aggregate-put-word c = search needs
-
-put-word-requires : tie.Need-put-word-requires
-put-word-requires c κs = search needs
-
-cast-put-decimal : tie.Need-cast-put-decimal
-cast-put-decimal c = search needs
-
-put-decimal-requires : tie.Need-put-decimal-requires
-put-decimal-requires c κs = search needs
-
-put-byte-requires : tie.Need-put-byte-requires
-put-byte-requires c κs = search needs
-
-put-hex-requires : tie.Need-put-hex-requires
-put-hex-requires c κs = search needs
-
-put-byte-requires-2 : tie.Need-put-byte-requires-2
-put-byte-requires-2 c κs = search needs
-
-same-length : tie.Need-same-length
-same-length c = search needs
-
 returns : tie.Need-returns
-returns c = (
-  then (then (then (then (c .before .before .before .before .before .before .before .before .before .before .before .before .before .before .before .before
-      .before .before .put-word .ensures)
-      (c .before .before .before .before .before .before .before .before .before .before .before .before .before .before .put-decimal .ensures .0))
-      (c .before .before .before .before .before .before .before .before .before .before .put-byte .ensures))
-      (c .before .before .before .before .before .before .put-hex .ensures .0)) (c .before .before .put-byte2 .ensures),
-  omega (
-    arith,
-    c .before .before .before .before .before .before .before .before .before .before .before .before .before .before .before .before .before .before
-        .put-word .ensures .next,
-    c .before .before .before .before .before .before .before .before .before .before .before .before .before .before .put-decimal .ensures .1,
-    c .before .before .before .before .before .before .before .before .before .before .put-byte .ensures .next,
-    c .before .before .before .before .before .before .put-hex .ensures .1,
-    c .before .before .put-byte2 .ensures .next,
-  ),
-)
+returns c =
+    let at-put-hex = c .before .before .before .before .before .before in
+    let at-put-byte = at-put-hex .before .before .before .before in
+    let at-put-decimal = at-put-byte .before .before .before .before in
+    let at-put-word = at-put-decimal .before .before .before .before in (
+      then (then (then (then (at-put-word .put-word .ensures) (at-put-decimal .put-decimal .ensures .0)) (at-put-byte .put-byte .ensures))
+          (at-put-hex .put-hex .ensures .0)) (c .before .before .put-byte2 .ensures),
+      omega (
+        arith,
+        at-put-word .put-word .ensures .next,
+        at-put-decimal .put-decimal .ensures .1,
+        at-put-byte .put-byte .ensures .next,
+        at-put-hex .put-hex .ensures .1,
+        c .before .before .put-byte2 .ensures .next,
+      ),
+    )
 
 pub put-only-spec : {M : Type 1} → statement M
 put-only-spec =
-    tie.close
-    (tie.spec
-    slice-aggregate-put-word
-    put-word-requires
-    cast-put-decimal
-    put-decimal-requires
-    put-byte-requires
-    put-hex-requires
-    put-byte-requires-2
-    same-length
-    returns)
+    tie.close (tie.spec (λ c. search needs) (λ c κs. search needs) (λ c. search needs) (λ c κs. search needs) (λ c κs. search needs)
+    (λ c κs. search needs) (λ c κs. search needs) (λ c. search needs) returns)

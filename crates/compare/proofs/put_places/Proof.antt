@@ -12,44 +12,31 @@ Inv-loop out₀ at old new end i₀ p₀ n₀ out i p n = (i ≤ end) × (p ≤ 
 abbrev μ-loop : tie.MeasureT-loop
 μ-loop out₀ at old new end i₀ p₀ n₀ out i p n = end - i
 
-longer-requires : tie.Need-longer-requires Inv-loop μ-loop
-longer-requires c κs = search needs
-
 loop-holds : tie.Need-loop-holds Inv-loop μ-loop
 loop-holds c = (omega arith, omega arith, omega arith, upto-none _ _ _ _)
 
 put-place-requires : tie.Need-put-place-requires Inv-loop μ-loop
-put-place-requires c κs = (
-  c .before .before .loop .inv .2,
-  (
-    omega (arith, c .before .before .before .longer .ensures),
-    (
-      omega
-          (arith, c .before .before .before .longer .ensures, c .before .before .loop .inv .3 .wrote .long),
-      λ h. omega (
-        arith,
-        c .before .before .before .longer
-            .ensures,
+put-place-requires c κs =
+    let at-longer = c .before .before .before in (
+      c .before .before .loop .inv .2,
+      (
+        omega (arith, at-longer .longer .ensures),
+        (omega (arith, at-longer .longer .ensures, c .before .before .loop .inv .3 .wrote .long), λ h. omega (arith, at-longer .longer .ensures)),
       ),
-    ),
-  ),
-)
-
-add-i : tie.Need-add-i Inv-loop μ-loop
-add-i c = search needs
+    )
 
 loop-less : tie.Need-loop-less Inv-loop μ-loop
 loop-less c = omega arith
 
 loop-again : tie.Need-loop-again Inv-loop μ-loop
-loop-again c = (
-  omega arith,
-  omega (arith, c .before .before .put-place .ensures .1 .1 .0),
-  c .before .before .put-place .ensures .1 .1 .1,
-  upto-more _ _ (c .before .before .before .before .before .loop .i)
-      (λ h. omega (arith, c .before .before .before .before .before .before .longer .ensures)) (c .before .before .before .before .before .loop .inv .3)
-      (c .before .before .put-place .ensures .0) (c .before .before .put-place .ensures .1 .0),
-)
+loop-again c =
+    let at-loop = c .before .before .before .before .before in (
+      omega arith,
+      omega (arith, c .before .before .put-place .ensures .1 .1 .0),
+      c .before .before .put-place .ensures .1 .1 .1,
+      upto-more _ _ (at-loop .loop .i) (λ h. omega (arith, at-loop .before .longer .ensures)) (at-loop .loop .inv .3)
+          (c .before .before .put-place .ensures .0) (c .before .before .put-place .ensures .1 .0),
+    )
 
 same-length : tie.Need-same-length Inv-loop μ-loop
 same-length c = c .before .loop .inv .3 .wrote .long
@@ -63,14 +50,4 @@ returns c = let r =
 pub put-places-spec : {M : Type 1} → statement M
 put-places-spec =
     tie.close
-    (tie.spec
-    Inv-loop
-    μ-loop
-    longer-requires
-    loop-holds
-    put-place-requires
-    add-i
-    loop-less
-    loop-again
-    same-length
-    returns)
+    (tie.spec Inv-loop μ-loop (λ c κs. search needs) loop-holds put-place-requires (λ c. search needs) loop-less loop-again same-length returns)

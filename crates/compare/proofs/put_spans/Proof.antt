@@ -12,69 +12,29 @@ returns : tie.Need-returns
 unfolding spanDifference
 returns c = (rw (eq-eqb (c .before .before .args .r) (c .before .before .args .s) (c .if1 .taken)) (no-line _ _), omega arith)
 
-slice-aggregate-put-word : tie.Need-slice-aggregate-put-word
-slice-aggregate-put-word c = search needs
-
-put-word-requires : tie.Need-put-word-requires
-put-word-requires c κs = search needs
-
-put-decimal-requires : tie.Need-put-decimal-requires
-put-decimal-requires c κs = search needs
-
-put-byte-requires : tie.Need-put-byte-requires
-put-byte-requires c κs = search needs
-
-put-decimal-requires-2 : tie.Need-put-decimal-requires-2
-put-decimal-requires-2 c κs = search needs
-
-put-byte-requires-2 : tie.Need-put-byte-requires-2
-put-byte-requires-2 c κs = search needs
-
-same-length : tie.Need-same-length
-same-length c = search needs
-
 returns-2 : tie.Need-returns-2
 unfolding spanDifference
-returns-2 c = (
-  rw (ne-eqb (c .before .before .before .before .before .before .before .before .before .before .before .before .before .before .before .before .before
-      .before .before .before .before .before .before .args .r)
-      (c .before .before .before .before .before .before .before .before .before .before .before .before .before .before .before .before .before .before
-      .before .before .before .before .before .args .s)
-      (c .before .before .before .before .before .before .before .before .before .before .before .before .before .before .before .before .before
-      .before .before .before .before .if1 .left))
-      (one-line (span (c .before .before .before .before .before .before .before .before .before .before .before .before .before .before .before .before
-      .before .before .before .before .before .before .before .args .r)
-      (c .before .before .before .before .before .before .before .before .before .before .before .before .before .before .before .before .before
-      .before .before .before .before .before .before .args .s))
-      (then (then (then (then
-      (c .before .before .before .before .before .before .before .before .before .before .before .before .before .before .before .before
-      .before .before .put-word .ensures)
-      (c .before .before .before .before .before .before .before .before .before .before .before .before .before .before
-      .put-decimal .ensures .0))
-      (c .before .before .before .before .before .before .before .before .before .before .put-byte .ensures))
-      (c .before .before .before .before .before .before .put-decimal2 .ensures .0))
-      (c .before .before .put-byte2 .ensures))),
-  omega (
-    arith,
-    c .before .before .before .before .before .before .before .before .before .before .before .before .before .before .before .before .before .before
-        .put-word .ensures .next,
-    c .before .before .before .before .before .before .before .before .before .before .before .before .before .before .put-decimal .ensures .1,
-    c .before .before .before .before .before .before .before .before .before .before .put-byte .ensures .next,
-    c .before .before .before .before .before .before .put-decimal2 .ensures .1,
-    c .before .before .put-byte2 .ensures .next,
-  ),
-)
+returns-2 c =
+    let at-put-decimal2 = c .before .before .before .before .before .before in
+    let at-put-byte = at-put-decimal2 .before .before .before .before in
+    let at-put-decimal = at-put-byte .before .before .before .before in
+    let at-put-word = at-put-decimal .before .before .before .before in
+    let at-if1 = at-put-word .before .before .before in
+    let start = at-if1 .before .before in (
+      rw (ne-eqb (start .args .r) (start .args .s) (at-if1 .if1 .left)) (one-line (span (start .args .r) (start .args .s))
+          (then (then (then (then (at-put-word .put-word .ensures) (at-put-decimal .put-decimal .ensures .0)) (at-put-byte .put-byte .ensures))
+          (at-put-decimal2 .put-decimal2 .ensures .0)) (c .before .before .put-byte2 .ensures))),
+      omega (
+        arith,
+        at-put-word .put-word .ensures .next,
+        at-put-decimal .put-decimal .ensures .1,
+        at-put-byte .put-byte .ensures .next,
+        at-put-decimal2 .put-decimal2 .ensures .1,
+        c .before .before .put-byte2 .ensures .next,
+      ),
+    )
 
 pub put-spans-spec : {M : Type 1} → statement M
 put-spans-spec =
-    tie.close
-    (tie.spec
-    returns
-    slice-aggregate-put-word
-    put-word-requires
-    put-decimal-requires
-    put-byte-requires
-    put-decimal-requires-2
-    put-byte-requires-2
-    same-length
-    returns-2)
+    tie.close (tie.spec returns (λ c. search needs) (λ c κs. search needs) (λ c κs. search needs) (λ c κs. search needs) (λ c κs. search needs)
+    (λ c κs. search needs) (λ c. search needs) returns-2)

@@ -5,18 +5,6 @@ use borrow.Author.Needs.{needs}
 use Rattle.compare_lines.proofs.add.Statement.{statement}
 use Rattle.compare_lines.proofs.add.Tie as tie
 
-mul-knots : tie.Need-mul-knots
-mul-knots c = search needs
-
-slice-write-knots : tie.Need-slice-write-knots
-slice-write-knots c = search needs
-
-add-next : tie.Need-add-next
-add-next c = search needs
-
-same-length : tie.Need-same-length
-same-length c = search needs
-
 returns : tie.Need-returns
 returns c = let a = c .before .args in let k = knot-taken (a .t) (a .n) (a .x) (a .knots .now) (omega arith) (omega arith) in
     record { held = k .0; told = k .1; few = omega arith }
@@ -26,4 +14,4 @@ returns-2 c = let a = c .before .args in let k = knot-dropped (a .t) (a .n) (a .
     record { held = k .0; told = k .1; few = omega arith }
 
 pub add-spec : {M : Type 1} → statement M
-add-spec = tie.close (tie.spec mul-knots slice-write-knots add-next same-length returns returns-2)
+add-spec = tie.close (tie.spec (λ c. search needs) (λ c. search needs) (λ c. search needs) (λ c. search needs) returns returns-2)

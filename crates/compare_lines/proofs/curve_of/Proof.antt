@@ -4,15 +4,6 @@ use borrow.Author.Needs.{needs}
 use Rattle.compare_lines.proofs.curve_of.Statement.{statement}
 use Rattle.compare_lines.proofs.curve_of.Tie as tie
 
-basis-named-requires : tie.Need-basis-named-requires
-basis-named-requires c κs = search needs
-
-enum-known-b : tie.Need-enum-known-b
-enum-known-b c = search needs
-
-enum-told : tie.Need-enum-told
-enum-told c = search needs
-
 returns : tie.Need-returns
 returns c = simp (sym (c .before .before .basis-named .ensures) ∙ c .enum-told .given .1)
 
@@ -20,4 +11,4 @@ returns-2 : tie.Need-returns-2
 returns-2 c = simp (sym (c .before .before .before .basis-named .ensures) ∙ c .before .b .given .1)
 
 pub curve-of-spec : {M : Type 1} → statement M
-curve-of-spec = tie.close (tie.spec basis-named-requires enum-known-b enum-told returns returns-2)
+curve-of-spec = tie.close (tie.spec (λ c κs. search needs) (λ c. search needs) (λ c. search needs) returns returns-2)

@@ -7,35 +7,12 @@ use borrow.Author.Needs.{needs}
 use Rattle.compare_lines.proofs.end.Statement.{statement}
 use Rattle.compare_lines.proofs.end.Tie as tie
 
-enum-told : tie.Need-enum-told
-enum-told c = search needs
-
-put-refused-requires : tie.Need-put-refused-requires
-put-refused-requires c κs = search needs
-
-enum-known-h : tie.Need-enum-known-h
-enum-known-h c = search needs
-
 end-parted-requires : tie.Need-end-parted-requires
-end-parted-requires c κs = let z : max (knotsOf (c .before .before .h .given .0 .0)) (knotsOf (c .before .before .h .given .0 .1 .0)) ≤ places =
-    rw (c .before .before .h .given .1) at (c .before .before .before .before .before .before .before .pre .0)
-    in (
-      omega arith,
-      (
-        omega arith,
-        (
-          c .before .before .before .before .before .before .before .pre .1 .0,
-          (
-            c .before .before .before .before .before .before
-                .before .pre .1 .1 .0,
-            c .before .before .before .before .before .before .before .pre .1 .1 .1,
-          ),
-        ),
-      ),
-    )
-
-same-length : tie.Need-same-length
-same-length c = search needs
+end-parted-requires c κs =
+    let start = c .before .before .before .before .before .before .before in
+    let z : max (knotsOf (c .before .before .h .given .0 .0)) (knotsOf (c .before .before .h .given .0 .1 .0)) ≤ places =
+    rw (c .before .before .h .given .1) at (start .pre .0) in
+    (omega arith, (omega arith, (start .pre .1 .0, (start .pre .1 .1 .0, start .pre .1 .1 .1))))
 
 returns : tie.Need-returns
 unfolding endsOf
@@ -44,21 +21,10 @@ returns c = (
   omega (arith, c .before .before .put-refused .ensures .1),
 )
 
-same-length-2 : tie.Need-same-length-2
-same-length-2 c = search needs
-
 returns-2 : tie.Need-returns-2
 returns-2 c = rw (c .before .before .before .before .before .h .given .1) (c .before .before .end-parted .ensures)
 
 pub end-spec : {M : Type 1} → statement M
 end-spec =
-    tie.close
-    (tie.spec
-    enum-told
-    put-refused-requires
-    enum-known-h
-    end-parted-requires
-    same-length
-    returns
-    same-length-2
-    returns-2)
+    tie.close (tie.spec (λ c. search needs) (λ c κs. search needs) (λ c. search needs) end-parted-requires (λ c. search needs) returns
+    (λ c. search needs) returns-2)

@@ -8,30 +8,6 @@ use borrow.Author.Needs.{needs}
 use Rattle.compare_lines.proofs.end_on.Statement.{statement}
 use Rattle.compare_lines.proofs.end_on.Tie as tie
 
-enum-told : tie.Need-enum-told
-enum-told c = search needs
-
-put-refused-requires : tie.Need-put-refused-requires
-put-refused-requires c κs = search needs
-
-enum-known-l : tie.Need-enum-known-l
-enum-known-l c = search needs
-
-sub-put-comparison : tie.Need-sub-put-comparison
-sub-put-comparison c = search needs
-
-part-put-comparison-start : tie.Need-part-put-comparison-start
-part-put-comparison-start c = search needs
-
-part-put-comparison-end : tie.Need-part-put-comparison-end
-part-put-comparison-end c = search needs
-
-sub-put-comparison-2 : tie.Need-sub-put-comparison-2
-sub-put-comparison-2 c = search needs
-
-part-put-comparison-start-2 : tie.Need-part-put-comparison-start-2
-part-put-comparison-start-2 c = search needs
-
 part-put-comparison-end-2 : tie.Need-part-put-comparison-end-2
 part-put-comparison-end-2 c = let k : c .before .before .l .given .0 .1 .0 ≤ places =
     rw (c .before .before .l .given .1) at (c .before .before .before .before .before .before .before .pre .1 .0) in omega arith
@@ -41,9 +17,6 @@ put-comparison-requires c κs = let k : c .before .before .before .before .l .gi
     rw (c .before .before .before .before .l .given .1) at (c .before .before .before .before .before .before .before .before .before .pre .1 .0)
     in (simp length-take (omega arith), (simp length-take (omega arith), omega arith))
 
-same-length : tie.Need-same-length
-same-length c = search needs
-
 returns : tie.Need-returns
 unfolding endsOf
 returns c = (
@@ -51,35 +24,17 @@ returns c = (
   omega (arith, c .before .before .put-refused .ensures .1),
 )
 
-same-length-2 : tie.Need-same-length-2
-same-length-2 c = search needs
-
 returns-2 : tie.Need-returns-2
 unfolding endsOf
 returns-2 c =
-    let z : c .before .before .before .before .before .before .before .before .before .before .before .before .args .n - 0 ≡ c .before .before .before
-    .before .before .before .before .before .before .before .before .before .args .n = omega arith in
-    let y : c .before .before .before .before .before .before .before .l .given .0 .1 .0 - 0 ≡ c .before .before .before .before .before .before .before .l
-    .given .0 .1 .0 = omega arith in (
-      rw (c .before .before .before .before .before .before .before .l .given .1) (rw (z, y) at (c .before .before .put-comparison .ensures .0)),
-      c .before .before .put-comparison .ensures .1,
-    )
+    let at-l = c .before .before .before .before .before .before .before in
+    let start = at-l .before .before .before .before .before in
+    let z : start .args .n - 0 ≡ start .args .n = omega arith in
+    let y : at-l .l .given .0 .1 .0 - 0 ≡ at-l .l .given .0 .1 .0 = omega arith in
+    (rw (at-l .l .given .1) (rw (z, y) at (c .before .before .put-comparison .ensures .0)), c .before .before .put-comparison .ensures .1)
 
 pub end-on-spec : {M : Type 1} → statement M
 end-on-spec =
-    tie.close
-    (tie.spec
-    enum-told
-    put-refused-requires
-    enum-known-l
-    sub-put-comparison
-    part-put-comparison-start
-    part-put-comparison-end
-    sub-put-comparison-2
-    part-put-comparison-start-2
-    part-put-comparison-end-2
-    put-comparison-requires
-    same-length
-    returns
-    same-length-2
+    tie.close (tie.spec (λ c. search needs) (λ c κs. search needs) (λ c. search needs) (λ c. search needs) (λ c. search needs) (λ c. search needs)
+    (λ c. search needs) (λ c. search needs) part-put-comparison-end-2 put-comparison-requires (λ c. search needs) returns (λ c. search needs)
     returns-2)

@@ -5,27 +5,12 @@ use borrow.Author.Needs.{needs}
 use Rattle.compare_lines.proofs.enter.Statement.{statement}
 use Rattle.compare_lines.proofs.enter.Tie as tie
 
-enum-told : tie.Need-enum-told
-enum-told c = search needs
-
-first-requires : tie.Need-first-requires
-first-requires c κs = search needs
-
-enum-known-l : tie.Need-enum-known-l
-enum-known-l c = search needs
-
 later-requires : tie.Need-later-requires
 later-requires c κs = let k : c .before .before .l .given .0 .1 .0 ≤ places =
     rw (c .before .before .l .given .1) at (c .before .before .before .before .before .pre .0) in (k, c .before .before .before .before .before .pre .1)
 
-same-length : tie.Need-same-length
-same-length c = search needs
-
 returns : tie.Need-returns
 returns c = rw (c .before .before .enum-told .given .1) (c .first .ensures)
-
-same-length-2 : tie.Need-same-length-2
-same-length-2 c = search needs
 
 returns-2 : tie.Need-returns-2
 returns-2 c = rw (c .before .before .before .before .before .l .given .1) (c .before .before .later .ensures)
@@ -33,12 +18,4 @@ returns-2 c = rw (c .before .before .before .before .before .l .given .1) (c .be
 pub enter-spec : {M : Type 1} → statement M
 enter-spec =
     tie.close
-    (tie.spec
-    enum-told
-    first-requires
-    enum-known-l
-    later-requires
-    same-length
-    returns
-    same-length-2
-    returns-2)
+    (tie.spec (λ c. search needs) (λ c κs. search needs) (λ c. search needs) later-requires (λ c. search needs) returns (λ c. search needs) returns-2)

@@ -6,21 +6,6 @@ use borrow.Author.Needs.{needs}
 use Rattle.compare_lines.proofs.first.Statement.{statement}
 use Rattle.compare_lines.proofs.first.Tie as tie
 
-enum-known-s : tie.Need-enum-known-s
-enum-known-s c = search needs
-
-enum-told : tie.Need-enum-told
-enum-told c = search needs
-
-enum-told-2 : tie.Need-enum-told-2
-enum-told-2 c = search needs
-
-enum-told-3 : tie.Need-enum-told-3
-enum-told-3 c = search needs
-
-enum-told-4 : tie.Need-enum-told-4
-enum-told-4 c = search needs
-
 returns : tie.Need-returns
 unfolding heard entered
 returns c = record { held = rw (c .before .s .given .1) refl; told = rw (c .before .s .given .1) refl; few = omega arith }
@@ -43,15 +28,5 @@ returns-5 c = record { held = rw (c .enum-told4 .given .1) refl; told = rw (c .e
 
 pub first-spec : {M : Type 1} → statement M
 first-spec =
-    tie.close
-    (tie.spec
-    enum-known-s
-    enum-told
-    enum-told-2
-    enum-told-3
-    enum-told-4
-    returns
-    returns-2
-    returns-3
-    returns-4
-    returns-5)
+    tie.close (tie.spec (λ c. search needs) (λ c. search needs) (λ c. search needs) (λ c. search needs) (λ c. search needs) returns returns-2
+    returns-3 returns-4 returns-5)

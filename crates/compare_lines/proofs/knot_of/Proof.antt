@@ -4,15 +4,6 @@ use borrow.Author.Needs.{needs}
 use Rattle.compare_lines.proofs.knot_of.Statement.{statement}
 use Rattle.compare_lines.proofs.knot_of.Tie as tie
 
-hex-requires : tie.Need-hex-requires
-hex-requires c κs = search needs
-
-enum-known-n : tie.Need-enum-known-n
-enum-known-n c = search needs
-
-enum-told : tie.Need-enum-told
-enum-told c = search needs
-
 returns : tie.Need-returns
 returns c = simp (sym (c .before .before .hex .ensures) ∙ c .enum-told .given .1)
 
@@ -20,4 +11,4 @@ returns-2 : tie.Need-returns-2
 returns-2 c = simp (sym (c .before .before .before .hex .ensures) ∙ c .before .n .given .1)
 
 pub knot-of-spec : {M : Type 1} → statement M
-knot-of-spec = tie.close (tie.spec hex-requires enum-known-n enum-told returns returns-2)
+knot-of-spec = tie.close (tie.spec (λ c κs. search needs) (λ c. search needs) (λ c. search needs) returns returns-2)

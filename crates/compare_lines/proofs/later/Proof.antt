@@ -6,39 +6,12 @@ use borrow.Author.Needs.{needs}
 use Rattle.compare_lines.proofs.later.Statement.{statement}
 use Rattle.compare_lines.proofs.later.Tie as tie
 
-enum-known-s : tie.Need-enum-known-s
-enum-known-s c = search needs
-
-enum-known-s-2 : tie.Need-enum-known-s-2
-enum-known-s-2 c = search needs
-
-spanned-requires : tie.Need-spanned-requires
-spanned-requires c κs = search needs
-
-enum-known-s-3 : tie.Need-enum-known-s-3
-enum-known-s-3 c = search needs
-
-add-requires : tie.Need-add-requires
-add-requires c κs = search needs
-
-enum-told : tie.Need-enum-told
-enum-told c = search needs
-
-enum-told-2 : tie.Need-enum-told-2
-enum-told-2 c = search needs
-
 returns : tie.Need-returns
 unfolding heard entered
 returns c = record { held = rw (c .before .s .given .1) refl; told = rw (c .before .s .given .1) refl; few = omega arith }
 
-same-length : tie.Need-same-length
-same-length c = search needs
-
 returns-2 : tie.Need-returns-2
 returns-2 c = rw (c .before .before .before .s2 .given .1) (c .spanned .ensures)
-
-same-length-2 : tie.Need-same-length-2
-same-length-2 c = search needs
 
 returns-3 : tie.Need-returns-3
 returns-3 c = rw (c .before .before .before .before .before .s3 .given .1) (c .before .before .add .ensures)
@@ -53,19 +26,5 @@ returns-5 c = record { held = rw (c .enum-told2 .given .1) refl; told = rw (c .e
 
 pub later-spec : {M : Type 1} → statement M
 later-spec =
-    tie.close
-    (tie.spec
-    enum-known-s
-    enum-known-s-2
-    spanned-requires
-    enum-known-s-3
-    add-requires
-    enum-told
-    enum-told-2
-    returns
-    same-length
-    returns-2
-    same-length-2
-    returns-3
-    returns-4
-    returns-5)
+    tie.close (tie.spec (λ c. search needs) (λ c. search needs) (λ c κs. search needs) (λ c. search needs) (λ c κs. search needs) (λ c. search needs)
+    (λ c. search needs) returns (λ c. search needs) returns-2 (λ c. search needs) returns-3 returns-4 returns-5)

@@ -5,24 +5,11 @@ use borrow.Author.Needs.{needs}
 use Rattle.compare_lines.proofs.put_verdict.Statement.{statement}
 use Rattle.compare_lines.proofs.put_verdict.Tie as tie
 
-enum-told : tie.Need-enum-told
-enum-told c = search needs
-
-enum-known-v : tie.Need-enum-known-v
-enum-known-v c = search needs
-
-put-refused-requires : tie.Need-put-refused-requires
-put-refused-requires c κs = search needs
-
 returns : tie.Need-returns
 returns c = (rw (c .enum-told .given .1) (nothing _ _), omega arith)
-
-same-length : tie.Need-same-length
-same-length c = search needs
 
 returns-2 : tie.Need-returns-2
 returns-2 c = rw (c .before .before .before .before .before .v .given .1) (c .before .before .put-refused .ensures)
 
 pub put-verdict-spec : {M : Type 1} → statement M
-put-verdict-spec =
-    tie.close (tie.spec enum-told enum-known-v put-refused-requires returns same-length returns-2)
+put-verdict-spec = tie.close (tie.spec (λ c. search needs) (λ c. search needs) (λ c κs. search needs) returns (λ c. search needs) returns-2)

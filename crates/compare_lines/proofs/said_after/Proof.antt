@@ -5,17 +5,11 @@ use borrow.Author.Needs.{needs}
 use Rattle.compare_lines.proofs.said_after.Statement.{statement}
 use Rattle.compare_lines.proofs.said_after.Tie as tie
 
-tab-at-requires : tie.Need-tab-at-requires
-tab-at-requires c κs = search needs
-
 returns : tie.Need-returns
 returns c = sym (three-fields _ _ (rw (c .before .tab-at .ensures .0) at (c .if1 .taken)))
-
-meaning-requires : tie.Need-meaning-requires
-meaning-requires c κs = search needs
 
 returns-2 : tie.Need-returns-2
 returns-2 c = c .meaning .ensures ∙ sym (two-fields _ _ (rw (c .before .before .tab-at .ensures .0) at (c .before .if1 .left)))
 
 pub said-after-spec : {M : Type 1} → statement M
-said-after-spec = tie.close (tie.spec tab-at-requires returns meaning-requires returns-2)
+said-after-spec = tie.close (tie.spec (λ c κs. search needs) returns (λ c κs. search needs) returns-2)

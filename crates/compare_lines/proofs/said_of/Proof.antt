@@ -6,41 +6,8 @@ use borrow.Author.Needs.{needs}
 use Rattle.compare_lines.proofs.said_of.Statement.{statement}
 use Rattle.compare_lines.proofs.said_of.Tie as tie
 
-tab-at-requires : tie.Need-tab-at-requires
-tab-at-requires c κs = search needs
-
-add-from : tie.Need-add-from
-add-from c = search needs
-
-sub-said-after : tie.Need-sub-said-after
-sub-said-after c = search needs
-
-part-said-after-start : tie.Need-part-said-after-start
-part-said-after-start c = search needs
-
-part-said-after-end : tie.Need-part-said-after-end
-part-said-after-end c = search needs
-
-sub-said-after-2 : tie.Need-sub-said-after-2
-sub-said-after-2 c = search needs
-
-part-said-after-start-2 : tie.Need-part-said-after-start-2
-part-said-after-start-2 c = search needs
-
-part-said-after-end-2 : tie.Need-part-said-after-end-2
-part-said-after-end-2 c = search needs
-
-said-after-requires : tie.Need-said-after-requires
-said-after-requires c κs = search needs
-
 returns : tie.Need-returns
 returns c = c .said-after .ensures ∙ after-tab _ _ (c .before .before .before .before .tab-at .ensures .0) (omega arith)
-
-slice-aggregate-is-word : tie.Need-slice-aggregate-is-word
-slice-aggregate-is-word c = search needs
-
-is-word-requires : tie.Need-is-word-requires
-is-word-requires c κs = search needs
 
 returns-2 : tie.Need-returns-2
 returns-2 c =
@@ -54,19 +21,5 @@ returns-3 c =
 
 pub said-of-spec : {M : Type 1} → statement M
 said-of-spec =
-    tie.close
-    (tie.spec
-    tab-at-requires
-    add-from
-    sub-said-after
-    part-said-after-start
-    part-said-after-end
-    sub-said-after-2
-    part-said-after-start-2
-    part-said-after-end-2
-    said-after-requires
-    returns
-    slice-aggregate-is-word
-    is-word-requires
-    returns-2
-    returns-3)
+    tie.close (tie.spec (λ c κs. search needs) (λ c. search needs) (λ c. search needs) (λ c. search needs) (λ c. search needs) (λ c. search needs)
+    (λ c. search needs) (λ c. search needs) (λ c κs. search needs) returns (λ c. search needs) (λ c κs. search needs) returns-2 returns-3)

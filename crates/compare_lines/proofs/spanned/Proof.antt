@@ -6,9 +6,6 @@ use borrow.Author.Needs.{needs}
 use Rattle.compare_lines.proofs.spanned.Statement.{statement}
 use Rattle.compare_lines.proofs.spanned.Tie as tie
 
-is-span-requires : tie.Need-is-span-requires
-is-span-requires c κs = search needs
-
 returns : tie.Need-returns
 returns c = let a = c .before .before .before .args in let k =
     span-taken (a .t) (a .n) (a .s) (a .knots .now) (sym (c .before .is-span .ensures) ∙ c .if1 .taken) in
@@ -20,4 +17,4 @@ returns-2 c = let a = c .before .before .before .args in let k =
     record { held = k .0; told = k .1; few = omega arith }
 
 pub spanned-spec : {M : Type 1} → statement M
-spanned-spec = tie.close (tie.spec is-span-requires returns returns-2)
+spanned-spec = tie.close (tie.spec (λ c κs. search needs) returns returns-2)

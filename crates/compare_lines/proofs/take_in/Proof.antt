@@ -9,12 +9,6 @@ use borrow.Author.Needs.{needs}
 use Rattle.compare_lines.proofs.take_in.Statement.{statement}
 use Rattle.compare_lines.proofs.take_in.Tie as tie
 
-enum-known-h : tie.Need-enum-known-h
-enum-known-h c = search needs
-
-is-other-requires : tie.Need-is-other-requires
-is-other-requires c κs = search needs
-
 returns : tie.Need-returns
 returns c = let k =
     parting (listingOf (c .before .before .before .h .given .0 .0) (c .before .before .before .before .before .before .before .args .old .now))
@@ -24,67 +18,39 @@ returns c = let k =
     rw (c .before .before .before .h .given .1) (record { held = k .0; told = k .1; few = omega arith })
 
 enter-requires : tie.Need-enter-requires
-enter-requires c κs = (
-  rw (c .before .before .before .before .h .given .1) at (c .before .before .before .before .before .before .before .before .pre .0),
-  c .before .before .before .before .before .before .before .before .pre .1 .0,
-)
-
-enum-known-h-2 : tie.Need-enum-known-h-2
-enum-known-h-2 c = search needs
+enter-requires c κs =
+    let start = c .before .before .before .before .before .before .before .before in
+    (rw (c .before .before .before .before .h .given .1) at (start .pre .0), start .pre .1 .0)
 
 enter-requires-2 : tie.Need-enter-requires-2
 enter-requires-2 c κs = let z : max (knotsOf (c .before .before .h2 .given .0 .0)) (knotsOf (c .before .before .h2 .given .0 .1 .0)) ≤ places =
     rw (c .before .before .h2 .given .1) at (c .before .before .before .before .before .before .pre .0)
     in (omega arith, c .before .before .before .before .before .before .pre .1 .1)
 
-same-length : tie.Need-same-length
-same-length c = search needs
-
 returns-2 : tie.Need-returns-2
-returns-2 c = let k =
-    entering (listingOf (c .before .before .before .before .before .before .before .h .given .0 .0)
-    (c .before .before .before .before .before .before .before .before .before .before .before .args .old .now))
-    (c .before .before .before .before .before .before .before .before .before .before .before .args .s)
+returns-2 c =
+    let at-h = c .before .before .before .before .before .before .before in
+    let start = at-h .before .before .before .before in
+    let k = entering (listingOf (at-h .h .given .0 .0) (start .args .old .now)) (start .args .s)
     (sym (c .before .before .before .before .before .is-other .ensures) ∙ c .before .before .before .before .if1 .left) in
     let e = c .before .before .enter .ensures in
-    rw (c .before .before .before .before .before .before .before .h .given .1)
-    (record { held = ap before (e .held) ∙ k .0; told = e .told ∙ k .1; few = e .few })
-
-same-length-2 : tie.Need-same-length-2
-same-length-2 c = search needs
+    rw (at-h .h .given .1) (record { held = ap before (e .held) ∙ k .0; told = e .told ∙ k .1; few = e .few })
 
 returns-3 : tie.Need-returns-3
-returns-3 c = let k =
-    second (listingOf (c .before .before .before .before .before .h2 .given .0 .0)
-    (c .before .before .before .before .before .before .before .before .before .args .old .now))
-    (listingOf (c .before .before .before .before .before .h2 .given .0 .1 .0)
-    (c .before .before .before .before .before .before .before .before .before .args .new .now))
-    (c .before .before .before .before .before .before .before .before .before .args .s) in
+returns-3 c =
+    let at-h2 = c .before .before .before .before .before in
+    let start = at-h2 .before .before .before .before in
+    let k = second (listingOf (at-h2 .h2 .given .0 .0) (start .args .old .now)) (listingOf (at-h2 .h2 .given .0 .1 .0) (start .args .new .now))
+    (start .args .s) in
     let e = c .before .before .enter2 .ensures in
-    let z : max (knotsOf (c .before .before .before .before .before .h2 .given .0 .0))
-    (knotsOf (c .before .before .before .before .before .h2 .given .0 .1 .0)) ≤ places =
-    rw (c .before .before .before .before .before .h2 .given .1) at
-    (c .before .before .before .before .before .before .before .before .before .pre .0) in
-    rw (c .before .before .before .before .before .h2 .given .1)
-    (record {
-      held =
-          ap (parted (listingOf (c .before .before .before .before .before .h2 .given .0 .0)
-          (c .before .before .before .before .before .before .before .before .before .args .old .now))) (e .held) ∙ k .0;
+    let z : max (knotsOf (at-h2 .h2 .given .0 .0)) (knotsOf (at-h2 .h2 .given .0 .1 .0)) ≤ places = rw (at-h2 .h2 .given .1) at (start .pre .0) in
+    rw (at-h2 .h2 .given .1) (record {
+      held = ap (parted (listingOf (at-h2 .h2 .given .0 .0) (start .args .old .now))) (e .held) ∙ k .0;
       told = e .told ∙ k .1;
       few = omega (arith, e .few);
     })
 
 pub take-in-spec : {M : Type 1} → statement M
 take-in-spec =
-    tie.close
-    (tie.spec
-    enum-known-h
-    is-other-requires
-    returns
-    enter-requires
-    enum-known-h-2
-    enter-requires-2
-    same-length
-    returns-2
-    same-length-2
-    returns-3)
+    tie.close (tie.spec (λ c. search needs) (λ c κs. search needs) returns enter-requires (λ c. search needs) enter-requires-2 (λ c. search needs)
+    returns-2 (λ c. search needs) returns-3)

@@ -8,31 +8,12 @@ use borrow.Author.Needs.{needs}
 use Rattle.convert.proofs.convert_spline.Statement.{statement}
 use Rattle.convert.proofs.convert_spline.Tie as tie
 
-spline-verdict-requires : tie.Need-spline-verdict-requires
-spline-verdict-requires c κs = search needs
-
-enum-known-v : tie.Need-enum-known-v
-enum-known-v c = search needs
-
-enum-told : tie.Need-enum-told
-enum-told c = search needs
-
-conversion-matrix-requires : tie.Need-conversion-matrix-requires
-conversion-matrix-requires c κs = search needs
-
-step-requires : tie.Need-step-requires
-step-requires c κs = search needs
-
-step-requires-2 : tie.Need-step-requires-2
-step-requires-2 c κs = search needs
-
 put-windows-requires : tie.Need-put-windows-requires
 put-windows-requires c κs =
-    let a = c .before .before .before .before .before .before .before .before .before .args in
-    let h =
-    spline-passed (a .from) (a .to) (a .knots .now) (length (a .out .now))
-    (sym (c .before .before .before .before .before .before .spline-verdict .ensures)
-    ∙ c .before .before .before .before .enum-told .given .1) in (
+    let start = c .before .before .before .before .before .before .before .before .before in
+    let a = start .args in
+    let h = spline-passed (a .from) (a .to) (a .knots .now) (length (a .out .now))
+    (sym (c .before .before .before .before .before .before .spline-verdict .ensures) ∙ c .before .before .before .before .enum-told .given .1) in (
       c .before .before .step .ensures .1 .0,
       (
         c .before .step2 .ensures .1 .0,
@@ -42,8 +23,9 @@ put-windows-requires c κs =
             h .0 .least,
             (
               h .0 .most,
-              le-trans (le-of-eq (output-steps (a .from) (a .to) (length (a .knots .now)) _ _ (c .before .before .step .ensures .0)
-                  (c .before .step2 .ensures .0))) (h .1 .enough),
+              le-trans (le-of-eq
+                  (output-steps (a .from) (a .to) (length (a .knots .now)) _ _ (c .before .before .step .ensures .0) (c .before .step2 .ensures .0)))
+                  (h .1 .enough),
             ),
           ),
         ),
@@ -53,38 +35,22 @@ put-windows-requires c κs =
 returns : tie.Need-returns
 returns c =
     let a = c .before .before .before .before .before .before .args in
-    let t =
-    spline-refused (a .from) (a .to) (a .knots .now) (a .out .now) _ (sym (c .before .before .before .spline-verdict .ensures) ∙ c .before .v .given .1)
-    in
+    let t = spline-refused (a .from) (a .to) (a .knots .now) (a .out .now) _
+    (sym (c .before .before .before .spline-verdict .ensures) ∙ c .before .v .given .1) in
     (t .answer, t .buffer)
-
-same-length : tie.Need-same-length
-same-length c = search needs
 
 returns-2 : tie.Need-returns-2
 returns-2 c =
-    let a = c .before .before .before .before .before .before .before .before .before .before .before .before .args in
-    let t =
-    spline-written (a .from) (a .to) (a .knots .now) (a .out .now) _ _ _ _ _
-    (sym (c .before .before .before .before .before .before .before .before .before .spline-verdict .ensures)
-    ∙ c .before .before .before .before .before .before .before .enum-told .given .1)
-    (c .before .before .before .before .before .before .conversion-matrix .ensures)
-    (c .before .before .before .before .before .step .ensures .0) (c .before .before .before .before .step2 .ensures .0)
-    (c .before .before .before .before .step2 .ensures .1 .1) (c .before .before .put-windows .ensures .0)
-    (c .before .before .put-windows .ensures .1) in
+    let at-step2 = c .before .before .before .before in
+    let start = at-step2 .before .before .before .before .before .before .before .before in
+    let a = start .args in
+    let t = spline-written (a .from) (a .to) (a .knots .now) (a .out .now) _ _ _ _ _
+    (sym (at-step2 .before .before .before .before .before .spline-verdict .ensures) ∙ at-step2 .before .before .before .enum-told .given .1)
+    (at-step2 .before .before .conversion-matrix .ensures) (at-step2 .before .step .ensures .0) (at-step2 .step2 .ensures .0)
+    (at-step2 .step2 .ensures .1 .1) (c .before .before .put-windows .ensures .0) (c .before .before .put-windows .ensures .1) in
     (t .answer, t .buffer)
 
 pub convert-spline-spec : {M : Type 1} → statement M
 convert-spline-spec =
-    tie.close
-    (tie.spec
-    spline-verdict-requires
-    enum-known-v
-    enum-told
-    conversion-matrix-requires
-    step-requires
-    step-requires-2
-    put-windows-requires
-    returns
-    same-length
-    returns-2)
+    tie.close (tie.spec (λ c κs. search needs) (λ c. search needs) (λ c. search needs) (λ c κs. search needs) (λ c κs. search needs)
+    (λ c κs. search needs) put-windows-requires returns (λ c. search needs) returns-2)

@@ -5,33 +5,11 @@ use borrow.Author.Needs.{needs}
 use Rattle.convert_elimination.proofs.clear.Statement.{statement}
 use Rattle.convert_elimination.proofs.clear.Tie as tie
 
-clear-row-requires : tie.Need-clear-row-requires
-clear-row-requires c κs = search needs
-
-clear-row-requires-2 : tie.Need-clear-row-requires-2
-clear-row-requires-2 c κs = search needs
-
-clear-row-requires-3 : tie.Need-clear-row-requires-3
-clear-row-requires-3 c κs = search needs
-
-clear-row-requires-4 : tie.Need-clear-row-requires-4
-clear-row-requires-4 c κs = search needs
-
 returns : tie.Need-returns
 unfolding cleared
 returns c =
-    listed
-    (c .before .before .before .clear-row .ensures)
-    (c .before .before .clear-row2 .ensures)
-    (c .before .clear-row3 .ensures)
+    listed (c .before .before .before .clear-row .ensures) (c .before .before .clear-row2 .ensures) (c .before .clear-row3 .ensures)
     (c .clear-row4 .ensures)
 
 pub clear-spec : {M : Type 1} → statement M
-clear-spec =
-    tie.close
-    (tie.spec
-    clear-row-requires
-    clear-row-requires-2
-    clear-row-requires-3
-    clear-row-requires-4
-    returns)
+clear-spec = tie.close (tie.spec (λ c κs. search needs) (λ c κs. search needs) (λ c κs. search needs) (λ c κs. search needs) returns)

@@ -4,19 +4,10 @@ use borrow.Author.Needs.{needs}
 use Rattle.convert_elimination.proofs.eliminate.Statement.{statement}
 use Rattle.convert_elimination.proofs.eliminate.Tie as tie
 
-swap-requires : tie.Need-swap-requires
-swap-requires c κs = search needs
-
-divide-requires : tie.Need-divide-requires
-divide-requires c κs = search needs
-
-clear-requires : tie.Need-clear-requires
-clear-requires c κs = search needs
-
 returns : tie.Need-returns
 returns c =
     in-turn (c .before .before .before .args .a) _ _ _ (c .before .before .before .args .i) (c .before .before .before .args .k)
     (c .before .before .swap .ensures) (c .before .divide .ensures) (c .clear .ensures)
 
 pub eliminate-spec : {M : Type 1} → statement M
-eliminate-spec = tie.close (tie.spec swap-requires divide-requires clear-requires returns)
+eliminate-spec = tie.close (tie.spec (λ c κs. search needs) (λ c κs. search needs) (λ c κs. search needs) returns)

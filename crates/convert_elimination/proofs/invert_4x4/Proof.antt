@@ -15,41 +15,18 @@ Inv-loop a₀ i₀ a i = (i ≤ 4) × (columns (from i) a ≡ columns (from 0) a
 abbrev μ-loop : tie.MeasureT-loop
 μ-loop a₀ i₀ a i = 4 - i
 
-with-identity-requires : tie.Need-with-identity-requires Inv-loop μ-loop
-with-identity-requires c κs = search needs
-
 loop-holds : tie.Need-loop-holds Inv-loop μ-loop
 loop-holds c = (omega arith, refl)
-
-pivot-row-requires : tie.Need-pivot-row-requires Inv-loop μ-loop
-pivot-row-requires c κs = search needs
-
-enum-known-k : tie.Need-enum-known-k Inv-loop μ-loop
-enum-known-k c = search needs
-
-enum-told : tie.Need-enum-told Inv-loop μ-loop
-enum-told c = search needs
-
-no-inverse-requires : tie.Need-no-inverse-requires Inv-loop μ-loop
-no-inverse-requires c κs = search needs
 
 returns : tie.Need-returns Inv-loop μ-loop
 returns c =
     let at = c .before .before .before .before .before in
-    c .no-inverse .ensures
-    ∙ answers _ _ _ (at .before .with-identity .ensures)
-    (sym (stops _ _ (c .before .before .before .before .loop-test .taken)
+    c .no-inverse .ensures ∙ answers _ _ _ (at .before .with-identity .ensures) (sym (stops _ _ (c .before .before .before .before .loop-test .taken)
     (sym (c .before .before .before .pivot-row .ensures .0) ∙ c .before .enum-told .given .1)) ∙ at .loop .inv .1)
 
 eliminate-requires : tie.Need-eliminate-requires Inv-loop μ-loop
 eliminate-requires c κs =
     (c .before .before .before .before .loop-test .taken, found-below _ _ (c .before .k .given .1) (c .before .before .before .pivot-row .ensures .1))
-
-add-i : tie.Need-add-i Inv-loop μ-loop
-add-i c = search needs
-
-loop-less : tie.Need-loop-less Inv-loop μ-loop
-loop-less c = search needs
 
 loop-again : tie.Need-loop-again Inv-loop μ-loop
 loop-again c = (
@@ -59,31 +36,12 @@ loop-again c = (
       ∙ c .before .before .before .before .before .before .loop .inv .1,
 )
 
-right-half-requires : tie.Need-right-half-requires Inv-loop μ-loop
-right-half-requires c κs = search needs
-
 returns-2 : tie.Need-returns-2 Inv-loop μ-loop
 returns-2 c =
-    c .right-half .ensures
-    ∙ answers _ _ _ (c .before .before .before .with-identity .ensures)
+    c .right-half .ensures ∙ answers _ _ _ (c .before .before .before .with-identity .ensures)
     (sym (all-done _ _ (c .before .loop-test .left)) ∙ c .before .before .loop .inv .1)
 
 pub invert-4x4-spec : {M : Type 1} → statement M
 invert-4x4-spec =
-    tie.close
-    (tie.spec
-    Inv-loop
-    μ-loop
-    with-identity-requires
-    loop-holds
-    pivot-row-requires
-    enum-known-k
-    enum-told
-    no-inverse-requires
-    returns
-    eliminate-requires
-    add-i
-    loop-less
-    loop-again
-    right-half-requires
-    returns-2)
+    tie.close (tie.spec Inv-loop μ-loop (λ c κs. search needs) loop-holds (λ c κs. search needs) (λ c. search needs) (λ c. search needs)
+    (λ c κs. search needs) returns eliminate-requires (λ c. search needs) (λ c. search needs) loop-again (λ c κs. search needs) returns-2)

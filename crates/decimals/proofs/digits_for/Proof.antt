@@ -5,33 +5,15 @@ use borrow.Author.Needs.{needs}
 use Rattle.decimals.proofs.digits_for.Statement.{statement}
 use Rattle.decimals.proofs.digits_for.Tie as tie
 
-slice-aggregate-is-word : tie.Need-slice-aggregate-is-word
-slice-aggregate-is-word c = search needs
-
-is-word-requires : tie.Need-is-word-requires
-is-word-requires c κs = search needs
-
 returns : tie.Need-returns
 returns c = (by-place (c .before .before .before .before .args .w .now) (c .before .is-word .ensures) (c .if1 .taken), omega arith)
 
-slice-aggregate-is-word-2 : tie.Need-slice-aggregate-is-word-2
-slice-aggregate-is-word-2 c = search needs
-
-is-word-requires-2 : tie.Need-is-word-requires-2
-is-word-requires-2 c κs = search needs
-
 returns-2 : tie.Need-returns-2
-returns-2 c = (
-  by-at (c .before .before .before .before .before .before .before .args .w .now) (c .before .before .before .before .is-word .ensures)
-      (c .before .before .before .if1 .left) (c .before .is-word2 .ensures) (c .if2 .taken),
-  omega arith,
-)
-
-slice-aggregate-is-word-3 : tie.Need-slice-aggregate-is-word-3
-slice-aggregate-is-word-3 c = search needs
-
-is-word-requires-3 : tie.Need-is-word-requires-3
-is-word-requires-3 c κs = search needs
+returns-2 c =
+    let at-if1 = c .before .before .before in
+    let at-is-word = at-if1 .before in
+    let start = at-is-word .before .before .before in
+    (by-at (start .args .w .now) (at-is-word .is-word .ensures) (at-if1 .if1 .left) (c .before .is-word2 .ensures) (c .if2 .taken), omega arith)
 
 returns-3 : tie.Need-returns-3
 returns-3 c = (
@@ -51,15 +33,5 @@ returns-4 c = (
 
 pub digits-for-spec : {M : Type 1} → statement M
 digits-for-spec =
-    tie.close
-    (tie.spec
-    slice-aggregate-is-word
-    is-word-requires
-    returns
-    slice-aggregate-is-word-2
-    is-word-requires-2
-    returns-2
-    slice-aggregate-is-word-3
-    is-word-requires-3
-    returns-3
-    returns-4)
+    tie.close (tie.spec (λ c. search needs) (λ c κs. search needs) returns (λ c. search needs) (λ c κs. search needs) returns-2 (λ c. search needs)
+    (λ c κs. search needs) returns-3 returns-4)

@@ -25,29 +25,8 @@ loop-holds : tie.Need-loop-holds Inv-loop μ-loop
 loop-holds c = let a = c .before .before .before .args in
     (omega arith, omega arith, omega arith, omega arith, omega arith, fed-from decimalsProgram (a .chunk .now) (a .from) _ _ 0)
 
-sub-if1 : tie.Need-sub-if1 Inv-loop μ-loop
-sub-if1 c = search needs
-
-same-length : tie.Need-same-length Inv-loop μ-loop
-same-length c = search needs
-
-same-length-2 : tie.Need-same-length-2 Inv-loop μ-loop
-same-length-2 c = search needs
-
 returns : tie.Need-returns Inv-loop μ-loop
 returns c = let l = c .before .before .loop in (l .inv .5, (l .inv .0, (l .inv .1, (l .inv .3, λ p q. omega (arith, l .inv .5 .wrote .long)))))
-
-cut-requires : tie.Need-cut-requires Inv-loop μ-loop
-cut-requires c κs = search needs
-
-line-requires : tie.Need-line-requires Inv-loop μ-loop
-line-requires c κs = search needs
-
-add-i : tie.Need-add-i Inv-loop μ-loop
-add-i c = search needs
-
-loop-less : tie.Need-loop-less Inv-loop μ-loop
-loop-less c = search needs
 
 loop-again : tie.Need-loop-again Inv-loop μ-loop
 loop-again c = let a = c .before .before .before .before .before .before .before .before .before .before .before .before .before .before .before
@@ -65,9 +44,6 @@ loop-again c = let a = c .before .before .before .before .before .before .before
           (k .ensures .end (omega arith)) refl (w .0),
     )
 
-loop-less-2 : tie.Need-loop-less-2 Inv-loop μ-loop
-loop-less-2 c = search needs
-
 loop-again-2 : tie.Need-loop-again-2 Inv-loop μ-loop
 loop-again-2 c = let a = c .before .before .before .before .before .before .before .before .before .before .before .args in
     let l = c .before .before .before .before .before .before .before .loop in
@@ -80,33 +56,11 @@ loop-again-2 c = let a = c .before .before .before .before .before .before .befo
       fed-stretch decimalsProgram (a .chunk .now) (a .from) (l .i) (k .result .stop) (l .inv .0) (l .inv .1) (l .inv .5) (k .ensures),
     )
 
-same-length-3 : tie.Need-same-length-3 Inv-loop μ-loop
-same-length-3 c = search needs
-
-same-length-4 : tie.Need-same-length-4 Inv-loop μ-loop
-same-length-4 c = search needs
-
 returns-2 : tie.Need-returns-2 Inv-loop μ-loop
 returns-2 c = let l = c .before .loop in (l .inv .5, (l .inv .0, (l .inv .1, (l .inv .3, λ p q. omega arith))))
 
 pub feed-spec : {M : Type 1} → statement M
 feed-spec =
-    tie.close
-    (tie.spec
-    Inv-loop
-    μ-loop
-    loop-holds
-    sub-if1
-    same-length
-    same-length-2
-    returns
-    cut-requires
-    line-requires
-    add-i
-    loop-less
-    loop-again
-    loop-less-2
-    loop-again-2
-    same-length-3
-    same-length-4
+    tie.close (tie.spec Inv-loop μ-loop loop-holds (λ c. search needs) (λ c. search needs) (λ c. search needs) returns (λ c κs. search needs)
+    (λ c κs. search needs) (λ c. search needs) (λ c. search needs) loop-again (λ c. search needs) loop-again-2 (λ c. search needs) (λ c. search needs)
     returns-2)

@@ -11,19 +11,12 @@ use Rattle.decimals.proofs.finish.Tie as tie
 returns : tie.Need-returns
 returns c = let a = c .before .before .before .args in (end-none decimalsProgram (a .len) (a .begun .now) tt (omega arith) (nothing _ 0), omega arith)
 
-line-requires : tie.Need-line-requires
-line-requires c κs = search needs
-
-same-length : tie.Need-same-length
-same-length c = search needs
-
 returns-2 : tie.Need-returns-2
-returns-2 c = let a = c .before .before .before .before .before .before .before .args in
-    let w = c .before .before .line .ensures in (
-      end-some decimalsProgram (a .len) (a .begun .now) tt {h′ = tt} (omega arith) (c .before .before .before .before .before .before
-          .before .pre .0) refl (w .0) (nothing _ _),
-      omega (arith, w .1),
-    )
+returns-2 c =
+    let start = c .before .before .before .before .before .before .before in
+    let a = start .args in
+    let w = c .before .before .line .ensures in
+    (end-some decimalsProgram (a .len) (a .begun .now) tt {h′ = tt} (omega arith) (start .pre .0) refl (w .0) (nothing _ _), omega (arith, w .1))
 
 pub finish-spec : {M : Type 1} → statement M
-finish-spec = tie.close (tie.spec returns line-requires same-length returns-2)
+finish-spec = tie.close (tie.spec returns (λ c κs. search needs) (λ c. search needs) returns-2)

@@ -23,28 +23,10 @@ abbrev μ-loop : tie.MeasureT-loop
 loop-holds : tie.Need-loop-holds Inv-loop μ-loop
 loop-holds c = (omega arith, omega arith, omega arith, ran-none decimalsProgram _)
 
-feed-requires : tie.Need-feed-requires Inv-loop μ-loop
-feed-requires c κs = search needs
-
-sub-written : tie.Need-sub-written Inv-loop μ-loop
-sub-written c = search needs
-
-part-written-start : tie.Need-part-written-start Inv-loop μ-loop
-part-written-start c = search needs
-
-part-written-end : tie.Need-part-written-end Inv-loop μ-loop
-part-written-end c = search needs
-
-written-requires : tie.Need-written-requires Inv-loop μ-loop
-written-requires c κs = search needs
-
 loop-less : tie.Need-loop-less Inv-loop μ-loop
-loop-less c = let f = c .before .before .before .before .before .before .before .feed .ensures in omega (
-  arith,
-  f .1 .1 .0,
-  f .1 .1 .1 .1
-      (omega arith) (omega arith),
-)
+loop-less c =
+    let f = c .before .before .before .before .before .before .before .feed .ensures in
+    omega (arith, f .1 .1 .0, f .1 .1 .1 .1 (omega arith) (omega arith))
 
 loop-again : tie.Need-loop-again Inv-loop μ-loop
 loop-again c = let l = c .before .before .before .before .before .before .before .before .before .before .before .loop in
@@ -56,30 +38,11 @@ loop-again c = let l = c .before .before .before .before .before .before .before
           .before .before .args .chunk .now) (l .«from») (f .result .next) (l .inv .0) (f .ensures .1 .0) (l .inv .3) (f .ensures .0),
     )
 
-same-length : tie.Need-same-length Inv-loop μ-loop
-same-length c = search needs
-
-same-length-2 : tie.Need-same-length-2 Inv-loop μ-loop
-same-length-2 c = search needs
-
 returns : tie.Need-returns Inv-loop μ-loop
 returns c = ran-all decimalsProgram _ (c .before .before .before .before .before .args .chunk .now) (c .before .loop .«from») (omega arith) (c
     .before .loop .inv .3)
 
 pub feed-all-spec : {M : Type 1} → statement M
 feed-all-spec =
-    tie.close
-    (tie.spec
-    Inv-loop
-    μ-loop
-    loop-holds
-    feed-requires
-    sub-written
-    part-written-start
-    part-written-end
-    written-requires
-    loop-less
-    loop-again
-    same-length
-    same-length-2
-    returns)
+    tie.close (tie.spec Inv-loop μ-loop loop-holds (λ c κs. search needs) (λ c. search needs) (λ c. search needs) (λ c. search needs)
+    (λ c κs. search needs) loop-less loop-again (λ c. search needs) (λ c. search needs) returns)

@@ -9,15 +9,6 @@ use borrow.Author.Needs.{needs}
 use Rattle.exports_convert.proofs.convert_spline_strict.Statement.{statement}
 use Rattle.exports_convert.proofs.convert_spline_strict.Tie as tie
 
-basis-of-requires : tie.Need-basis-of-requires
-basis-of-requires c κs = search needs
-
-enum-known-c : tie.Need-enum-known-c
-enum-known-c c = search needs
-
-enum-told : tie.Need-enum-told
-enum-told c = search needs
-
 returns : tie.Need-returns
 returns c =
     let args = c .before .before .before .before .before .args in
@@ -33,15 +24,6 @@ returns c =
         unfound out (λ f. chosen (chosenOf (args .to)) out (λ t. bufferOf (strictOf f t (args .knots .now) (args .allowance) (length out)) out)) asked unknown,
       ),
     )
-
-basis-of-requires-2 : tie.Need-basis-of-requires-2
-basis-of-requires-2 c κs = search needs
-
-enum-known-d : tie.Need-enum-known-d
-enum-known-d c = search needs
-
-enum-told-2 : tie.Need-enum-told-2
-enum-told-2 c = search needs
 
 returns-2 : tie.Need-returns-2
 returns-2 c =
@@ -64,15 +46,6 @@ returns-2 c =
             (unfound out (λ t. bufferOf (strictOf from t (args .knots .now) (args .allowance) (length out)) out) asked-to unknown),
       ),
     )
-
-convert-spline-strict-requires : tie.Need-convert-spline-strict-requires
-convert-spline-strict-requires c κs = search needs
-
-length-told-requires : tie.Need-length-told-requires
-length-told-requires c κs = search needs
-
-same-length : tie.Need-same-length
-same-length c = search needs
 
 returns-3 : tie.Need-returns-3
 returns-3 c =
@@ -103,17 +76,5 @@ returns-3 c =
 
 pub convert-spline-strict-spec : {M : Type 1} → statement M
 convert-spline-strict-spec =
-    tie.close
-    (tie.spec
-    basis-of-requires
-    enum-known-c
-    enum-told
-    returns
-    basis-of-requires-2
-    enum-known-d
-    enum-told-2
-    returns-2
-    convert-spline-strict-requires
-    length-told-requires
-    same-length
-    returns-3)
+    tie.close (tie.spec (λ c κs. search needs) (λ c. search needs) (λ c. search needs) returns (λ c κs. search needs) (λ c. search needs)
+    (λ c. search needs) returns-2 (λ c κs. search needs) (λ c κs. search needs) (λ c. search needs) returns-3)

@@ -8,15 +8,6 @@ use borrow.Author.Needs.{needs}
 use Rattle.exports_inverse.proofs.most_evaluations.Statement.{statement}
 use Rattle.exports_inverse.proofs.most_evaluations.Tie as tie
 
-basis-of-requires : tie.Need-basis-of-requires
-basis-of-requires c κs = search needs
-
-enum-known-c : tie.Need-enum-known-c
-enum-known-c c = search needs
-
-enum-told : tie.Need-enum-told
-enum-told c = search needs
-
 returns : tie.Need-returns
 returns c =
     let a = c .before .before .before .args in
@@ -25,15 +16,6 @@ returns c =
     let asked = c .before .before .basis-of .ensures in
     let unknown = c .enum-told .given .1 in
     (unfound noBasis (λ b. way w noBasis (λ e m. 0)) asked unknown, unfound most (λ b. way w most (λ e m. mostOf e m b (a .n) (a .limit))) asked unknown)
-
-way-of-requires : tie.Need-way-of-requires
-way-of-requires c κs = search needs
-
-enum-known-w : tie.Need-enum-known-w
-enum-known-w c = search needs
-
-enum-told-2 : tie.Need-enum-told-2
-enum-told-2 c = search needs
 
 returns-2 : tie.Need-returns-2
 returns-2 c =
@@ -50,12 +32,6 @@ returns-2 c =
       found most (λ b. way w most (λ e m. mostOf e m b (a .n) (a .limit))) asked known
           (way-unfound most (λ e m. mostOf e m basis (a .n) (a .limit)) asked-way unknown),
     )
-
-most-evaluations-requires : tie.Need-most-evaluations-requires
-most-evaluations-requires c κs = search needs
-
-cast-most : tie.Need-cast-most
-cast-most c = search needs
 
 returns-3 : tie.Need-returns-3
 returns-3 c =
@@ -75,16 +51,5 @@ returns-3 c =
 
 pub most-evaluations-spec : {M : Type 1} → statement M
 most-evaluations-spec =
-    tie.close
-    (tie.spec
-    basis-of-requires
-    enum-known-c
-    enum-told
-    returns
-    way-of-requires
-    enum-known-w
-    enum-told-2
-    returns-2
-    most-evaluations-requires
-    cast-most
-    returns-3)
+    tie.close (tie.spec (λ c κs. search needs) (λ c. search needs) (λ c. search needs) returns (λ c κs. search needs) (λ c. search needs)
+    (λ c. search needs) returns-2 (λ c κs. search needs) (λ c. search needs) returns-3)

@@ -8,15 +8,6 @@ use borrow.Author.Needs.{needs}
 use Rattle.exports_inverse.proofs.spline_inverse_by.Statement.{statement}
 use Rattle.exports_inverse.proofs.spline_inverse_by.Tie as tie
 
-basis-of-requires : tie.Need-basis-of-requires
-basis-of-requires c κs = search needs
-
-enum-known-c : tie.Need-enum-known-c
-enum-known-c c = search needs
-
-enum-told : tie.Need-enum-told
-enum-told c = search needs
-
 returns : tie.Need-returns
 returns c =
     let args = c .before .before .before .before .args in
@@ -34,15 +25,6 @@ returns c =
             (λ e m. wholeLeft (inverseBy e m b (args .y) (args .knots .now) (args .check) (args .limit) (args .precision)) whole)) asked unknown,
       ),
     )
-
-way-of-requires : tie.Need-way-of-requires
-way-of-requires c κs = search needs
-
-enum-known-w : tie.Need-enum-known-w
-enum-known-w c = search needs
-
-enum-told-2 : tie.Need-enum-told-2
-enum-told-2 c = search needs
 
 returns-2 : tie.Need-returns-2
 returns-2 c =
@@ -69,12 +51,6 @@ returns-2 c =
             unknown),
       ),
     )
-
-spline-inverse-by-requires : tie.Need-spline-inverse-by-requires
-spline-inverse-by-requires c κs = search needs
-
-place-told-requires : tie.Need-place-told-requires
-place-told-requires c κs = search needs
 
 returns-3 : tie.Need-returns-3
 returns-3 c =
@@ -106,16 +82,5 @@ returns-3 c =
 
 pub spline-inverse-by-spec : {M : Type 1} → statement M
 spline-inverse-by-spec =
-    tie.close
-    (tie.spec
-    basis-of-requires
-    enum-known-c
-    enum-told
-    returns
-    way-of-requires
-    enum-known-w
-    enum-told-2
-    returns-2
-    spline-inverse-by-requires
-    place-told-requires
-    returns-3)
+    tie.close (tie.spec (λ c κs. search needs) (λ c. search needs) (λ c. search needs) returns (λ c κs. search needs) (λ c. search needs)
+    (λ c. search needs) returns-2 (λ c κs. search needs) (λ c κs. search needs) returns-3)

@@ -7,15 +7,6 @@ use borrow.Author.Needs.{needs}
 use Rattle.exports_inverse_segment.proofs.spline_inverse_segment.Statement.{statement}
 use Rattle.exports_inverse_segment.proofs.spline_inverse_segment.Tie as tie
 
-basis-of-requires : tie.Need-basis-of-requires
-basis-of-requires c κs = search needs
-
-enum-known-c : tie.Need-enum-known-c
-enum-known-c c = search needs
-
-enum-told : tie.Need-enum-told
-enum-told c = search needs
-
 returns : tie.Need-returns
 returns c =
     let args = c .before .before .before .before .args in
@@ -29,12 +20,6 @@ returns c =
         unfound whole (λ b. wholeLeft (inverseSegmentOf b (args .y) (args .cv .now) defaultLimit defaultPrecision) whole) asked unknown,
       ),
     )
-
-spline-inverse-segment-requires : tie.Need-spline-inverse-segment-requires
-spline-inverse-segment-requires c κs = search needs
-
-place-told-requires : tie.Need-place-told-requires
-place-told-requires c κs = search needs
 
 returns-2 : tie.Need-returns-2
 returns-2 c =
@@ -57,11 +42,4 @@ returns-2 c =
 pub spline-inverse-segment-spec : {M : Type 1} → statement M
 spline-inverse-segment-spec =
     tie.close
-    (tie.spec
-    basis-of-requires
-    enum-known-c
-    enum-told
-    returns
-    spline-inverse-segment-requires
-    place-told-requires
-    returns-2)
+    (tie.spec (λ c κs. search needs) (λ c. search needs) (λ c. search needs) returns (λ c κs. search needs) (λ c κs. search needs) returns-2)

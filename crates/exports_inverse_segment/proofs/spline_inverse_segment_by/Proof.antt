@@ -9,15 +9,6 @@ use borrow.Author.Needs.{needs}
 use Rattle.exports_inverse_segment.proofs.spline_inverse_segment_by.Statement.{statement}
 use Rattle.exports_inverse_segment.proofs.spline_inverse_segment_by.Tie as tie
 
-basis-of-requires : tie.Need-basis-of-requires
-basis-of-requires c κs = search needs
-
-enum-known-c : tie.Need-enum-known-c
-enum-known-c c = search needs
-
-enum-told : tie.Need-enum-told
-enum-told c = search needs
-
 returns : tie.Need-returns
 returns c =
     let args = c .before .before .before .before .args in
@@ -35,15 +26,6 @@ returns c =
             asked unknown,
       ),
     )
-
-way-of-requires : tie.Need-way-of-requires
-way-of-requires c κs = search needs
-
-enum-known-w : tie.Need-enum-known-w
-enum-known-w c = search needs
-
-enum-told-2 : tie.Need-enum-told-2
-enum-told-2 c = search needs
 
 returns-2 : tie.Need-returns-2
 returns-2 c =
@@ -68,12 +50,6 @@ returns-2 c =
             (λ e m. wholeLeft (inverseSegmentBy (ruleOf m) basis (args .y) (args .cv .now) (args .limit) (args .precision)) whole) asked-way unknown),
       ),
     )
-
-spline-inverse-segment-by-requires : tie.Need-spline-inverse-segment-by-requires
-spline-inverse-segment-by-requires c κs = search needs
-
-place-told-requires : tie.Need-place-told-requires
-place-told-requires c κs = search needs
 
 returns-3 : tie.Need-returns-3
 returns-3 c =
@@ -105,16 +81,5 @@ returns-3 c =
 
 pub spline-inverse-segment-by-spec : {M : Type 1} → statement M
 spline-inverse-segment-by-spec =
-    tie.close
-    (tie.spec
-    basis-of-requires
-    enum-known-c
-    enum-told
-    returns
-    way-of-requires
-    enum-known-w
-    enum-told-2
-    returns-2
-    spline-inverse-segment-by-requires
-    place-told-requires
-    returns-3)
+    tie.close (tie.spec (λ c κs. search needs) (λ c. search needs) (λ c. search needs) returns (λ c κs. search needs) (λ c. search needs)
+    (λ c. search needs) returns-2 (λ c κs. search needs) (λ c κs. search needs) returns-3)

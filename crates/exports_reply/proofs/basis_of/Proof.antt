@@ -28,8 +28,7 @@ returns-6 c = ap chosenOf (sym (c .match .keys6))
 
 returns-7 : tie.Need-returns-7
 returns-7 c =
-    sym (List·getD-eq-default (map Known bases) Unknown {n = c .before .args .n}
-    (omega (
+    sym (List·getD-eq-default (map Known bases) Unknown {n = c .before .args .n} (omega (
       arith,
       c .match .rest .0 .0 .0 .0 .0 .1,
       c .match .rest .0 .0 .0 .0 .1,

@@ -5,20 +5,8 @@ use borrow.Author.Needs.{needs}
 use Rattle.exports_reply.proofs.conversion_reply.Statement.{statement}
 use Rattle.exports_reply.proofs.conversion_reply.Tie as tie
 
-enum-told : tie.Need-enum-told
-enum-told c = search needs
-
-enum-known-a : tie.Need-enum-known-a
-enum-known-a c = search needs
-
-reply-requires : tie.Need-reply-requires
-reply-requires c κs = search needs
-
-returns : tie.Need-returns
-returns c = search needs
-
 returns-2 : tie.Need-returns-2
 returns-2 c = c .reply .ensures ∙ sym (ap convertedReply (c .before .before .a .given .1))
 
 pub conversion-reply-spec : {M : Type 1} → statement M
-conversion-reply-spec = tie.close (tie.spec enum-told enum-known-a reply-requires returns returns-2)
+conversion-reply-spec = tie.close (tie.spec (λ c. search needs) (λ c. search needs) (λ c κs. search needs) (λ c. search needs) returns-2)

@@ -5,18 +5,6 @@ use borrow.Author.Needs.{needs}
 use Rattle.exports_reply.proofs.length_told.Statement.{statement}
 use Rattle.exports_reply.proofs.length_told.Tie as tie
 
-enum-known-a : tie.Need-enum-known-a
-enum-known-a c = search needs
-
-enum-known-a-2 : tie.Need-enum-known-a-2
-enum-known-a-2 c = search needs
-
-reply-requires : tie.Need-reply-requires
-reply-requires c κs = search needs
-
-returns : tie.Need-returns
-returns c = search needs
-
 returns-2 : tie.Need-returns-2
 returns-2 c =
     let args = c .before .before .before .before .args in
@@ -24,4 +12,4 @@ returns-2 c =
     (c .reply .ensures ∙ sym (ap convertedReply is), sym (ap (λ a. lengthLeft a (args .written .now)) is))
 
 pub length-told-spec : {M : Type 1} → statement M
-length-told-spec = tie.close (tie.spec enum-known-a enum-known-a-2 reply-requires returns returns-2)
+length-told-spec = tie.close (tie.spec (λ c. search needs) (λ c. search needs) (λ c κs. search needs) (λ c. search needs) returns-2)

@@ -7,30 +7,6 @@ use borrow.Author.Needs.{needs}
 use Rattle.exports_reply.proofs.place_told.Statement.{statement}
 use Rattle.exports_reply.proofs.place_told.Tie as tie
 
-enum-known-a : tie.Need-enum-known-a
-enum-known-a c = search needs
-
-ground-number-requires : tie.Need-ground-number-requires
-ground-number-requires c κs = search needs
-
-cast-t10 : tie.Need-cast-t10
-cast-t10 c = search needs
-
-enum-known-a-2 : tie.Need-enum-known-a-2
-enum-known-a-2 c = search needs
-
-element-write-whole : tie.Need-element-write-whole
-element-write-whole c = search needs
-
-reply-requires : tie.Need-reply-requires
-reply-requires c κs = search needs
-
-enum-known-a-3 : tie.Need-enum-known-a-3
-enum-known-a-3 c = search needs
-
-reply-requires-2 : tie.Need-reply-requires-2
-reply-requires-2 c κs = search needs
-
 returns : tie.Need-returns
 returns c =
     let args = c .before .before .before .before .before .before .before .args in
@@ -58,16 +34,5 @@ returns-3 c =
 
 pub place-told-spec : {M : Type 1} → statement M
 place-told-spec =
-    tie.close
-    (tie.spec
-    enum-known-a
-    ground-number-requires
-    cast-t10
-    enum-known-a-2
-    element-write-whole
-    reply-requires
-    enum-known-a-3
-    reply-requires-2
-    returns
-    returns-2
-    returns-3)
+    tie.close (tie.spec (λ c. search needs) (λ c κs. search needs) (λ c. search needs) (λ c. search needs) (λ c. search needs) (λ c κs. search needs)
+    (λ c. search needs) (λ c κs. search needs) returns returns-2 returns-3)

@@ -5,18 +5,6 @@ use borrow.Author.Needs.{needs}
 use Rattle.exports_reply.proofs.value_told.Statement.{statement}
 use Rattle.exports_reply.proofs.value_told.Tie as tie
 
-enum-known-e : tie.Need-enum-known-e
-enum-known-e c = search needs
-
-enum-known-e-2 : tie.Need-enum-known-e-2
-enum-known-e-2 c = search needs
-
-reply-requires : tie.Need-reply-requires
-reply-requires c κs = search needs
-
-returns : tie.Need-returns
-returns c = search needs
-
 returns-2 : tie.Need-returns-2
 returns-2 c =
     let args = c .before .before .before .before .args in
@@ -24,4 +12,4 @@ returns-2 c =
     (c .reply .ensures ∙ sym (ap evaluatedReply is), sym (ap (λ e. valueLeft e (args .value .now)) is))
 
 pub value-told-spec : {M : Type 1} → statement M
-value-told-spec = tie.close (tie.spec enum-known-e enum-known-e-2 reply-requires returns returns-2)
+value-told-spec = tie.close (tie.spec (λ c. search needs) (λ c. search needs) (λ c κs. search needs) (λ c. search needs) returns-2)

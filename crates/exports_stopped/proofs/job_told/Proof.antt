@@ -5,39 +5,6 @@ use borrow.Author.Needs.{needs}
 use Rattle.exports_stopped.proofs.job_told.Statement.{statement}
 use Rattle.exports_stopped.proofs.job_told.Tie as tie
 
-enum-known-a : tie.Need-enum-known-a
-enum-known-a c = search needs
-
-reply-requires : tie.Need-reply-requires
-reply-requires c κs = search needs
-
-enum-known-a-2 : tie.Need-enum-known-a-2
-enum-known-a-2 c = search needs
-
-timed-told-requires : tie.Need-timed-told-requires
-timed-told-requires c κs = search needs
-
-enum-known-a-3 : tie.Need-enum-known-a-3
-enum-known-a-3 c = search needs
-
-timed-told-requires-2 : tie.Need-timed-told-requires-2
-timed-told-requires-2 c κs = search needs
-
-enum-told : tie.Need-enum-told
-enum-told c = search needs
-
-enum-told-2 : tie.Need-enum-told-2
-enum-told-2 c = search needs
-
-enum-told-3 : tie.Need-enum-told-3
-enum-told-3 c = search needs
-
-enum-told-4 : tie.Need-enum-told-4
-enum-told-4 c = search needs
-
-enum-told-5 : tie.Need-enum-told-5
-enum-told-5 c = search needs
-
 returns : tie.Need-returns
 returns c = let args = c .before .before .before .before .args
     in left (args .job .now) (args .place .now) (args .whole .now) (c .before .before .a .given .1) (c .reply .ensures, (refl, (refl, refl)))
@@ -76,24 +43,6 @@ returns-8 c = let args = c .before .before .args
 
 pub job-told-spec : {M : Type 1} → statement M
 job-told-spec =
-    tie.close
-    (tie.spec
-    enum-known-a
-    reply-requires
-    enum-known-a-2
-    timed-told-requires
-    enum-known-a-3
-    timed-told-requires-2
-    enum-told
-    enum-told-2
-    enum-told-3
-    enum-told-4
-    enum-told-5
-    returns
-    returns-2
-    returns-3
-    returns-4
-    returns-5
-    returns-6
-    returns-7
-    returns-8)
+    tie.close (tie.spec (λ c. search needs) (λ c κs. search needs) (λ c. search needs) (λ c κs. search needs) (λ c. search needs)
+    (λ c κs. search needs) (λ c. search needs) (λ c. search needs) (λ c. search needs) (λ c. search needs) (λ c. search needs) returns returns-2
+    returns-3 returns-4 returns-5 returns-6 returns-7 returns-8)

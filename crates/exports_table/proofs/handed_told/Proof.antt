@@ -5,22 +5,11 @@ use borrow.Author.Needs.{needs}
 use Rattle.exports_table.proofs.handed_told.Statement.{statement}
 use Rattle.exports_table.proofs.handed_told.Tie as tie
 
-enum-known-a : tie.Need-enum-known-a
-enum-known-a c = search needs
-
-enum-known-a-2 : tie.Need-enum-known-a-2
-enum-known-a-2 c = search needs
-
-reply-requires : tie.Need-reply-requires
-reply-requires c κs = search needs
-
 returns : tie.Need-returns
 returns c =
     let args = c .before .before .before .args in
-    let is = c .before .a .given .1 in (
-      sym (ap handedReply is),
-      (sym (ap (λ a. handedSpan a (args .handed .now)) is), sym (ap (λ a. handedLength a (args .written .now)) is)),
-    )
+    let is = c .before .a .given .1 in
+    (sym (ap handedReply is), (sym (ap (λ a. handedSpan a (args .handed .now)) is), sym (ap (λ a. handedLength a (args .written .now)) is)))
 
 returns-2 : tie.Need-returns-2
 returns-2 c = let args = c .before .before .before .before .args in
@@ -30,5 +19,4 @@ returns-2 c = let args = c .before .before .before .before .args in
     )
 
 pub handed-told-spec : {M : Type 1} → statement M
-handed-told-spec =
-    tie.close (tie.spec enum-known-a enum-known-a-2 reply-requires returns returns-2)
+handed-told-spec = tie.close (tie.spec (λ c. search needs) (λ c. search needs) (λ c κs. search needs) returns returns-2)

@@ -8,30 +8,12 @@ use borrow.Author.Needs.{needs}
 use Rattle.exports_table.proofs.table_convert_spline_strict.Statement.{statement}
 use Rattle.exports_table.proofs.table_convert_spline_strict.Tie as tie
 
-basis-of-requires : tie.Need-basis-of-requires
-basis-of-requires c κs = search needs
-
-enum-known-c : tie.Need-enum-known-c
-enum-known-c c = search needs
-
-enum-told : tie.Need-enum-told
-enum-told c = search needs
-
 returns : tie.Need-returns
 returns c =
     let args = c .before .before .before .before .before .args in
     left-unknown (args .span) (λ f t. tableStrictOf (tableOf (args .span) f) t (args .knots .now) (args .allowance) (length (args .out .now)))
     (chosenOf (args .from)) (chosenOf (args .to)) (args .handed .now) (args .written .now) (args .out .now) (c .before .before .basis-of .ensures)
     (c .enum-told .given .1)
-
-basis-of-requires-2 : tie.Need-basis-of-requires-2
-basis-of-requires-2 c κs = search needs
-
-enum-known-d : tie.Need-enum-known-d
-enum-known-d c = search needs
-
-enum-told-2 : tie.Need-enum-told-2
-enum-told-2 c = search needs
 
 returns-2 : tie.Need-returns-2
 returns-2 c =
@@ -40,15 +22,6 @@ returns-2 c =
     (chosenOf (args .from)) (chosenOf (args .to)) (args .handed .now) (args .written .now) (args .out .now)
     (c .before .before .before .before .before .before .basis-of .ensures) (c .before .before .before .before .c .given .1)
     (c .before .before .basis-of2 .ensures) (c .enum-told2 .given .1)
-
-table-convert-spline-strict-requires : tie.Need-table-convert-spline-strict-requires
-table-convert-spline-strict-requires c κs = search needs
-
-handed-told-requires : tie.Need-handed-told-requires
-handed-told-requires c κs = search needs
-
-same-length : tie.Need-same-length
-same-length c = search needs
 
 returns-3 : tie.Need-returns-3
 returns-3 c =
@@ -66,17 +39,5 @@ returns-3 c =
 
 pub table-convert-spline-strict-spec : {M : Type 1} → statement M
 table-convert-spline-strict-spec =
-    tie.close
-    (tie.spec
-    basis-of-requires
-    enum-known-c
-    enum-told
-    returns
-    basis-of-requires-2
-    enum-known-d
-    enum-told-2
-    returns-2
-    table-convert-spline-strict-requires
-    handed-told-requires
-    same-length
-    returns-3)
+    tie.close (tie.spec (λ c κs. search needs) (λ c. search needs) (λ c. search needs) returns (λ c κs. search needs) (λ c. search needs)
+    (λ c. search needs) returns-2 (λ c κs. search needs) (λ c κs. search needs) (λ c. search needs) returns-3)

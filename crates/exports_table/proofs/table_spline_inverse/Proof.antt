@@ -11,15 +11,6 @@ use borrow.Author.Needs.{needs}
 use Rattle.exports_table.proofs.table_spline_inverse.Statement.{statement}
 use Rattle.exports_table.proofs.table_spline_inverse.Tie as tie
 
-basis-of-requires : tie.Need-basis-of-requires
-basis-of-requires c κs = search needs
-
-enum-known-c : tie.Need-enum-known-c
-enum-known-c c = search needs
-
-enum-told : tie.Need-enum-told
-enum-told c = search needs
-
 returns : tie.Need-returns
 returns c =
     let args = c .before .before .before .before .args in
@@ -38,12 +29,6 @@ returns c =
             unknown,
       ),
     )
-
-table-spline-inverse-requires : tie.Need-table-spline-inverse-requires
-table-spline-inverse-requires c κs = search needs
-
-timed-told-requires : tie.Need-timed-told-requires
-timed-told-requires c κs = search needs
 
 returns-2 : tie.Need-returns-2
 returns-2 c =
@@ -69,11 +54,4 @@ returns-2 c =
 pub table-spline-inverse-spec : {M : Type 1} → statement M
 table-spline-inverse-spec =
     tie.close
-    (tie.spec
-    basis-of-requires
-    enum-known-c
-    enum-told
-    returns
-    table-spline-inverse-requires
-    timed-told-requires
-    returns-2)
+    (tie.spec (λ c κs. search needs) (λ c. search needs) (λ c. search needs) returns (λ c κs. search needs) (λ c κs. search needs) returns-2)

@@ -9,15 +9,6 @@ use borrow.Author.Needs.{needs}
 use Rattle.exports_table.proofs.table_spline_inverse_by.Statement.{statement}
 use Rattle.exports_table.proofs.table_spline_inverse_by.Tie as tie
 
-basis-of-requires : tie.Need-basis-of-requires
-basis-of-requires c κs = search needs
-
-enum-known-c : tie.Need-enum-known-c
-enum-known-c c = search needs
-
-enum-told : tie.Need-enum-told
-enum-told c = search needs
-
 returns : tie.Need-returns
 returns c =
     let args = c .before .before .before .before .args in
@@ -26,27 +17,17 @@ returns c =
     let w = wayOf (args .ends) (args .method) in
     let asked = c .before .before .basis-of .ensures in
     let unknown = c .enum-told .given .1 in (
-      unfound noBasis (λ b. way w noBasis
-          (λ e m. timedReply (tableInverseBy e m (tableOf (args .span) b) (args .y) (args .knots .now) (args .check) (args .limit) (args .precision))))
-          asked unknown,
+      unfound noBasis (λ b. way w noBasis (λ e m. timedReply
+          (tableInverseBy e m (tableOf (args .span) b) (args .y) (args .knots .now) (args .check) (args .limit) (args .precision)))) asked unknown,
       (
-        unfound place (λ b. way w place
-            (λ e m. timedPlace (tableInverseBy e m (tableOf (args .span) b) (args .y) (args .knots .now) (args .check) (args .limit) (args .precision))
-            place)) asked unknown,
-        unfound whole (λ b. way w whole
-            (λ e m. timedWhole (tableInverseBy e m (tableOf (args .span) b) (args .y) (args .knots .now) (args .check) (args .limit) (args .precision))
-            whole)) asked unknown,
+        unfound place (λ b. way w place (λ e m. timedPlace
+            (tableInverseBy e m (tableOf (args .span) b) (args .y) (args .knots .now) (args .check) (args .limit) (args .precision)) place)) asked
+            unknown,
+        unfound whole (λ b. way w whole (λ e m. timedWhole
+            (tableInverseBy e m (tableOf (args .span) b) (args .y) (args .knots .now) (args .check) (args .limit) (args .precision)) whole)) asked
+            unknown,
       ),
     )
-
-way-of-requires : tie.Need-way-of-requires
-way-of-requires c κs = search needs
-
-enum-known-w : tie.Need-enum-known-w
-enum-known-w c = search needs
-
-enum-told-2 : tie.Need-enum-told-2
-enum-told-2 c = search needs
 
 returns-2 : tie.Need-returns-2
 returns-2 c =
@@ -77,12 +58,6 @@ returns-2 c =
             (args .precision)) whole) asked-way unknown),
       ),
     )
-
-table-spline-inverse-by-requires : tie.Need-table-spline-inverse-by-requires
-table-spline-inverse-by-requires c κs = search needs
-
-timed-told-requires : tie.Need-timed-told-requires
-timed-told-requires c κs = search needs
 
 returns-3 : tie.Need-returns-3
 returns-3 c =
@@ -117,16 +92,5 @@ returns-3 c =
 
 pub table-spline-inverse-by-spec : {M : Type 1} → statement M
 table-spline-inverse-by-spec =
-    tie.close
-    (tie.spec
-    basis-of-requires
-    enum-known-c
-    enum-told
-    returns
-    way-of-requires
-    enum-known-w
-    enum-told-2
-    returns-2
-    table-spline-inverse-by-requires
-    timed-told-requires
-    returns-3)
+    tie.close (tie.spec (λ c κs. search needs) (λ c. search needs) (λ c. search needs) returns (λ c κs. search needs) (λ c. search needs)
+    (λ c. search needs) returns-2 (λ c κs. search needs) (λ c κs. search needs) returns-3)

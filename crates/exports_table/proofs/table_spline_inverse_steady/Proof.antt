@@ -8,15 +8,6 @@ use borrow.Author.Needs.{needs}
 use Rattle.exports_table.proofs.table_spline_inverse_steady.Statement.{statement}
 use Rattle.exports_table.proofs.table_spline_inverse_steady.Tie as tie
 
-basis-of-requires : tie.Need-basis-of-requires
-basis-of-requires c κs = search needs
-
-enum-known-c : tie.Need-enum-known-c
-enum-known-c c = search needs
-
-enum-told : tie.Need-enum-told
-enum-told c = search needs
-
 returns : tie.Need-returns
 returns c =
     let args = c .before .before .before .before .args in
@@ -30,12 +21,6 @@ returns c =
         unfound whole (λ b. timedWhole (tableSteadyOf (tableOf (args .span) b) (args .y) (args .knots .now) (args .check)) whole) asked unknown,
       ),
     )
-
-table-spline-inverse-steady-requires : tie.Need-table-spline-inverse-steady-requires
-table-spline-inverse-steady-requires c κs = search needs
-
-timed-told-requires : tie.Need-timed-told-requires
-timed-told-requires c κs = search needs
 
 returns-2 : tie.Need-returns-2
 returns-2 c =
@@ -58,11 +43,4 @@ returns-2 c =
 pub table-spline-inverse-steady-spec : {M : Type 1} → statement M
 table-spline-inverse-steady-spec =
     tie.close
-    (tie.spec
-    basis-of-requires
-    enum-known-c
-    enum-told
-    returns
-    table-spline-inverse-steady-requires
-    timed-told-requires
-    returns-2)
+    (tie.spec (λ c κs. search needs) (λ c. search needs) (λ c. search needs) returns (λ c κs. search needs) (λ c κs. search needs) returns-2)

@@ -7,33 +7,6 @@ use borrow.Author.Needs.{needs}
 use Rattle.exports_table.proofs.timed_told.Statement.{statement}
 use Rattle.exports_table.proofs.timed_told.Tie as tie
 
-enum-known-a : tie.Need-enum-known-a
-enum-known-a c = search needs
-
-ground-number-requires : tie.Need-ground-number-requires
-ground-number-requires c κs = search needs
-
-cast-t11 : tie.Need-cast-t11
-cast-t11 c = search needs
-
-cast-t12 : tie.Need-cast-t12
-cast-t12 c = search needs
-
-enum-known-a-2 : tie.Need-enum-known-a-2
-enum-known-a-2 c = search needs
-
-element-write-whole : tie.Need-element-write-whole
-element-write-whole c = search needs
-
-reply-requires : tie.Need-reply-requires
-reply-requires c κs = search needs
-
-enum-known-a-3 : tie.Need-enum-known-a-3
-enum-known-a-3 c = search needs
-
-reply-requires-2 : tie.Need-reply-requires-2
-reply-requires-2 c κs = search needs
-
 returns : tie.Need-returns
 returns c = let args = c .before .before .before .before .before .before .before .args in
     let is = c .before .before .before .before .before .a .given .1 in
@@ -59,17 +32,5 @@ returns-3 c = let args = c .before .before .before .before .args in
 
 pub timed-told-spec : {M : Type 1} → statement M
 timed-told-spec =
-    tie.close
-    (tie.spec
-    enum-known-a
-    ground-number-requires
-    cast-t11
-    cast-t12
-    enum-known-a-2
-    element-write-whole
-    reply-requires
-    enum-known-a-3
-    reply-requires-2
-    returns
-    returns-2
-    returns-3)
+    tie.close (tie.spec (λ c. search needs) (λ c κs. search needs) (λ c. search needs) (λ c. search needs) (λ c. search needs) (λ c. search needs)
+    (λ c κs. search needs) (λ c. search needs) (λ c κs. search needs) returns returns-2 returns-3)

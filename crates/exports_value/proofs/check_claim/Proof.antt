@@ -7,62 +7,23 @@ use Rattle.exports_reply.proofs.Found.{found}
 use borrow.Author.Needs.{needs}
 use Rattle.exports_value.proofs.check_claim.Statement.{statement}
 use Rattle.exports_value.proofs.check_claim.Tie as tie
-use Rattle.exports_value.proofs.check_claim.Reads as reads
-use Rattle.exports_value.proofs.check_claim.Lts as lts
-use Rattle.claim.proofs.check_claim.Reads as check-claim-reads
-use Rattle.exports_reply.proofs.basis_of.Reads as basis-of-reads
-use Rattle.exports_value.proofs.claimed_told.Reads as claimed-told-reads
-
-basis-of-requires : tie.Need-basis-of-requires
-basis-of-requires c κs = search needs
-
-enum-known-c : tie.Need-enum-known-c
-enum-known-c c = search needs
-
-enum-told : tie.Need-enum-told
-enum-told c = search needs
-
-returns : tie.Need-returns
-returns c = search needs
-
-check-claim-requires : tie.Need-check-claim-requires
-check-claim-requires c κs = search needs
-
-claimed-told-requires : tie.Need-claimed-told-requires
-claimed-told-requires c κs = search needs
 
 returns-2 : tie.Need-returns-2
-returns-2 c = let old = c .before .before .before .before .before .before .before .before .args .holds .now in let call =
-    c .before .before .check-claim .ensures
-    in (
-      found noBasis (λ b. claimedReply
-          (claimOf b (c .before .before .before .before .before .before .before .before .args .y)
-          (c .before .before .before .before .before .before .before .before .args .segment)
-          (c .before .before .before .before .before .before .before .before .args .x)
-          (c .before .before .before .before .before .before .before .before .args .precision)
-          (c .before .before .before .before .before .before .before .before .args .knots .now)))
-          (c .before .before .before .before .before .before .basis-of .ensures) (c .before .before .before .before .c .given .1)
-          (c .claimed-told .ensures .0 ∙ ap claimedReply call),
+returns-2 c =
+    let at-c = c .before .before .before .before in
+    let at-basis-of = at-c .before .before in
+    let start = at-basis-of .before .before in
+    let old = start .args .holds .now in
+    let call = c .before .before .check-claim .ensures in (
+      found noBasis
+          (λ b. claimedReply (claimOf b (start .args .y) (start .args .segment) (start .args .x) (start .args .precision) (start .args .knots .now)))
+          (at-basis-of .basis-of .ensures) (at-c .c .given .1) (c .claimed-told .ensures .0 ∙ ap claimedReply call),
       found old
-          (λ b. holdsLeft
-          (claimOf b (c .before .before .before .before .before .before .before .before .args .y)
-          (c .before .before .before .before .before .before .before .before .args .segment)
-          (c .before .before .before .before .before .before .before .before .args .x)
-          (c .before .before .before .before .before .before .before .before .args .precision)
-          (c .before .before .before .before .before .before .before .before .args .knots .now)) old)
-          (c .before .before .before .before .before .before .basis-of .ensures)
-          (c .before .before .before .before .c .given .1)
-          (c .claimed-told .ensures .1 ∙ ap (λ e. holdsLeft e old) call),
+          (λ b. holdsLeft (claimOf b (start .args .y) (start .args .segment) (start .args .x) (start .args .precision) (start .args .knots .now)) old)
+          (at-basis-of .basis-of .ensures) (at-c .c .given .1) (c .claimed-told .ensures .1 ∙ ap (λ e. holdsLeft e old) call),
     )
 
 pub check-claim-spec : {M : Type 1} → statement M
 check-claim-spec =
-    tie.close
-    (tie.spec
-    basis-of-requires
-    enum-known-c
-    enum-told
-    returns
-    check-claim-requires
-    claimed-told-requires
-    returns-2)
+    tie.close (tie.spec (λ c κs. search needs) (λ c. search needs) (λ c. search needs) (λ c. search needs) (λ c κs. search needs)
+    (λ c κs. search needs) returns-2)

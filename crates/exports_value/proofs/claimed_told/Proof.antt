@@ -4,24 +4,6 @@ use Rattle.exports_value.specs.Claims.{claimedReply, holdsLeft}
 use borrow.Author.Needs.{needs}
 use Rattle.exports_value.proofs.claimed_told.Statement.{statement}
 use Rattle.exports_value.proofs.claimed_told.Tie as tie
-use Rattle.exports_value.proofs.claimed_told.Reads as reads
-use Rattle.exports_value.proofs.claimed_told.Lts as lts
-use Rattle.error.proofs.reply.Reads as reply-reads
-
-enum-told : tie.Need-enum-told
-enum-told c = search needs
-
-enum-told-2 : tie.Need-enum-told-2
-enum-told-2 c = search needs
-
-enum-known-c : tie.Need-enum-known-c
-enum-known-c c = search needs
-
-reply-requires : tie.Need-reply-requires
-reply-requires c κs = search needs
-
-returns : tie.Need-returns
-returns c = search needs
 
 returns-2 : tie.Need-returns-2
 returns-2 c = search needs
@@ -32,5 +14,4 @@ returns-3 c = let is = c .before .before .c .given .1
 
 pub claimed-told-spec : {M : Type 1} → statement M
 claimed-told-spec =
-    tie.close
-    (tie.spec enum-told enum-told-2 enum-known-c reply-requires returns returns-2 returns-3)
+    tie.close (tie.spec (λ c. search needs) (λ c. search needs) (λ c. search needs) (λ c κs. search needs) (λ c. search needs) returns-2 returns-3)

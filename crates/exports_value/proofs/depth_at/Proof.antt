@@ -10,15 +10,6 @@ use borrow.Author.Needs.{needs}
 use Rattle.exports_value.proofs.depth_at.Statement.{statement}
 use Rattle.exports_value.proofs.depth_at.Tie as tie
 
-basis-of-requires : tie.Need-basis-of-requires
-basis-of-requires c κs = search needs
-
-enum-known-c : tie.Need-enum-known-c
-enum-known-c c = search needs
-
-enum-told : tie.Need-enum-told
-enum-told c = search needs
-
 returns : tie.Need-returns
 returns c =
     let a = c .before .before .before .before .before .args in
@@ -31,29 +22,20 @@ returns c =
         unfound (a .depth .now) (λ t. chosen to (a .depth .now) (λ d. depthLeft (g t d) (a .depth .now))) asked unknown,
         (
           unfound (a .place .now) (λ t. chosen to (a .place .now) (λ d. depthPlaceLeft (g t d) (a .place .now))) asked unknown,
-          unfound (a .whole .now)
-              (λ t. chosen to (a .whole .now) (λ d. depthWholeLeft (g t d) (a .whole .now))) asked unknown,
+          unfound (a .whole .now) (λ t. chosen to (a .whole .now) (λ d. depthWholeLeft (g t d) (a .whole .now))) asked unknown,
         ),
       ),
     )
 
-basis-of-requires-2 : tie.Need-basis-of-requires-2
-basis-of-requires-2 c κs = search needs
-
-enum-known-e : tie.Need-enum-known-e
-enum-known-e c = search needs
-
-enum-told-2 : tie.Need-enum-told-2
-enum-told-2 c = search needs
-
 returns-2 : tie.Need-returns-2
 returns-2 c =
-    let a = c .before .before .before .before .before .before .before .before .before .args in
+    let at-c = c .before .before .before .before in
+    let a = at-c .before .before .before .before .before .args in
     let g : Basis → Basis → DepthAnswer = λ t d. depthOf t (a .times .now) d (a .depths .now) (a .y) (a .limit) (a .precision) in
     let to = chosenOf (a .db) in
-    let asked = c .before .before .before .before .before .before .basis-of .ensures in
-    let known = c .before .before .before .before .c .given .1 in
-    let t = c .before .before .before .before .c .given .0 .0 in
+    let asked = at-c .before .before .basis-of .ensures in
+    let known = at-c .c .given .1 in
+    let t = at-c .c .given .0 .0 in
     let asked-to = c .before .before .basis-of2 .ensures in
     let unknown = c .enum-told2 .given .1 in (
       found noBasis (λ t. chosen to noBasis (λ d. soundedReply (g t d))) asked known (unfound noBasis (λ d. soundedReply (g t d)) asked-to unknown),
@@ -63,18 +45,11 @@ returns-2 c =
         (
           found (a .place .now) (λ t. chosen to (a .place .now) (λ d. depthPlaceLeft (g t d) (a .place .now))) asked known
               (unfound (a .place .now) (λ d. depthPlaceLeft (g t d) (a .place .now)) asked-to unknown),
-          found (a .whole .now)
-              (λ t. chosen to (a .whole .now) (λ d. depthWholeLeft (g t d) (a .whole .now))) asked known
+          found (a .whole .now) (λ t. chosen to (a .whole .now) (λ d. depthWholeLeft (g t d) (a .whole .now))) asked known
               (unfound (a .whole .now) (λ d. depthWholeLeft (g t d) (a .whole .now)) asked-to unknown),
         ),
       ),
     )
-
-depth-at-requires : tie.Need-depth-at-requires
-depth-at-requires c κs = search needs
-
-sounded-told-requires : tie.Need-sounded-told-requires
-sounded-told-requires c κs = search needs
 
 returns-3 : tie.Need-returns-3
 returns-3 c =
@@ -98,8 +73,7 @@ returns-3 c =
           found (a .place .now) (λ t. chosen to (a .place .now) (λ d. depthPlaceLeft (g t d) (a .place .now))) asked known
               (found (a .place .now) (λ d. depthPlaceLeft (g t d) (a .place .now)) asked-to known-to
               (told .1 .1 .0 ∙ ap (λ (s : DepthAnswer). depthPlaceLeft s (a .place .now)) call)),
-          found (a .whole .now)
-              (λ t. chosen to (a .whole .now) (λ d. depthWholeLeft (g t d) (a .whole .now))) asked known
+          found (a .whole .now) (λ t. chosen to (a .whole .now) (λ d. depthWholeLeft (g t d) (a .whole .now))) asked known
               (found (a .whole .now) (λ d. depthWholeLeft (g t d) (a .whole .now)) asked-to known-to
               (told .1 .1 .1 ∙ ap (λ (s : DepthAnswer). depthWholeLeft s (a .whole .now)) call)),
         ),
@@ -108,16 +82,5 @@ returns-3 c =
 
 pub depth-at-spec : {M : Type 1} → statement M
 depth-at-spec =
-    tie.close
-    (tie.spec
-    basis-of-requires
-    enum-known-c
-    enum-told
-    returns
-    basis-of-requires-2
-    enum-known-e
-    enum-told-2
-    returns-2
-    depth-at-requires
-    sounded-told-requires
-    returns-3)
+    tie.close (tie.spec (λ c κs. search needs) (λ c. search needs) (λ c. search needs) returns (λ c κs. search needs) (λ c. search needs)
+    (λ c. search needs) returns-2 (λ c κs. search needs) (λ c κs. search needs) returns-3)

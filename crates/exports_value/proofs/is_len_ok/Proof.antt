@@ -8,21 +8,6 @@ use borrow.Author.Needs.{needs}
 use Rattle.exports_value.proofs.is_len_ok.Statement.{statement}
 use Rattle.exports_value.proofs.is_len_ok.Tie as tie
 
-basis-of-requires : tie.Need-basis-of-requires
-basis-of-requires c κs = search needs
-
-enum-known-c : tie.Need-enum-known-c
-enum-known-c c = search needs
-
-enum-told : tie.Need-enum-told
-enum-told c = search needs
-
-returns : tie.Need-returns
-returns c = search needs
-
-is-len-ok-requires : tie.Need-is-len-ok-requires
-is-len-ok-requires c κs = search needs
-
 returns-2 : tie.Need-returns-2
 returns-2 c =
     let args = c .before .before .before .before .before .before .args in
@@ -41,12 +26,4 @@ returns-3 c =
 
 pub is-len-ok-spec : {M : Type 1} → statement M
 is-len-ok-spec =
-    tie.close
-    (tie.spec
-    basis-of-requires
-    enum-known-c
-    enum-told
-    returns
-    is-len-ok-requires
-    returns-2
-    returns-3)
+    tie.close (tie.spec (λ c κs. search needs) (λ c. search needs) (λ c. search needs) (λ c. search needs) (λ c κs. search needs) returns-2 returns-3)

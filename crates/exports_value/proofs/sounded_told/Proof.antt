@@ -8,33 +8,6 @@ use borrow.Author.Needs.{needs}
 use Rattle.exports_value.proofs.sounded_told.Statement.{statement}
 use Rattle.exports_value.proofs.sounded_told.Tie as tie
 
-enum-known-a : tie.Need-enum-known-a
-enum-known-a c = search needs
-
-ground-number-requires : tie.Need-ground-number-requires
-ground-number-requires c κs = search needs
-
-cast-t13 : tie.Need-cast-t13
-cast-t13 c = search needs
-
-cast-t14 : tie.Need-cast-t14
-cast-t14 c = search needs
-
-enum-known-a-2 : tie.Need-enum-known-a-2
-enum-known-a-2 c = search needs
-
-element-write-whole : tie.Need-element-write-whole
-element-write-whole c = search needs
-
-reply-requires : tie.Need-reply-requires
-reply-requires c κs = search needs
-
-enum-known-a-3 : tie.Need-enum-known-a-3
-enum-known-a-3 c = search needs
-
-named-reply-requires : tie.Need-named-reply-requires
-named-reply-requires c κs = search needs
-
 returns : tie.Need-returns
 returns c =
     let a = c .before .before .before .before .before .before .before .before .before .args in
@@ -75,17 +48,5 @@ returns-3 c =
 
 pub sounded-told-spec : {M : Type 1} → statement M
 sounded-told-spec =
-    tie.close
-    (tie.spec
-    enum-known-a
-    ground-number-requires
-    cast-t13
-    cast-t14
-    enum-known-a-2
-    element-write-whole
-    reply-requires
-    enum-known-a-3
-    named-reply-requires
-    returns
-    returns-2
-    returns-3)
+    tie.close (tie.spec (λ c. search needs) (λ c κs. search needs) (λ c. search needs) (λ c. search needs) (λ c. search needs) (λ c. search needs)
+    (λ c κs. search needs) (λ c. search needs) (λ c κs. search needs) returns returns-2 returns-3)

@@ -16,41 +16,21 @@ row-sums-at-requires c κs = (
   c .before .pre .1 .1,
 )
 
-horner-requires : tie.Need-horner-requires
-horner-requires c κs = search needs
-
-sub-row-sums-at : tie.Need-sub-row-sums-at
-sub-row-sums-at c = search needs
-
 row-sums-at-requires-2 : tie.Need-row-sums-at-requires-2
-row-sums-at-requires-2 c κs = (
-  segment-fits (c .before .before .before .args .b) (length (c .before .before .before .args .knots .now)) (c .before .before .before .args .k - 1)
-      (c .before .before .before .pre .1 .0)
-      (omega (
-        arith,
-        c .before .before .before .pre .0,
-        segments-some (c .before .before .before .args .b) (length (c .before .before .before .args .knots .now)),
-      )),
-  c .before .before .before .pre .1 .1,
-)
-
-horner-requires-2 : tie.Need-horner-requires-2
-horner-requires-2 c κs = search needs
+row-sums-at-requires-2 c κs =
+    let start = c .before .before .before in (
+      segment-fits (start .args .b) (length (start .args .knots .now)) (start .args .k - 1) (start .pre .1 .0)
+          (omega (arith, start .pre .0, segments-some (start .args .b) (length (start .args .knots .now)))),
+      start .pre .1 .1,
+    )
 
 returns : tie.Need-returns
 unfolding ofBits
 returns c =
-    ends-are (c .before .before .before .before .before .args .b) (c .before .before .before .before .before .args .knots .now)
-    (c .before .before .before .before .before .args .k) (c .before .before .before .row-sums-at .ensures) (c .before .before .horner .ensures)
-    (c .before .row-sums-at2 .ensures) (c .horner2 .ensures)
+    let start = c .before .before .before .before .before in
+    ends-are (start .args .b) (start .args .knots .now) (start .args .k) (c .before .before .before .row-sums-at .ensures)
+    (c .before .before .horner .ensures) (c .before .row-sums-at2 .ensures) (c .horner2 .ensures)
 
 pub curve-ends-spec : {M : Type 1} → statement M
 curve-ends-spec =
-    tie.close
-    (tie.spec
-    row-sums-at-requires
-    horner-requires
-    sub-row-sums-at
-    row-sums-at-requires-2
-    horner-requires-2
-    returns)
+    tie.close (tie.spec row-sums-at-requires (λ c κs. search needs) (λ c. search needs) row-sums-at-requires-2 (λ c κs. search needs) returns)

@@ -1,22 +1,12 @@
 -- The end rule's evaluations and the search's bound, each by its function's contract; their sum fits, since the bound is small (`bound-small`).
-use mathlib.Core.Path.{_≡_, _∙_, ap}
-use Prim.Native.Nat.{ℕ, _+_}
+use mathlib.Core.Path.{_∙_, ap}
+use Prim.Native.Nat.{ℕ}
 use native.Mathlib.Omega.{arith}
-use Rattle.basis.specs.Basis.{segmentsOf}
 use Rattle.inverse_search.specs.Bound.{boundOf}
 use Rattle.inverse.proofs.Most.{bound-small}
 use borrow.Author.Needs.{needs}
 use Rattle.inverse.proofs.most_evaluations.Statement.{statement}
 use Rattle.inverse.proofs.most_evaluations.Tie as tie
-
-evaluations-requires : tie.Need-evaluations-requires
-evaluations-requires c κs = search needs
-
-segments-requires : tie.Need-segments-requires
-segments-requires c κs = search needs
-
-most-evaluations-requires : tie.Need-most-evaluations-requires
-most-evaluations-requires c κs = search needs
 
 add-result : tie.Need-add-result
 add-result c =
@@ -32,4 +22,4 @@ returns c =
     rw (c .before .before .evaluations .ensures .0, m)
 
 pub most-evaluations-spec : {M : Type 1} → statement M
-most-evaluations-spec = tie.close (tie.spec evaluations-requires segments-requires most-evaluations-requires add-result returns)
+most-evaluations-spec = tie.close (tie.spec (λ c κs. search needs) (λ c κs. search needs) (λ c κs. search needs) add-result returns)

@@ -22,68 +22,39 @@ find-requires c κs =
         p .1 .1 .0,
         (
           k-some (a .b) (a .y) (a .precision) (a .knots .now) (a .limit) (a .k) (p .0) (p .1 .0) (p .1 .1 .0),
-          (
-            le-trans
-                (k-few (a .b) (a .y) (a .precision) (a .knots .now) (a .limit) (a .k) (p .0) (p .1 .0) (p .1 .1 .0)) (lit≤ tt),
-            p .1 .1 .1 .1 .1,
-          ),
+          (le-trans (k-few (a .b) (a .y) (a .precision) (a .knots .now) (a .limit) (a .k) (p .0) (p .1 .0) (p .1 .1 .0)) (lit≤ tt), p .1 .1 .1 .1 .1),
         ),
       ),
     )
 
-enum-known-a : tie.Need-enum-known-a
-enum-known-a c = search needs
-
-enum-told : tie.Need-enum-told
-enum-told c = search needs
-
-count-of-requires : tie.Need-count-of-requires
-count-of-requires c κs = search needs
-
-cast : tie.Need-cast-t14
-cast c = search needs
-
 returns : tie.Need-returns
 returns c =
-    λ ev l.
-    let a = c .before .before .before .before .before .args in
-    off-kept (parameterOf (a .k))
+    let at-find = c .before .before .before in
+    let start = at-find .before .before in
+    λ ev l. let a = start .args in off-kept (parameterOf (a .k))
     (find (trial (ruleOf (a .how)) (segmentOf (a .b) (a .knots .now)) (a .y) (a .precision) (a .limit)) (a .y) (a .rising) (a .k) ev)
-    (c .before .enum-told .given .1) (c .before .before .before .find .ensures ev l) (c .count-of .ensures)
+    (c .before .enum-told .given .1) (at-find .find .ensures ev l) (c .count-of .ensures)
 
 parameter-requires : tie.Need-parameter-requires
 parameter-requires c κs =
-    let a = c .before .before .before .before .before .args in
-    let p = c .before .before .before .before .before .pre in
+    let start = c .before .before .before .before .before in
+    let a = start .args in
+    let p = start .pre in
     let few = k-few (a .b) (a .y) (a .precision) (a .knots .now) (a .limit) (a .k) (p .0) (p .1 .0) (p .1 .1 .0) in
-    let below =
-    found-below (a .b) (a .y) (a .precision) (a .knots .now) (a .limit) (a .k) (p .0) (p .1 .0) (p .1 .1 .0) (a .how) (a .rising) (p .1 .1 .1 .0) (p .1 .1 .1
-    .1 .0) (a .n)
-    (c .before .a .given .1) (c .before .before .before .find .ensures) in
+    let below = found-below (a .b) (a .y) (a .precision) (a .knots .now) (a .limit) (a .k) (p .0) (p .1 .0) (p .1 .1 .0) (a .how) (a .rising)
+    (p .1 .1 .1 .0) (p .1 .1 .1 .1 .0) (a .n) (c .before .a .given .1) (c .before .before .before .find .ensures) in
     (le-trans few (lit≤ tt), omega (arith, below, few))
-
-place-of-requires : tie.Need-place-of-requires
-place-of-requires c κs = search needs
 
 returns-2 : tie.Need-returns-2
 returns-2 c =
-    λ ev l.
-    let a = c .before .before .before .before .before .before .before .args in
-    with-parameter (parameterOf (a .k))
+    let at-a = c .before .before .before in
+    let at-find = at-a .before .before in
+    let start = at-find .before .before in
+    λ ev l. let a = start .args in with-parameter (parameterOf (a .k))
     (find (trial (ruleOf (a .how)) (segmentOf (a .b) (a .knots .now)) (a .y) (a .precision) (a .limit)) (a .y) (a .rising) (a .k) ev)
-    (c .before .before .before .a .given .1) (c .before .before .before .before .before .find .ensures ev l) (c .before .parameter .ensures)
-    (c .place-of .ensures)
+    (at-a .a .given .1) (at-find .find .ensures ev l) (c .before .parameter .ensures) (c .place-of .ensures)
 
 pub searched-spec : {M : Type 1} → statement M
 searched-spec =
-    tie.close
-    (tie.spec
-    find-requires
-    enum-known-a
-    enum-told
-    count-of-requires
-    cast
-    returns
-    parameter-requires
-    place-of-requires
-    returns-2)
+    tie.close (tie.spec find-requires (λ c. search needs) (λ c. search needs) (λ c κs. search needs) (λ c. search needs) returns parameter-requires
+    (λ c κs. search needs) returns-2)

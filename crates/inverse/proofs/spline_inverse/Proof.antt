@@ -3,11 +3,8 @@ use borrow.Author.Needs.{needs}
 use Rattle.inverse.proofs.spline_inverse.Statement.{statement}
 use Rattle.inverse.proofs.spline_inverse.Tie as tie
 
-spline-inverse-with-requires : tie.Need-spline-inverse-with-requires
-spline-inverse-with-requires c κs = search needs
-
 returns : tie.Need-returns
 returns c = search needs
 
 pub spline-inverse-spec : {M : Type 1} → statement M
-spline-inverse-spec = tie.close (tie.spec spline-inverse-with-requires returns)
+spline-inverse-spec = tie.close (tie.spec (λ c κs. search needs) returns)

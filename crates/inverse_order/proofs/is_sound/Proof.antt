@@ -10,54 +10,19 @@ use borrow.Author.Needs.{needs}
 use Rattle.inverse_order.proofs.is_sound.Statement.{statement}
 use Rattle.inverse_order.proofs.is_sound.Tie as tie
 
-shared-slice-read-in-range : tie.Need-shared-slice-read-in-range
-shared-slice-read-in-range c = search needs
-
-in-range-requires : tie.Need-in-range-requires
-in-range-requires c κs = search needs
-
-shared-slice-read-in-range-2 : tie.Need-shared-slice-read-in-range-2
-shared-slice-read-in-range-2 c = search needs
-
-in-range-requires-2 : tie.Need-in-range-requires-2
-in-range-requires-2 c κs = search needs
-
-sub-in-range : tie.Need-sub-in-range
-sub-in-range c = search needs
-
-mul-in-range : tie.Need-mul-in-range
-mul-in-range c = search needs
-
-shared-slice-read-in-range-3 : tie.Need-shared-slice-read-in-range-3
-shared-slice-read-in-range-3 c = search needs
-
-in-range-requires-3 : tie.Need-in-range-requires-3
-in-range-requires-3 c κs = search needs
-
-rising-requires : tie.Need-rising-requires
-rising-requires c κs = search needs
-
-keeps-requires : tie.Need-keeps-requires
-keeps-requires c κs = search needs
-
 returns : tie.Need-returns
 returns c =
-    c .keeps .ensures
-    ∙ (ap (λ (z : Bool). kept z
-    (drop 1 (c .before .before .before .before .before .before .before .before .before .before .before .before .args .knots .now)))
-    (c .before .rising .ensures)
-    ∙ sound-in (c .before .before .before .before .before .before .before .before .before .before .before .before .args .knots .now)
-    (omega arith) (sym (c .before .before .before .before .before .before .before .before .before .in-range .ensures)
-    ∙ c .before .before .before .before .before .before .before .before .if1 .taken)
-    (sym (c .before .before .before .before .before .before .in-range2 .ensures)
-    ∙ c .before .before .before .before .before .if2 .taken)
+    let at-if1 = c .before .before .before .before .before .before .before .before in
+    let start = at-if1 .before .before .before .before in
+    c .keeps .ensures ∙ (ap (λ (z : Bool). kept z (drop 1 (start .args .knots .now))) (c .before .rising .ensures) ∙ sound-in
+    (start .args .knots .now) (omega arith) (sym (at-if1 .before .in-range .ensures) ∙ at-if1 .if1 .taken)
+    (sym (c .before .before .before .before .before .before .in-range2 .ensures) ∙ c .before .before .before .before .before .if2 .taken)
     (sym (c .before .before .before .in-range3 .ensures) ∙ c .before .before .if3 .taken))
 
 returns-2 : tie.Need-returns-2
 returns-2 c =
-    sound-out (c .before .before .before .before .before .before .before .before .before .before .args .knots .now)
-    (length (c .before .before .before .before .before .before .before .before .before .before .args .knots .now) - 1) (omega arith)
-    (sym (c .before .in-range3 .ensures) ∙ c .if3 .left)
+    let start = c .before .before .before .before .before .before .before .before .before .before in
+    sound-out (start .args .knots .now) (length (start .args .knots .now) - 1) (omega arith) (sym (c .before .in-range3 .ensures) ∙ c .if3 .left)
 
 returns-3 : tie.Need-returns-3
 returns-3 c =
@@ -69,19 +34,5 @@ returns-4 c = sound-out (c .before .before .before .before .args .knots .now) 0 
 
 pub is-sound-spec : {M : Type 1} → statement M
 is-sound-spec =
-    tie.close
-    (tie.spec
-    shared-slice-read-in-range
-    in-range-requires
-    shared-slice-read-in-range-2
-    in-range-requires-2
-    sub-in-range
-    mul-in-range
-    shared-slice-read-in-range-3
-    in-range-requires-3
-    rising-requires
-    keeps-requires
-    returns
-    returns-2
-    returns-3
-    returns-4)
+    tie.close (tie.spec (λ c. search needs) (λ c κs. search needs) (λ c. search needs) (λ c κs. search needs) (λ c. search needs) (λ c. search needs)
+    (λ c. search needs) (λ c κs. search needs) (λ c κs. search needs) (λ c κs. search needs) returns returns-2 returns-3 returns-4)

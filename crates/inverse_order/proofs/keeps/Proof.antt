@@ -7,17 +7,11 @@ use borrow.Author.Needs.{needs}
 use Rattle.inverse_order.proofs.keeps.Statement.{statement}
 use Rattle.inverse_order.proofs.keeps.Tie as tie
 
-scanned-requires : tie.Need-scanned-requires
-scanned-requires c κs = search needs
-
 returns : tie.Need-returns
 returns c = c .scanned .ensures ∙ ap (λ (z : Bool). kept z (drop 1 (c .before .before .before .args .knots .now))) (sym (c .before .if1 .taken))
-
-scanned-requires-2 : tie.Need-scanned-requires-2
-scanned-requires-2 c κs = search needs
 
 returns-2 : tie.Need-returns-2
 returns-2 c = c .scanned2 .ensures ∙ ap (λ (z : Bool). kept z (drop 1 (c .before .before .before .args .knots .now))) (sym (c .before .if1 .left))
 
 pub keeps-spec : {M : Type 1} → statement M
-keeps-spec = tie.close (tie.spec scanned-requires returns scanned-requires-2 returns-2)
+keeps-spec = tie.close (tie.spec (λ c κs. search needs) returns (λ c κs. search needs) returns-2)

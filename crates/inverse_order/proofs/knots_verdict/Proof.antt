@@ -8,17 +8,11 @@ use borrow.Author.Needs.{needs}
 use Rattle.inverse_order.proofs.knots_verdict.Statement.{statement}
 use Rattle.inverse_order.proofs.knots_verdict.Tie as tie
 
-knots-requires : tie.Need-knots-requires
-knots-requires c κs = search needs
-
 returns : tie.Need-returns
 returns c =
     let a = c .before .before .before .args in
     let ks = a .knots .now in
     knots-unchecked (firstBad ks) (turningKnot ks) (allInRange ks) (turnsBack ks) (a .check) (c .knots .ensures) (not-true _ (c .before .if1 .taken))
-
-is-sound-requires : tie.Need-is-sound-requires
-is-sound-requires c κs = search needs
 
 returns-2 : tie.Need-returns-2
 returns-2 c =
@@ -26,24 +20,11 @@ returns-2 c =
     let ks = a .knots .now in
     knots-sound (firstBad ks) (turningKnot ks) (allInRange ks) (turnsBack ks) (a .check) (sym (c .before .is-sound .ensures) ∙ c .if2 .taken)
 
-knots-requires-2 : tie.Need-knots-requires-2
-knots-requires-2 c κs = search needs
-
-enum-told : tie.Need-enum-told
-enum-told c = search needs
-
-enum-told-2 : tie.Need-enum-told-2
-enum-told-2 c = search needs
-
 returns-3 : tie.Need-returns-3
 returns-3 c =
-    let k = c .before .before in
-    let a = k .before .before .before .before .before .args in
+    let a = c .before .before .before .before .before .before .before .args in
     let ks = a .knots .now in
-    knots-stop (firstBad ks) (turningKnot ks) (allInRange ks) (turnsBack ks) (a .check) (k .knots2 .ensures) (c .enum-told2 .given .1)
-
-turning-knot-requires : tie.Need-turning-knot-requires
-turning-knot-requires c κs = search needs
+    knots-stop (firstBad ks) (turningKnot ks) (allInRange ks) (turnsBack ks) (a .check) (c .before .before .knots2 .ensures) (c .enum-told2 .given .1)
 
 returns-4 : tie.Need-returns-4
 returns-4 c =
@@ -56,15 +37,5 @@ returns-4 c =
 
 pub knots-verdict-spec : {M : Type 1} → statement M
 knots-verdict-spec =
-    tie.close
-    (tie.spec
-    knots-requires
-    returns
-    is-sound-requires
-    returns-2
-    knots-requires-2
-    enum-told
-    enum-told-2
-    returns-3
-    turning-knot-requires
-    returns-4)
+    tie.close (tie.spec (λ c κs. search needs) returns (λ c κs. search needs) returns-2 (λ c κs. search needs) (λ c. search needs) (λ c. search needs)
+    returns-3 (λ c κs. search needs) returns-4)

@@ -23,30 +23,6 @@ sub-i-end c = omega arith
 loop-holds : tie.Need-loop-holds Inv-loop μ-loop
 loop-holds c = (omega arith, omega arith, refl)
 
-mul-follows-in : tie.Need-mul-follows-in Inv-loop μ-loop
-mul-follows-in c = search needs
-
-shared-slice-read-follows-in : tie.Need-shared-slice-read-follows-in Inv-loop μ-loop
-shared-slice-read-follows-in c = search needs
-
-add-follows-in : tie.Need-add-follows-in Inv-loop μ-loop
-add-follows-in c = search needs
-
-mul-follows-in-2 : tie.Need-mul-follows-in-2 Inv-loop μ-loop
-mul-follows-in-2 c = search needs
-
-shared-slice-read-follows-in-2 : tie.Need-shared-slice-read-follows-in-2 Inv-loop μ-loop
-shared-slice-read-follows-in-2 c = search needs
-
-follows-in-requires : tie.Need-follows-in-requires Inv-loop μ-loop
-follows-in-requires c κs = search needs
-
-add-i : tie.Need-add-i Inv-loop μ-loop
-add-i c = search needs
-
-loop-less : tie.Need-loop-less Inv-loop μ-loop
-loop-less c = search needs
-
 loop-again : tie.Need-loop-again Inv-loop μ-loop
 loop-again c = let l = c .before .before .before .before .loop
     in (omega arith, omega arith, scanned _ _ (l .i) (l .good) _ (omega arith) (l .inv .2) (c .follows-in .ensures))
@@ -56,19 +32,5 @@ returns c = let l = c .before .loop in scanned-all _ _ (l .i) _ (omega arith) (l
 
 pub scanned-spec : {M : Type 1} → statement M
 scanned-spec =
-    tie.close
-    (tie.spec
-    Inv-loop
-    μ-loop
-    sub-i-end
-    loop-holds
-    mul-follows-in
-    shared-slice-read-follows-in
-    add-follows-in
-    mul-follows-in-2
-    shared-slice-read-follows-in-2
-    follows-in-requires
-    add-i
-    loop-less
-    loop-again
-    returns)
+    tie.close (tie.spec Inv-loop μ-loop sub-i-end loop-holds (λ c. search needs) (λ c. search needs) (λ c. search needs) (λ c. search needs)
+    (λ c. search needs) (λ c κs. search needs) (λ c. search needs) (λ c. search needs) loop-again returns)

@@ -9,19 +9,10 @@ use borrow.Author.Needs.{needs}
 use Rattle.inverse_order.proofs.turning_knot.Statement.{statement}
 use Rattle.inverse_order.proofs.turning_knot.Tie as tie
 
-rising-requires : tie.Need-rising-requires
-rising-requires c κs = search needs
-
-first-turn-requires : tie.Need-first-turn-requires
-first-turn-requires c κs = search needs
-
-cast-t4 : tie.Need-cast-t4
-cast-t4 c = search needs
-
 returns : tie.Need-returns
 returns c =
     ap (λ (n : ℕ). TurnsBack n)
     (c .first-turn .ensures .0 ∙ ap (λ (z : Bool). turnsAt z 1 (drop 1 (c .before .before .before .args .knots .now))) (c .before .rising .ensures))
 
 pub turning-knot-spec : {M : Type 1} → statement M
-turning-knot-spec = tie.close (tie.spec rising-requires first-turn-requires cast-t4 returns)
+turning-knot-spec = tie.close (tie.spec (λ c κs. search needs) (λ c κs. search needs) (λ c. search needs) returns)

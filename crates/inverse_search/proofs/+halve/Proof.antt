@@ -68,14 +68,8 @@ halve-try-at-requires t c κs =
     let p = c .before .before .before .before .pre .1 in
     (fits-at (a .left + (a .wide - 1) / 2) (a .left + a .wide) _ _ (omega arith) (p .0), (p .1 .0, omega arith))
 
-halve-enum-known-t : (t : ℕ) → halve-lts.Need-enum-known-t (calls t) (halve-at t) halve.Post
-halve-enum-known-t t c = search needs
-
 halve-tell-requires : (t : ℕ) → halve-lts.Need-tell-requires (calls t) (halve-at t) halve.Post
 halve-tell-requires t c κs = tt
-
-halve-enum-known-t-2 : (t : ℕ) → halve-lts.Need-enum-known-t-2 (calls t) (halve-at t) halve.Post
-halve-enum-known-t-2 t c = search needs
 
 halve-add-made : (t : ℕ) → halve-lts.Need-add-made (calls t) (halve-at t) halve.Post
 halve-add-made t c = omega arith
@@ -117,22 +111,22 @@ halve-halve-requires-2 t c κs =
 
 halve-returns-3 : (t : ℕ) → halve-lts.Need-returns-3 (calls t) (halve-at t) halve.Post
 halve-returns-3 t c =
-    let a = c .before .before .before .before .before .before .before .before .before .before .before .before .args in
+    let at-t = c .before .before .before .before .before in
+    let a = at-t .before .before .before .before .before .before .before .args in
     let told = c .tell .ensures in (
-      halve-hit (a .how) (a .b) (a .knots .now .now) (a .y) (a .precision) (a .limit) (a .rising) (a .halvings) (a .left) (a .wide) ((a .wide - 1) / 2)
-          (omega arith) (omega arith) refl
-          (c .before .before .before .before .before .before .before .try-at .ensures) (c .before .before .before .before .before .t .given .1) (told .0)
-          (told .1 .0) (told .1 .1),
-      (omega arith, λ z. absurd (omega (arith, z, told .0, number-some (c .before .before .before .before .before .t .given .0 .0 .ground)))),
+      halve-hit (a .how) (a .b) (a .knots .now .now) (a .y) (a .precision) (a .limit) (a .rising) (a .halvings) (a .left) (a .wide)
+          ((a .wide - 1) / 2) (omega arith) (omega arith) refl (at-t .before .before .try-at .ensures) (at-t .t .given .1) (told .0) (told .1 .0)
+          (told .1 .1),
+      (omega arith, λ z. absurd (omega (arith, z, told .0, number-some (at-t .t .given .0 .0 .ground)))),
     )
 
 halve-returns-4 : (t : ℕ) → halve-lts.Need-returns-4 (calls t) (halve-at t) halve.Post
 halve-returns-4 t c =
-    let a = c .before .before .before .before .before .before .before .before .before .before .before .before .before .before .args in
+    let at-try-at = c .before .before .before .before .before .before .before .before .before in
+    let a = at-try-at .before .before .before .before .before .args in
     let u = c .halve .ensures in (
-      halve-left (a .how) (a .b) (a .knots .now .now) (a .y) (a .precision) (a .limit) (a .rising) (a .halvings) (a .left) (a .wide) ((a .wide - 1) / 2)
-          (omega arith) (omega arith) refl
-          (c .before .before .before .before .before .before .before .before .before .try-at .ensures)
+      halve-left (a .how) (a .b) (a .knots .now .now) (a .y) (a .precision) (a .limit) (a .rising) (a .halvings) (a .left) (a .wide)
+          ((a .wide - 1) / 2) (omega arith) (omega arith) refl (at-try-at .try-at .ensures)
           (c .before .before .before .before .before .before .before .t2 .given .1)
           (sym (c .before .before .before .before .before .lies-before .ensures) ∙ c .before .before .before .before .if3 .taken) (u .0),
       (omega (arith, u .1 .0), λ z. omega (arith, u .1 .1 z)),
@@ -140,35 +134,19 @@ halve-returns-4 t c =
 
 halve-returns-5 : (t : ℕ) → halve-lts.Need-returns-5 (calls t) (halve-at t) halve.Post
 halve-returns-5 t c =
-    let a = c .before .before .before .before .before .before .before .before .before .before .before .before .before .before .args in
+    let at-try-at = c .before .before .before .before .before .before .before .before .before in
+    let a = at-try-at .before .before .before .before .before .args in
     let u = c .halve2 .ensures in (
-      halve-right (a .how) (a .b) (a .knots .now .now) (a .y) (a .precision) (a .limit) (a .rising) (a .halvings) (a .left) (a .wide) ((a .wide - 1) / 2)
-          (omega arith) (omega arith) refl
-          (c .before .before .before .before .before .before .before .before .before .try-at .ensures)
+      halve-right (a .how) (a .b) (a .knots .now .now) (a .y) (a .precision) (a .limit) (a .rising) (a .halvings) (a .left) (a .wide)
+          ((a .wide - 1) / 2) (omega arith) (omega arith) refl (at-try-at .try-at .ensures)
           (c .before .before .before .before .before .before .before .t2 .given .1)
           (sym (c .before .before .before .before .before .lies-before .ensures) ∙ c .before .before .before .before .if3 .left) (u .0),
       (omega (arith, u .1 .0), λ z. omega (arith, u .1 .1 z)),
     )
 
 pub +halve-spec : {M : Type 1} → statement M
-+halve-spec = close μ-halve λ t. halve-lts.spec (calls t) (halve-at t) halve.Post
-    (halve-returns t)
-    (halve-returns-2 t)
-    (halve-sub-half t)
-    (halve-add-mid t)
-    (halve-try-at-requires t)
-    (halve-enum-known-t t)
-    (halve-tell-requires t)
-    (halve-enum-known-t-2 t)
-    (halve-add-made t)
-    (halve-lies-before-requires t)
-    (halve-sub-halve t)
-    (halve-halve-requires t)
-    (halve-add-halve t)
-    (halve-sub-halve-2 t)
-    (halve-sub-halve-3 t)
-    (halve-sub-halve-4 t)
-    (halve-halve-requires-2 t)
-    (halve-returns-3 t)
-    (halve-returns-4 t)
-    (halve-returns-5 t)
++halve-spec =
+    close μ-halve λ t. halve-lts.spec (calls t) (halve-at t) halve.Post (halve-returns t) (halve-returns-2 t) (halve-sub-half t) (halve-add-mid t)
+    (halve-try-at-requires t) (λ c. search needs) (halve-tell-requires t) (λ c. search needs) (halve-add-made t) (halve-lies-before-requires t)
+    (halve-sub-halve t) (halve-halve-requires t) (halve-add-halve t) (halve-sub-halve-2 t) (halve-sub-halve-3 t) (halve-sub-halve-4 t)
+    (halve-halve-requires-2 t) (halve-returns-3 t) (halve-returns-4 t) (halve-returns-5 t)

@@ -6,64 +6,27 @@ use borrow.Author.Needs.{needs}
 use Rattle.inverse_search.proofs.find.Statement.{statement}
 use Rattle.inverse_search.proofs.find.Tie as tie
 
-tries-requires : tie.Need-tries-requires
-tries-requires c κs = search needs
-
 returns : tie.Need-returns
 returns c =
     let a = c .before .before .before .args in
     found-few (a .how) (a .b) (a .knots .now) (a .y) (a .precision) (a .limit) (a .rising) (a .k) (c .before .if1 .taken) (c .tries .ensures)
 
-bits-requires : tie.Need-bits-requires
-bits-requires c κs = search needs
-
-halve-requires : tie.Need-halve-requires
-halve-requires c κs = search needs
-
 last-tries-requires : tie.Need-last-tries-requires
 last-tries-requires c κs =
     let at-bits = c .before .before .before .before .before in
     let start = at-bits .before .before .before .before in
-    let p = start .pre in let few = c .before .halve .ensures .1 .1 (c .if2 .taken) in (
-      p .0,
-      (
-        p .1 .0,
-        (
-          p .1 .1 .0,
-          (
-            p .1 .1 .1 .0,
-            (
-              omega (
-                arith,
-                c .before .halve .ensures .1 .0,
-              ),
-              omega (arith, few, at-bits .bits .ensures .1),
-            ),
-          ),
-        ),
-      ),
-    )
+    let p = start .pre in
+    let few = c .before .halve .ensures .1 .1 (c .if2 .taken) in
+    (p .0, (p .1 .0, (p .1 .1 .0, (p .1 .1 .1 .0, (omega (arith, c .before .halve .ensures .1 .0), omega (arith, few, at-bits .bits .ensures .1))))))
 
 returns-2 : tie.Need-returns-2
 returns-2 c =
-    let at-halve = c .before .before in
-    let at-bits = at-halve .before .before .before .before in
+    let at-bits = c .before .before .before .before .before .before in
     let at-if1 = at-bits .before .before in
     let start = at-if1 .before .before in
-    let a = start .args in found-last (a .how) (a .b) (a .knots .now) (a .y) (a .precision) (a .limit) (a .rising) (a .k) (at-if1 .if1 .left)
-    (at-bits .bits .ensures .0) (at-halve .halve .ensures .0) (c .before .if2 .taken) (c .last-tries .ensures)
-
-ground-of-requires : tie.Need-ground-of-requires
-ground-of-requires c κs = search needs
-
-array-read-t25 : tie.Need-array-read-t25
-array-read-t25 c = search needs
-
-array-read-t28 : tie.Need-array-read-t28
-array-read-t28 c = search needs
-
-array-read-t31 : tie.Need-array-read-t31
-array-read-t31 c = search needs
+    let a = start .args in
+    found-last (a .how) (a .b) (a .knots .now) (a .y) (a .precision) (a .limit) (a .rising) (a .k) (at-if1 .if1 .left) (at-bits .bits .ensures .0)
+    (c .before .before .halve .ensures .0) (c .before .if2 .taken) (c .last-tries .ensures)
 
 returns-3 : tie.Need-returns-3
 returns-3 c =
@@ -76,16 +39,5 @@ returns-3 c =
 
 pub find-spec : {M : Type 1} → statement M
 find-spec =
-    tie.close
-    (tie.spec
-    tries-requires
-    returns
-    bits-requires
-    halve-requires
-    last-tries-requires
-    returns-2
-    ground-of-requires
-    array-read-t25
-    array-read-t28
-    array-read-t31
-    returns-3)
+    tie.close (tie.spec (λ c κs. search needs) returns (λ c κs. search needs) (λ c κs. search needs) last-tries-requires returns-2
+    (λ c κs. search needs) (λ c. search needs) (λ c. search needs) (λ c. search needs) returns-3)

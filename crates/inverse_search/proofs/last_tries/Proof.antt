@@ -5,15 +5,6 @@ use borrow.Author.Needs.{needs}
 use Rattle.inverse_search.proofs.last_tries.Statement.{statement}
 use Rattle.inverse_search.proofs.last_tries.Tie as tie
 
-one-less-requires : tie.Need-one-less-requires
-one-less-requires c κs = search needs
-
-add-lesser : tie.Need-add-lesser
-add-lesser c = search needs
-
-lesser-requires : tie.Need-lesser-requires
-lesser-requires c κs = search needs
-
 tries-requires : tie.Need-tries-requires
 tries-requires c κs =
     let p = c .before .before .before .pre in
@@ -28,4 +19,4 @@ returns c =
     (c .tries .ensures)
 
 pub last-tries-spec : {M : Type 1} → statement M
-last-tries-spec = tie.close (tie.spec one-less-requires add-lesser lesser-requires tries-requires returns)
+last-tries-spec = tie.close (tie.spec (λ c κs. search needs) (λ c. search needs) (λ c κs. search needs) tries-requires returns)

@@ -4,21 +4,6 @@ use borrow.Author.Needs.{needs}
 use Rattle.inverse_search.proofs.most_evaluations.Statement.{statement}
 use Rattle.inverse_search.proofs.most_evaluations.Tie as tie
 
-add-result : tie.Need-add-result
-add-result c = search needs
-
-bits-requires : tie.Need-bits-requires
-bits-requires c κs = search needs
-
-mul-result : tie.Need-mul-result
-mul-result c = search needs
-
-add-result-2 : tie.Need-add-result-2
-add-result-2 c = search needs
-
-add-result-3 : tie.Need-add-result-3
-add-result-3 c = search needs
-
 returns : tie.Need-returns
 returns c = simp (le-leb _ _ (c .if1 .taken))
 
@@ -27,5 +12,4 @@ returns-2 c = simp (lt-leb _ _ (c .before .if1 .left), c .bits .ensures .0)
 
 pub most-evaluations-spec : {M : Type 1} → statement M
 most-evaluations-spec =
-    tie.close
-    (tie.spec add-result bits-requires mul-result add-result-2 add-result-3 returns returns-2)
+    tie.close (tie.spec (λ c. search needs) (λ c κs. search needs) (λ c. search needs) (λ c. search needs) (λ c. search needs) returns returns-2)

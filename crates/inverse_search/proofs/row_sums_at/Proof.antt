@@ -9,9 +9,6 @@ use borrow.Author.Needs.{needs}
 use Rattle.inverse_search.proofs.row_sums_at.Statement.{statement}
 use Rattle.inverse_search.proofs.row_sums_at.Tie as tie
 
-step-requires : tie.Need-step-requires
-step-requires c κs = search needs
-
 mul-start : tie.Need-mul-start
 mul-start c = let e = ap (λ (x : ℕ). c .before .before .args .s * x) (c .step .ensures .0) in search (needs, e)
 
@@ -24,29 +21,15 @@ sub-row-sums c = let e = ap (λ (x : ℕ). c .before .before .args .s * x) (c .s
 part-row-sums-start : tie.Need-part-row-sums-start
 part-row-sums-start c = let e = ap (λ (x : ℕ). c .before .before .args .s * x) (c .step .ensures .0) in search (needs, e)
 
-part-row-sums-end : tie.Need-part-row-sums-end
-part-row-sums-end c = search needs
-
 row-sums-requires : tie.Need-row-sums-requires
 row-sums-requires c κs = let e = ap (λ (x : ℕ). c .before .before .before .args .s * x) (c .before .step .ensures .0) in search (needs, e)
 
 returns : tie.Need-returns
 returns c =
-    c .row-sums .ensures
-    ∙ ap (rowSumsOf (matrixOf (c .before .before .before .before .args .b)))
-    (rest _ (c .before .before .before .before .args .knots .now)
-    ∙ ap (λ (x : ℕ). drop (c .before .before .before .before .args .s * x) (c .before .before .before .before .args .knots .now))
-    (c .before .before .step .ensures .0))
+    let start = c .before .before .before .before in
+    c .row-sums .ensures ∙ ap (rowSumsOf (matrixOf (start .args .b)))
+    (rest _ (start .args .knots .now) ∙ ap (λ (x : ℕ). drop (start .args .s * x) (start .args .knots .now)) (c .before .before .step .ensures .0))
 
 pub row-sums-at-spec : {M : Type 1} → statement M
 row-sums-at-spec =
-    tie.close
-    (tie.spec
-    step-requires
-    mul-start
-    mul-row-sums
-    sub-row-sums
-    part-row-sums-start
-    part-row-sums-end
-    row-sums-requires
-    returns)
+    tie.close (tie.spec (λ c κs. search needs) mul-start mul-row-sums sub-row-sums part-row-sums-start (λ c. search needs) row-sums-requires returns)

@@ -24,18 +24,12 @@ try-at-requires c κs =
     let p = c .before .before .before .pre in
     (fits-at (c .before .loop .s) (c .before .before .before .args .end) _ _ (omega arith) (p .0), (p .1 .0, omega arith))
 
-enum-known-t : tie.Need-enum-known-t Inv-loop μ-loop
-enum-known-t c = search needs
-
 returns : tie.Need-returns Inv-loop μ-loop
 returns c =
     let a = c .before .before .before .before .before .before .before .args in
     let l = c .before .before .before .before .before .loop in
     tries-hit (a .how) (a .b) (a .knots .now) (a .y) (a .precision) (a .limit) (l .s) (c .before .before .before .try-at .ensures) (omega arith) (l .inv .3)
     (c .before .t .given .1)
-
-enum-told : tie.Need-enum-told Inv-loop μ-loop
-enum-told c = search needs
 
 add-made : tie.Need-add-made Inv-loop μ-loop
 add-made c = omega arith
@@ -64,17 +58,5 @@ returns-2 c =
 
 pub tries-spec : {M : Type 1} → statement M
 tries-spec =
-    tie.close
-    (tie.spec
-    Inv-loop
-    μ-loop
-    loop-holds
-    try-at-requires
-    enum-known-t
-    returns
-    enum-told
-    add-made
-    add-s
-    loop-less
-    loop-again
+    tie.close (tie.spec Inv-loop μ-loop loop-holds try-at-requires (λ c. search needs) returns (λ c. search needs) add-made add-s loop-less loop-again
     returns-2)

@@ -8,9 +8,6 @@ use borrow.Author.Needs.{needs}
 use Rattle.inverse_search.proofs.try_at.Statement.{statement}
 use Rattle.inverse_search.proofs.try_at.Tie as tie
 
-step-requires : tie.Need-step-requires
-step-requires c κs = search needs
-
 mul-start : tie.Need-mul-start
 mul-start c = let e = ap (λ (x : ℕ). c .before .before .args .s * x) (c .step .ensures .0) in search (needs, e)
 
@@ -23,9 +20,6 @@ sub-enter c = let e = ap (λ (x : ℕ). c .before .before .args .s * x) (c .step
 part-enter-start : tie.Need-part-enter-start
 part-enter-start c = let e = ap (λ (x : ℕ). c .before .before .args .s * x) (c .step .ensures .0) in search (needs, e)
 
-part-enter-end : tie.Need-part-enter-end
-part-enter-end c = search needs
-
 enter-requires : tie.Need-enter-requires
 enter-requires c κs = let e = ap (λ (x : ℕ). c .before .before .before .args .s * x) (c .before .step .ensures .0) in search (needs, e)
 
@@ -36,14 +30,4 @@ returns c =
     λ ev l. on-curve (a .how) (a .b) (a .knots .now) _ (a .y) (a .precision) (a .limit) (a .s) (a .n) part (c .enter .ensures) (a .s) ev l
 
 pub try-at-spec : {M : Type 1} → statement M
-try-at-spec =
-    tie.close
-    (tie.spec
-    step-requires
-    mul-start
-    mul-enter
-    sub-enter
-    part-enter-start
-    part-enter-end
-    enter-requires
-    returns)
+try-at-spec = tie.close (tie.spec (λ c κs. search needs) mul-start mul-enter sub-enter part-enter-start (λ c. search needs) enter-requires returns)

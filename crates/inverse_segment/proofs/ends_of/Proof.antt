@@ -5,15 +5,9 @@ use borrow.Author.Needs.{needs}
 use Rattle.inverse_segment.proofs.ends_of.Statement.{statement}
 use Rattle.inverse_segment.proofs.ends_of.Tie as tie
 
-horner-requires : tie.Need-horner-requires
-horner-requires c κs = search needs
-
-horner-requires-2 : tie.Need-horner-requires-2
-horner-requires-2 c κs = search needs
-
 returns : tie.Need-returns
 unfolding ofBits
 returns c = ends-are (c .before .before .args .w) (c .before .horner .ensures) (c .horner2 .ensures)
 
 pub ends-of-spec : {M : Type 1} → statement M
-ends-of-spec = tie.close (tie.spec horner-requires horner-requires-2 returns)
+ends-of-spec = tie.close (tie.spec (λ c κs. search needs) (λ c κs. search needs) returns)

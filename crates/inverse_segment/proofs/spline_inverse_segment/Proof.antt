@@ -3,11 +3,8 @@ use borrow.Author.Needs.{needs}
 use Rattle.inverse_segment.proofs.spline_inverse_segment.Statement.{statement}
 use Rattle.inverse_segment.proofs.spline_inverse_segment.Tie as tie
 
-spline-inverse-segment-with-requires : tie.Need-spline-inverse-segment-with-requires
-spline-inverse-segment-with-requires c κs = search needs
-
 returns : tie.Need-returns
 returns c = search needs
 
 pub spline-inverse-segment-spec : {M : Type 1} → statement M
-spline-inverse-segment-spec = tie.close (tie.spec spline-inverse-segment-with-requires returns)
+spline-inverse-segment-spec = tie.close (tie.spec (λ c κs. search needs) returns)

@@ -8,15 +8,6 @@ use borrow.Author.Needs.{needs}
 use Rattle.inverse_segment.proofs.spline_inverse_segment_by.Statement.{statement}
 use Rattle.inverse_segment.proofs.spline_inverse_segment_by.Tie as tie
 
-segment-verdict-requires : tie.Need-segment-verdict-requires
-segment-verdict-requires c κs = search needs
-
-enum-known-v : tie.Need-enum-known-v
-enum-known-v c = search needs
-
-enum-told : tie.Need-enum-told
-enum-told c = search needs
-
 enter-requires : tie.Need-enter-requires
 enter-requires c κs =
     let a = c .before .before .before .before .args in
@@ -24,24 +15,15 @@ enter-requires c κs =
     fits-for (ruleOf (a .how)) (a .b) (a .y) (a .cv .now) (a .limit) (a .precision) (c .before .before .segment-verdict .ensures) (c .enum-told .given .1) in
     (four, omega arith)
 
-enum-known-t : tie.Need-enum-known-t
-enum-known-t c = search needs
-
-enum-told-2 : tie.Need-enum-told-2
-enum-told-2 c = search needs
-
 returns : tie.Need-returns
 returns c =
-    let at-enter = c .before .before in
-    let at-enum-told = at-enter .before in
+    let at-enum-told = c .before .before .before in
     let at-segment-verdict = at-enum-told .before .before in
     let start = at-segment-verdict .before .before in
-    let a = start .args in off-is (ruleOf (a .how)) (a .b) (a .y) (a .cv .now) (a .limit) (a .precision) (at-segment-verdict .segment-verdict .ensures)
-    (at-enum-told .enum-told .given .1) (on-curve (a .how) (a .b) (a .cv .now) (a .cv .now) (a .y) (a .precision) (a .limit) 0 0 (from-first (a .b)
-    (a .cv .now)) (at-enter .enter .ensures)) (c .enum-told2 .given .1)
-
-place-of-requires : tie.Need-place-of-requires
-place-of-requires c κs = search needs
+    let a = start .args in
+    off-is (ruleOf (a .how)) (a .b) (a .y) (a .cv .now) (a .limit) (a .precision) (at-segment-verdict .segment-verdict .ensures)
+    (at-enum-told .enum-told .given .1) (on-curve (a .how) (a .b) (a .cv .now) (a .cv .now) (a .y) (a .precision) (a .limit) 0 0
+    (from-first (a .b) (a .cv .now)) (c .before .before .enter .ensures)) (c .enum-told2 .given .1)
 
 returns-2 : tie.Need-returns-2
 returns-2 c =
@@ -60,15 +42,5 @@ returns-3 c =
 
 pub spline-inverse-segment-by-spec : {M : Type 1} → statement M
 spline-inverse-segment-by-spec =
-    tie.close
-    (tie.spec
-    segment-verdict-requires
-    enum-known-v
-    enum-told
-    enter-requires
-    enum-known-t
-    enum-told-2
-    returns
-    place-of-requires
-    returns-2
-    returns-3)
+    tie.close (tie.spec (λ c κs. search needs) (λ c. search needs) (λ c. search needs) enter-requires (λ c. search needs) (λ c. search needs) returns
+    (λ c κs. search needs) returns-2 returns-3)

@@ -6,48 +6,17 @@ use borrow.Author.Needs.{needs}
 use Rattle.lines_answer.proofs.answer.Statement.{statement}
 use Rattle.lines_answer.proofs.answer.Tie as tie
 
-enum-told : tie.Need-enum-told
-enum-told c = search needs
-
-first-requires : tie.Need-first-requires
-first-requires c κs = search needs
-
-enum-known-h : tie.Need-enum-known-h
-enum-known-h c = search needs
-
 later-requires : tie.Need-later-requires
 later-requires c κs = let k : c .before .before .before .h .given .0 .1 .1 .0 ≤ places =
     rw (c .before .before .before .h .given .1) at (c .before .before .before .before .before .before .before .pre .0) in omega arith
 
-same-length : tie.Need-same-length
-same-length c = search needs
-
-same-length-2 : tie.Need-same-length-2
-same-length-2 c = search needs
-
 returns : tie.Need-returns
 returns c = rw (c .before .before .before .enum-told .given .1) (c .first .ensures)
-
-same-length-3 : tie.Need-same-length-3
-same-length-3 c = search needs
-
-same-length-4 : tie.Need-same-length-4
-same-length-4 c = search needs
 
 returns-2 : tie.Need-returns-2
 returns-2 c = rw (c .before .before .before .before .before .before .before .before .h .given .1) (c .before .before .before .before .later .ensures)
 
 pub answer-spec : {M : Type 1} → statement M
 answer-spec =
-    tie.close
-    (tie.spec
-    enum-told
-    first-requires
-    enum-known-h
-    later-requires
-    same-length
-    same-length-2
-    returns
-    same-length-3
-    same-length-4
-    returns-2)
+    tie.close (tie.spec (λ c. search needs) (λ c κs. search needs) (λ c. search needs) later-requires (λ c. search needs) (λ c. search needs) returns
+    (λ c. search needs) (λ c. search needs) returns-2)

@@ -7,9 +7,6 @@ use borrow.Author.Needs.{needs}
 use Rattle.lines_answer.proofs.spanned.Statement.{statement}
 use Rattle.lines_answer.proofs.spanned.Tie as tie
 
-is-span-requires : tie.Need-is-span-requires
-is-span-requires c κs = search needs
-
 returns : tie.Need-returns
 returns c = let a = c .before .before .before .before .args in let k =
     span-silent (a .t) (a .m) (take (a .n) (a .table .now)) (a .s) (sym (c .before .is-span .ensures) ∙ c .if1 .taken) in
@@ -21,4 +18,4 @@ returns-2 c = let a = c .before .before .before .before .args in let k =
     record { held = sym (k .1); told = sym (k .0); few = omega arith; lent = omega arith }
 
 pub spanned-spec : {M : Type 1} → statement M
-spanned-spec = tie.close (tie.spec is-span-requires returns returns-2)
+spanned-spec = tie.close (tie.spec (λ c κs. search needs) returns returns-2)

@@ -23,15 +23,11 @@ loop-holds : tie.Need-loop-holds Inv-loop μ-loop
 loop-holds c = let a = c .before .before .args in
     (omega arith, omega arith, omega arith, stretch-none (a .chunk .now) (a .from) (openOf (a .len) (a .line .now)))
 
-shared-slice-read-b : tie.Need-shared-slice-read-b Inv-loop μ-loop
-shared-slice-read-b c = search needs
-
 same-length : tie.Need-same-length Inv-loop μ-loop
 same-length c = omega arith
 
 returns : tie.Need-returns Inv-loop μ-loop
-returns c = let l = c .before .before .before .loop in
-    record { after = l .inv .0; within = l .inv .1; grown = l .inv .3; end = λ h. c .if1 .taken }
+returns c = let l = c .before .before .before .loop in record { after = l .inv .0; within = l .inv .1; grown = l .inv .3; end = λ h. c .if1 .taken }
 
 pushed-requires : tie.Need-pushed-requires Inv-loop μ-loop
 pushed-requires c κs = omega arith
@@ -61,16 +57,4 @@ returns-2 c = let l = c .before .loop in record { after = l .inv .0; within = l 
 pub cut-spec : {M : Type 1} → statement M
 cut-spec =
     tie.close
-    (tie.spec
-    Inv-loop
-    μ-loop
-    loop-holds
-    shared-slice-read-b
-    same-length
-    returns
-    pushed-requires
-    add-i
-    loop-less
-    loop-again
-    same-length-2
-    returns-2)
+    (tie.spec Inv-loop μ-loop loop-holds (λ c. search needs) same-length returns pushed-requires add-i loop-less loop-again same-length-2 returns-2)

@@ -5,15 +5,6 @@ use Rattle.lines_machine.proofs.Pushing.{push-room, push-full}
 use Rattle.lines_machine.proofs.pushed.Statement.{statement}
 use Rattle.lines_machine.proofs.pushed.Tie as tie
 
-slice-write-line : tie.Need-slice-write-line
-slice-write-line c = search needs
-
-add-result : tie.Need-add-result
-add-result c = search needs
-
-same-length : tie.Need-same-length
-same-length c = search needs
-
 returns : tie.Need-returns
 returns c = push-room (c .before .args .len) (c .before .args .byte) (c .before .args .line .now) (omega arith) (c .before .pre)
 
@@ -21,4 +12,4 @@ returns-2 : tie.Need-returns-2
 returns-2 c = push-full (c .before .args .len) (c .before .args .byte) (c .before .args .line .now) (omega arith) (c .before .pre)
 
 pub pushed-spec : {M : Type 1} → statement M
-pushed-spec = tie.close (tie.spec slice-write-line add-result same-length returns returns-2)
+pushed-spec = tie.close (tie.spec (λ c. search needs) (λ c. search needs) (λ c. search needs) returns returns-2)

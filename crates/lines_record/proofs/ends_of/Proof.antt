@@ -4,15 +4,6 @@ use borrow.Author.Needs.{needs}
 use Rattle.lines_record.proofs.ends_of.Statement.{statement}
 use Rattle.lines_record.proofs.ends_of.Tie as tie
 
-ends-named-requires : tie.Need-ends-named-requires
-ends-named-requires c κs = search needs
-
-enum-known-m : tie.Need-enum-known-m
-enum-known-m c = search needs
-
-enum-told : tie.Need-enum-told
-enum-told c = search needs
-
 returns : tie.Need-returns
 returns c = simp (sym (c .before .before .ends-named .ensures) ∙ c .enum-told .given .1)
 
@@ -20,4 +11,4 @@ returns-2 : tie.Need-returns-2
 returns-2 c = simp (sym (c .before .before .before .ends-named .ensures) ∙ c .before .m .given .1)
 
 pub ends-of-spec : {M : Type 1} → statement M
-ends-of-spec = tie.close (tie.spec ends-named-requires enum-known-m enum-told returns returns-2)
+ends-of-spec = tie.close (tie.spec (λ c κs. search needs) (λ c. search needs) (λ c. search needs) returns returns-2)

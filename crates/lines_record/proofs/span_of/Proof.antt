@@ -7,15 +7,6 @@ use borrow.Author.Needs.{needs}
 use Rattle.lines_record.proofs.span_of.Statement.{statement}
 use Rattle.lines_record.proofs.span_of.Tie as tie
 
-number-in-requires : tie.Need-number-in-requires
-number-in-requires c κs = search needs
-
-enum-known-n : tie.Need-enum-known-n
-enum-known-n c = search needs
-
-enum-told : tie.Need-enum-told
-enum-told c = search needs
-
 returns : tie.Need-returns
 returns c = simp (sym (c .before .before .number-in .ensures) ∙ c .enum-told .given .1)
 
@@ -27,5 +18,4 @@ returns-2 : tie.Need-returns-2
 returns-2 c = simp (sym (c .before .before .before .number-in .ensures) ∙ c .before .n .given .1)
 
 pub span-of-spec : {M : Type 1} → statement M
-span-of-spec =
-    tie.close (tie.spec number-in-requires enum-known-n enum-told returns cast-t4 returns-2)
+span-of-spec = tie.close (tie.spec (λ c κs. search needs) (λ c. search needs) (λ c. search needs) returns cast-t4 returns-2)

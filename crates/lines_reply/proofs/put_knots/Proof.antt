@@ -20,32 +20,17 @@ abbrev μ-loop : tie.MeasureT-loop
 loop-holds : tie.Need-loop-holds Inv-loop μ-loop
 loop-holds c = (omega arith, omega arith, knots-none _ _)
 
-slice-aggregate-put-line : tie.Need-slice-aggregate-put-line Inv-loop μ-loop
-slice-aggregate-put-line c = search needs
-
-mul-put-line : tie.Need-mul-put-line Inv-loop μ-loop
-mul-put-line c = search needs
-
-shared-slice-read-put-line : tie.Need-shared-slice-read-put-line Inv-loop μ-loop
-shared-slice-read-put-line c = search needs
-
 put-line-requires : tie.Need-put-line-requires Inv-loop μ-loop
 put-line-requires c κs = omega (arith, c .before .before .before .before .loop .inv .2 .long)
 
-add-i : tie.Need-add-i Inv-loop μ-loop
-add-i c = search needs
-
-loop-less : tie.Need-loop-less Inv-loop μ-loop
-loop-less c = search needs
-
 loop-again : tie.Need-loop-again Inv-loop μ-loop
-loop-again c = (
-  omega arith,
-  omega (arith, c .before .before .put-line .ensures .1),
-  knots-more (c .before .before .before .before .before .before .before .before .before .before .args .knots .now)
-      (c .before .before .before .before .before .before .before .loop .i) _ (omega arith)
-      (c .before .before .before .before .before .before .before .loop .inv .2) (c .before .before .put-line .ensures .0),
-)
+loop-again c =
+    let at-loop = c .before .before .before .before .before .before .before in
+    let start = at-loop .before .before .before in (
+      omega arith,
+      omega (arith, c .before .before .put-line .ensures .1),
+      knots-more (start .args .knots .now) (at-loop .loop .i) _ (omega arith) (at-loop .loop .inv .2) (c .before .before .put-line .ensures .0),
+    )
 
 same-length : tie.Need-same-length Inv-loop μ-loop
 same-length c = c .before .loop .inv .2 .long
@@ -55,17 +40,5 @@ returns c = (rw (take-all (c .before .loop .i) (c .before .before .before .befor
 
 pub put-knots-spec : {M : Type 1} → statement M
 put-knots-spec =
-    tie.close
-    (tie.spec
-    Inv-loop
-    μ-loop
-    loop-holds
-    slice-aggregate-put-line
-    mul-put-line
-    shared-slice-read-put-line
-    put-line-requires
-    add-i
-    loop-less
-    loop-again
-    same-length
-    returns)
+    tie.close (tie.spec Inv-loop μ-loop loop-holds (λ c. search needs) (λ c. search needs) (λ c. search needs) put-line-requires (λ c. search needs)
+    (λ c. search needs) loop-again same-length returns)

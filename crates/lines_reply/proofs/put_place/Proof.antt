@@ -5,95 +5,33 @@ use borrow.Author.Needs.{needs}
 use Rattle.lines_reply.proofs.put_place.Statement.{statement}
 use Rattle.lines_reply.proofs.put_place.Tie as tie
 
-slice-aggregate-put-word : tie.Need-slice-aggregate-put-word
-slice-aggregate-put-word c = search needs
-
-put-word-requires : tie.Need-put-word-requires
-put-word-requires c κs = search needs
-
-put-double-requires : tie.Need-put-double-requires
-put-double-requires c κs = search needs
-
-put-byte-requires : tie.Need-put-byte-requires
-put-byte-requires c κs = search needs
-
-put-ground-requires : tie.Need-put-ground-requires
-put-ground-requires c κs = search needs
-
-put-byte-requires-2 : tie.Need-put-byte-requires-2
-put-byte-requires-2 c κs = search needs
-
-put-decimal-requires : tie.Need-put-decimal-requires
-put-decimal-requires c κs = search needs
-
-put-seconds-requires : tie.Need-put-seconds-requires
-put-seconds-requires c κs = search needs
-
-put-byte-requires-3 : tie.Need-put-byte-requires-3
-put-byte-requires-3 c κs = search needs
-
-same-length : tie.Need-same-length
-same-length c = search needs
-
 returns : tie.Need-returns
-returns c = (
-  then (then (then (then (then
-      (then (then (c .before .before .before .before .before .before .before .before .before .before .before .before .before .before .before .before
-      .before .before .before .before .before .before .before .before .before .before .before .before .before .before .put-word .ensures)
-      (c .before .before .before .before .before .before .before .before .before .before .before .before .before .before .before .before .before
-      .before .before .before .before .before .before .before .before .before .put-double .ensures .0))
-      (c .before .before .before .before .before .before .before .before .before .before .before .before .before .before .before .before
-      .before .before .before .before .before .before .put-byte .ensures))
-      (c .before .before .before .before .before .before .before .before .before .before .before .before .before .before .before
-      .before .before .before .put-ground .ensures .0))
-      (c .before .before .before .before .before .before .before .before .before .before .before .before .before .before
-      .put-byte2 .ensures))
-      (c .before .before .before .before .before .before .before .before .before .before .put-decimal .ensures
-      .0)) (c .before .before .before .before .before .before .put-seconds .ensures .0))
-      (c .before .before .put-byte3 .ensures),
-  omega (
-    arith,
-    c .before .before .before .before .before .before .before .before .before .before
-        .before .before .before .before .before .before .before .before .before .before
-        .before .before .before .before .before .before .before .before .before .before
-        .put-word .ensures .next,
-    c .before .before .before .before .before .before .before .before
-        .before .before .before .before .before .before .before .before
-        .before .before .before .before .before .before .before .before
-        .before .before .put-double .ensures .1,
-    c .before .before .before .before .before .before
-        .before .before .before .before .before .before
-        .before .before .before .before .before .before
-        .before .before .before .before .put-byte
-        .ensures .next,
-    c .before .before .before .before
-        .before .before .before .before
-        .before .before .before
-        .before .before .before
-        .before .before
-        .before .before
-        .put-ground
-        .ensures
-        .1,
-    c .before .before .before .before .before .before .before .before .before .before .before .before .before .before .put-byte2 .ensures .next,
-    c .before .before .before .before .before .before .before .before .before .before .put-decimal .ensures .1,
-    c .before .before .before .before .before .before .put-seconds .ensures .1,
-    c .before .before .put-byte3 .ensures .next,
-  ),
-)
+returns c =
+    let at-put-seconds = c .before .before .before .before .before .before in
+    let at-put-decimal = at-put-seconds .before .before .before .before in
+    let at-put-byte2 = at-put-decimal .before .before .before .before in
+    let at-put-ground = at-put-byte2 .before .before .before .before in
+    let at-put-byte = at-put-ground .before .before .before .before in
+    let at-put-double = at-put-byte .before .before .before .before in
+    let at-put-word = at-put-double .before .before .before .before in (
+      then (then (then (then (then
+          (then (then (at-put-word .put-word .ensures) (at-put-double .put-double .ensures .0)) (at-put-byte .put-byte .ensures))
+          (at-put-ground .put-ground .ensures .0)) (at-put-byte2 .put-byte2 .ensures)) (at-put-decimal .put-decimal .ensures .0))
+          (at-put-seconds .put-seconds .ensures .0)) (c .before .before .put-byte3 .ensures),
+      omega (
+        arith,
+        at-put-word .put-word .ensures .next,
+        at-put-double .put-double .ensures .1,
+        at-put-byte .put-byte .ensures .next,
+        at-put-ground .put-ground .ensures .1,
+        at-put-byte2 .put-byte2 .ensures .next,
+        at-put-decimal .put-decimal .ensures .1,
+        at-put-seconds .put-seconds .ensures .1,
+        c .before .before .put-byte3 .ensures .next,
+      ),
+    )
 
 pub put-place-spec : {M : Type 1} → statement M
 put-place-spec =
-    tie.close
-    (tie.spec
-    slice-aggregate-put-word
-    put-word-requires
-    put-double-requires
-    put-byte-requires
-    put-ground-requires
-    put-byte-requires-2
-    put-decimal-requires
-    put-seconds-requires
-    put-byte-requires-3
-    same-length
-    returns)
+    tie.close (tie.spec (λ c. search needs) (λ c κs. search needs) (λ c κs. search needs) (λ c κs. search needs) (λ c κs. search needs)
+    (λ c κs. search needs) (λ c κs. search needs) (λ c κs. search needs) (λ c κs. search needs) (λ c. search needs) returns)

@@ -9,39 +9,6 @@ use borrow.Author.Needs.{needs}
 use Rattle.lines_reply.proofs.put_reply.Statement.{statement}
 use Rattle.lines_reply.proofs.put_reply.Tie as tie
 
-enum-told : tie.Need-enum-told
-enum-told c = search needs
-
-enum-known-t : tie.Need-enum-known-t
-enum-known-t c = search needs
-
-put-refused-requires : tie.Need-put-refused-requires
-put-refused-requires c κs = search needs
-
-enum-known-t-2 : tie.Need-enum-known-t-2
-enum-known-t-2 c = search needs
-
-slice-aggregate-put-line : tie.Need-slice-aggregate-put-line
-slice-aggregate-put-line c = search needs
-
-put-line-requires : tie.Need-put-line-requires
-put-line-requires c κs = search needs
-
-enum-known-t-3 : tie.Need-enum-known-t-3
-enum-known-t-3 c = search needs
-
-put-place-requires : tie.Need-put-place-requires
-put-place-requires c κs = search needs
-
-enum-known-t-4 : tie.Need-enum-known-t-4
-enum-known-t-4 c = search needs
-
-sub-put-curve : tie.Need-sub-put-curve
-sub-put-curve c = search needs
-
-part-put-curve-start : tie.Need-part-put-curve-start
-part-put-curve-start c = search needs
-
 part-put-curve-end : tie.Need-part-put-curve-end
 part-put-curve-end c = let h : c .before .before .t4 .given .0 .1 .0 ≤ length (c .before .before .before .before .before .before .args .converted .now) =
     rw (c .before .before .t4 .given .1) at (c .before .before .before .before .before .before .pre .0) in omega arith
@@ -53,18 +20,12 @@ returns : tie.Need-returns
 unfolding textOf
 returns c = (rw (c .enum-told .given .1) (nothing _ _), omega arith)
 
-same-length : tie.Need-same-length
-same-length c = search needs
-
 returns-2 : tie.Need-returns-2
 unfolding textOf
 returns-2 c = (
   rw (c .before .before .before .before .before .t .given .1) (c .before .before .put-refused .ensures .0),
   omega (arith, c .before .before .put-refused .ensures .1),
 )
-
-same-length-2 : tie.Need-same-length-2
-same-length-2 c = search needs
 
 returns-3 : tie.Need-returns-3
 unfolding textOf
@@ -73,9 +34,6 @@ returns-3 c = (
   omega (arith, c .before .before .put-line .ensures .1),
 )
 
-same-length-3 : tie.Need-same-length-3
-same-length-3 c = search needs
-
 returns-4 : tie.Need-returns-4
 unfolding textOf
 returns-4 c = (
@@ -83,41 +41,15 @@ returns-4 c = (
   omega (arith, c .before .before .put-place .ensures .1),
 )
 
-same-length-4 : tie.Need-same-length-4
-same-length-4 c = search needs
-
 returns-5 : tie.Need-returns-5
 unfolding textOf
 returns-5 c =
-    let z : c .before .before .before .before .before .before .t4 .given .0 .1 .0 - 0 ≡ c .before .before .before .before .before .before .t4 .given .0 .1
-    .0 = omega arith in (
-      rw (c .before .before .before .before .before .before .t4 .given .1) (rw z at (c .before .before .put-curve .ensures .0)),
-      c .before .before .put-curve .ensures .1,
-    )
+    let at-t4 = c .before .before .before .before .before .before in
+    let z : at-t4 .t4 .given .0 .1 .0 - 0 ≡ at-t4 .t4 .given .0 .1 .0 = omega arith in
+    (rw (at-t4 .t4 .given .1) (rw z at (c .before .before .put-curve .ensures .0)), c .before .before .put-curve .ensures .1)
 
 pub put-reply-spec : {M : Type 1} → statement M
 put-reply-spec =
-    tie.close
-    (tie.spec
-    enum-told
-    enum-known-t
-    put-refused-requires
-    enum-known-t-2
-    slice-aggregate-put-line
-    put-line-requires
-    enum-known-t-3
-    put-place-requires
-    enum-known-t-4
-    sub-put-curve
-    part-put-curve-start
-    part-put-curve-end
-    put-curve-requires
-    returns
-    same-length
-    returns-2
-    same-length-2
-    returns-3
-    same-length-3
-    returns-4
-    same-length-4
-    returns-5)
+    tie.close (tie.spec (λ c. search needs) (λ c. search needs) (λ c κs. search needs) (λ c. search needs) (λ c. search needs) (λ c κs. search needs)
+    (λ c. search needs) (λ c κs. search needs) (λ c. search needs) (λ c. search needs) (λ c. search needs) part-put-curve-end put-curve-requires
+    returns (λ c. search needs) returns-2 (λ c. search needs) returns-3 (λ c. search needs) returns-4 (λ c. search needs) returns-5)

@@ -5,15 +5,6 @@ use borrow.Author.Needs.{needs}
 use Rattle.lines_reply.proofs.put_second.Statement.{statement}
 use Rattle.lines_reply.proofs.put_second.Tie as tie
 
-put-byte-requires : tie.Need-put-byte-requires
-put-byte-requires c κs = search needs
-
-put-decimal-requires : tie.Need-put-decimal-requires
-put-decimal-requires c κs = search needs
-
-same-length : tie.Need-same-length
-same-length c = search needs
-
 returns : tie.Need-returns
 returns c = (
   then (then (c .before .before .before .before .before .before .put-byte .ensures) (c .before .before .put-decimal .ensures .0)) (nothing _ _),
@@ -21,4 +12,4 @@ returns c = (
 )
 
 pub put-second-spec : {M : Type 1} → statement M
-put-second-spec = tie.close (tie.spec put-byte-requires put-decimal-requires same-length returns)
+put-second-spec = tie.close (tie.spec (λ c κs. search needs) (λ c κs. search needs) (λ c. search needs) returns)

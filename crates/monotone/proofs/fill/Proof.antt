@@ -63,8 +63,8 @@ loop-less c = omega arith
 
 loop-again : tie.Need-loop-again Inv-loop μ-loop
 loop-again c =
-    let l = c .before .before .before .loop in
     let t = c .before .before .before .before in
+    let l = c .before .before .before .loop in
     let ks = t .args .rows .now in
     let m = c .before .slope-at in (
       omega arith,
@@ -90,23 +90,5 @@ returns c =
 
 pub fill-spec : {M : Type 1} → statement M
 fill-spec =
-    tie.close
-    (tie.spec
-    Inv-loop
-    μ-loop
-    loop-holds
-    slope-at-requires
-    mul-out
-    shared-slice-copy-out-out
-    mul-t9
-    mul-t10
-    slice-set-from-out
-    mul-m
-    add-m
-    mul-m-2
-    slice-set-from-m
-    add-i
-    loop-less
-    loop-again
-    same-length
-    returns)
+    tie.close (tie.spec Inv-loop μ-loop loop-holds slope-at-requires mul-out shared-slice-copy-out-out mul-t9 mul-t10 slice-set-from-out mul-m add-m
+    mul-m-2 slice-set-from-m add-i loop-less loop-again same-length returns)

@@ -9,15 +9,6 @@ use borrow.Author.Needs.{needs}
 use Rattle.monotone.proofs.monotone.Statement.{statement}
 use Rattle.monotone.proofs.monotone.Tie as tie
 
-verdict-requires : tie.Need-verdict-requires
-verdict-requires c κs = search needs
-
-enum-known-v : tie.Need-enum-known-v
-enum-known-v c = search needs
-
-enum-told : tie.Need-enum-told
-enum-told c = search needs
-
 fill-requires : tie.Need-fill-requires
 fill-requires c κs =
     let v = c .before .before .before in
@@ -26,17 +17,11 @@ fill-requires c κs =
     let e = long (a .rows .now) in
     (omega (arith, p .many, e), (omega (arith, p .few, e), (omega (arith, p .room, e), p .small)))
 
-mul-t11 : tie.Need-mul-t11
-mul-t11 c = search needs
-
 returns : tie.Need-returns
 returns c =
     let v = c .before .before .before in
     let a = v .before .args in
     refuses (heldAll (a .rows .now)) (a .out .now) (v .verdict .ensures) (c .before .v .given .1)
-
-same-length : tie.Need-same-length
-same-length c = search needs
 
 returns-2 : tie.Need-returns-2
 returns-2 c =
@@ -48,12 +33,4 @@ returns-2 c =
 pub monotone-spec : {M : Type 1} → statement M
 monotone-spec =
     tie.close
-    (tie.spec
-    verdict-requires
-    enum-known-v
-    enum-told
-    fill-requires
-    mul-t11
-    returns
-    same-length
-    returns-2)
+    (tie.spec (λ c κs. search needs) (λ c. search needs) (λ c. search needs) fill-requires (λ c. search needs) returns (λ c. search needs) returns-2)

@@ -19,20 +19,11 @@ returns-2 c =
     let e = long (a .rows .now) in
     too-many (heldAll (a .rows .now)) (a .room) (omega (arith, e)) (omega (arith, e))
 
-mul-if3 : tie.Need-mul-if3
-mul-if3 c = search needs
-
 returns-3 : tie.Need-returns-3
 returns-3 c =
     let a = c .before .before .before .args in
     let e = long (a .rows .now) in
     too-short (heldAll (a .rows .now)) (a .room) (omega (arith, e)) (omega (arith, e)) (omega (arith, e))
-
-first-large-requires : tie.Need-first-large-requires
-first-large-requires c κs = search needs
-
-cast-t10 : tie.Need-cast-t10
-cast-t10 c = search needs
 
 returns-4 : tie.Need-returns-4
 returns-4 c =
@@ -49,14 +40,4 @@ returns-5 c =
     passes (heldAll (a .rows .now)) (a .room) (omega (arith, e)) (omega (arith, e)) (omega (arith, e)) (omega (arith, e, f .ensures .0))
 
 pub verdict-spec : {M : Type 1} → statement M
-verdict-spec =
-    tie.close
-    (tie.spec
-    returns
-    returns-2
-    mul-if3
-    returns-3
-    first-large-requires
-    cast-t10
-    returns-4
-    returns-5)
+verdict-spec = tie.close (tie.spec returns returns-2 (λ c. search needs) returns-3 (λ c κs. search needs) (λ c. search needs) returns-4 returns-5)

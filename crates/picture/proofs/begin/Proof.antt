@@ -5,11 +5,8 @@ use borrow.Author.Needs.{needs}
 use Rattle.picture.proofs.begin.Statement.{statement}
 use Rattle.picture.proofs.begin.Tie as tie
 
-none-requires : tie.Need-none-requires
-none-requires c κs = search needs
-
 returns : tie.Need-returns
 returns c = (λ b t. rw (c .none .ensures) refl, omega arith)
 
 pub begin-spec : {M : Type 1} → statement M
-begin-spec = tie.close (tie.spec none-requires returns)
+begin-spec = tie.close (tie.spec (λ c κs. search needs) returns)

@@ -4,51 +4,6 @@ use mathlib.Core.Path.{refl}
 use Rattle.picture.proofs.fault_after.Statement.{statement}
 use Rattle.picture.proofs.fault_after.Tie as tie
 
-enum-told : tie.Need-enum-told
-enum-told c = search needs
-
-enum-told-2 : tie.Need-enum-told-2
-enum-told-2 c = search needs
-
-fault-in-requires : tie.Need-fault-in-requires
-fault-in-requires c κs = search needs
-
-enum-told-3 : tie.Need-enum-told-3
-enum-told-3 c = search needs
-
-fault-in-requires-2 : tie.Need-fault-in-requires-2
-fault-in-requires-2 c κs = search needs
-
-enum-told-4 : tie.Need-enum-told-4
-enum-told-4 c = search needs
-
-fault-in-requires-3 : tie.Need-fault-in-requires-3
-fault-in-requires-3 c κs = search needs
-
-enum-told-5 : tie.Need-enum-told-5
-enum-told-5 c = search needs
-
-fault-in-requires-4 : tie.Need-fault-in-requires-4
-fault-in-requires-4 c κs = search needs
-
-enum-told-6 : tie.Need-enum-told-6
-enum-told-6 c = search needs
-
-fault-in-requires-5 : tie.Need-fault-in-requires-5
-fault-in-requires-5 c κs = search needs
-
-enum-told-7 : tie.Need-enum-told-7
-enum-told-7 c = search needs
-
-fault-in-requires-6 : tie.Need-fault-in-requires-6
-fault-in-requires-6 c κs = search needs
-
-enum-told-8 : tie.Need-enum-told-8
-enum-told-8 c = search needs
-
-fault-in-requires-7 : tie.Need-fault-in-requires-7
-fault-in-requires-7 c κs = search needs
-
 returns : tie.Need-returns
 returns c = λ l. rw (c .enum-told .given .1) refl
 
@@ -75,28 +30,6 @@ returns-8 c = λ l. rw (c .before .enum-told8 .given .1) (c .fault-in7 .ensures 
 
 pub fault-after-spec : {M : Type 1} → statement M
 fault-after-spec =
-    tie.close
-    (tie.spec
-    enum-told
-    enum-told-2
-    fault-in-requires
-    enum-told-3
-    fault-in-requires-2
-    enum-told-4
-    fault-in-requires-3
-    enum-told-5
-    fault-in-requires-4
-    enum-told-6
-    fault-in-requires-5
-    enum-told-7
-    fault-in-requires-6
-    enum-told-8
-    fault-in-requires-7
-    returns
-    returns-2
-    returns-3
-    returns-4
-    returns-5
-    returns-6
-    returns-7
-    returns-8)
+    tie.close (tie.spec (λ c. search needs) (λ c. search needs) (λ c κs. search needs) (λ c. search needs) (λ c κs. search needs) (λ c. search needs)
+    (λ c κs. search needs) (λ c. search needs) (λ c κs. search needs) (λ c. search needs) (λ c κs. search needs) (λ c. search needs)
+    (λ c κs. search needs) (λ c. search needs) (λ c κs. search needs) returns returns-2 returns-3 returns-4 returns-5 returns-6 returns-7 returns-8)

@@ -4,21 +4,6 @@ use mathlib.Core.Path.{refl}
 use Rattle.picture.proofs.fault_in.Statement.{statement}
 use Rattle.picture.proofs.fault_in.Tie as tie
 
-enum-told : tie.Need-enum-told
-enum-told c = search needs
-
-enum-known-t : tie.Need-enum-known-t
-enum-known-t c = search needs
-
-enum-told-2 : tie.Need-enum-told-2
-enum-told-2 c = search needs
-
-enum-told-3 : tie.Need-enum-told-3
-enum-told-3 c = search needs
-
-enum-told-4 : tie.Need-enum-told-4
-enum-told-4 c = search needs
-
 returns : tie.Need-returns
 returns c = λ l. rw (c .enum-told .given .1) refl
 
@@ -36,15 +21,5 @@ returns-5 c = λ l. rw (c .enum-told4 .given .1) refl
 
 pub fault-in-spec : {M : Type 1} → statement M
 fault-in-spec =
-    tie.close
-    (tie.spec
-    enum-told
-    enum-known-t
-    enum-told-2
-    enum-told-3
-    enum-told-4
-    returns
-    returns-2
-    returns-3
-    returns-4
-    returns-5)
+    tie.close (tie.spec (λ c. search needs) (λ c. search needs) (λ c. search needs) (λ c. search needs) (λ c. search needs) returns returns-2
+    returns-3 returns-4 returns-5)

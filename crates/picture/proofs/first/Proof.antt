@@ -5,11 +5,8 @@ use Rattle.picture.proofs.Steps.{answered}
 use Rattle.picture.proofs.first.Statement.{statement}
 use Rattle.picture.proofs.first.Tie as tie
 
-first-requires : tie.Need-first-requires
-first-requires c κs = search needs
-
 returns : tie.Need-returns
 returns c = answered (c .first .ensures) refl
 
 pub first-spec : {M : Type 1} → statement M
-first-spec = tie.close (tie.spec first-requires returns)
+first-spec = tie.close (tie.spec (λ c κs. search needs) returns)

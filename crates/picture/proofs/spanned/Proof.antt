@@ -5,11 +5,8 @@ use Rattle.picture.proofs.Steps.{answered}
 use Rattle.picture.proofs.spanned.Statement.{statement}
 use Rattle.picture.proofs.spanned.Tie as tie
 
-spanned-requires : tie.Need-spanned-requires
-spanned-requires c κs = search needs
-
 returns : tie.Need-returns
 returns c = answered (c .spanned .ensures) refl
 
 pub spanned-spec : {M : Type 1} → statement M
-spanned-spec = tie.close (tie.spec spanned-requires returns)
+spanned-spec = tie.close (tie.spec (λ c κs. search needs) returns)

@@ -5,15 +5,6 @@ use Rattle.picture.proofs.Steps.{not-turned, turn-refused}
 use Rattle.picture.proofs.turned.Statement.{statement}
 use Rattle.picture.proofs.turned.Tie as tie
 
-spline-verdict-requires : tie.Need-spline-verdict-requires
-spline-verdict-requires c κs = search needs
-
-enum-told : tie.Need-enum-told
-enum-told c = search needs
-
-enum-known-v : tie.Need-enum-known-v
-enum-known-v c = search needs
-
 returns : tie.Need-returns
 returns c = let a = c .before .before .before .before .args in λ f s l.
     not-turned (a .b) (a .c) (a .knots .now) f s (sym (c .before .before .spline-verdict .ensures) ∙ c .enum-told .given .1)
@@ -23,4 +14,4 @@ returns-2 c = let a = c .before .before .before .before .before .args in λ f s 
     turn-refused (a .b) (a .c) (a .knots .now) f s _ (sym (c .before .before .before .spline-verdict .ensures) ∙ c .before .v .given .1)
 
 pub turned-spec : {M : Type 1} → statement M
-turned-spec = tie.close (tie.spec spline-verdict-requires enum-told enum-known-v returns returns-2)
+turned-spec = tie.close (tie.spec (λ c κs. search needs) (λ c. search needs) (λ c. search needs) returns returns-2)

@@ -6,24 +6,16 @@ use Rattle.text.proofs.Writing.{nothing}
 use Rattle.picture_axes.proofs.put_time_label.Statement.{statement}
 use Rattle.picture_axes.proofs.put_time_label.Tie as tie
 
-stretch-requires : tie.Need-stretch-requires
-stretch-requires c κs = search needs
-
 put-time-requires : tie.Need-put-time-requires
 put-time-requires c κs = (omega (arith, c .before .before .stretch .ensures .1), omega arith)
 
-same-length : tie.Need-same-length
-same-length c = search needs
-
 returns : tie.Need-returns
-returns c = (
-  rw (
-    ← c .before .before .before .before .before .stretch .ensures .0,
-    le-leb (c .before .before .before .before .before .before .before .args .v) (c .before .before .before .before .before .stretch .result)
-        (omega arith),
-  ) (c .before .before .put-time .ensures .0),
-  c .before .before .put-time .ensures .1,
-)
+returns c =
+    let at-stretch = c .before .before .before .before .before in (
+      rw (← at-stretch .stretch .ensures .0, le-leb (at-stretch .before .before .args .v) (at-stretch .stretch .result) (omega arith))
+          (c .before .before .put-time .ensures .0),
+      c .before .before .put-time .ensures .1,
+    )
 
 returns-2 : tie.Need-returns-2
 returns-2 c = (
@@ -32,11 +24,4 @@ returns-2 c = (
 )
 
 pub put-time-label-spec : {M : Type 1} → statement M
-put-time-label-spec =
-    tie.close
-    (tie.spec
-    stretch-requires
-    put-time-requires
-    same-length
-    returns
-    returns-2)
+put-time-label-spec = tie.close (tie.spec (λ c κs. search needs) put-time-requires (λ c. search needs) returns returns-2)

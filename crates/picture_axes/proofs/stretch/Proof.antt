@@ -8,16 +8,8 @@ use Rattle.picture_axes.proofs.stretch.Tie as tie
 returns : tie.Need-returns
 returns c = (simp (eq-eqb _ _ (c .if1 .taken)), omega arith)
 
-mul-result : tie.Need-mul-result
-mul-result c = search needs
-
 returns-2 : tie.Need-returns-2
 returns-2 c = (simp (ne-eqb _ _ (c .if1 .left)), omega arith)
 
 pub stretch-spec : {M : Type 1} → statement M
-stretch-spec =
-    tie.close
-    (tie.spec
-    returns
-    mul-result
-    returns-2)
+stretch-spec = tie.close (tie.spec returns (λ c. search needs) returns-2)

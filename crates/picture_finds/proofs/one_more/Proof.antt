@@ -4,9 +4,6 @@ use native.Mathlib.Omega.{arith}
 use Rattle.picture_finds.proofs.one_more.Statement.{statement}
 use Rattle.picture_finds.proofs.one_more.Tie as tie
 
-add-result : tie.Need-add-result
-add-result c = search needs
-
 returns : tie.Need-returns
 returns c = omega arith
 
@@ -14,9 +11,4 @@ returns-2 : tie.Need-returns-2
 returns-2 c = omega arith
 
 pub one-more-spec : {M : Type 1} → statement M
-one-more-spec =
-    tie.close
-    (tie.spec
-    add-result
-    returns
-    returns-2)
+one-more-spec = tie.close (tie.spec (λ c. search needs) returns returns-2)

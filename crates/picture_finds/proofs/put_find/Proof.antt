@@ -3,18 +3,6 @@ use borrow.Author.Needs.{needs}
 use Rattle.picture_finds.proofs.put_find.Statement.{statement}
 use Rattle.picture_finds.proofs.put_find.Tie as tie
 
-is-in-depths-requires : tie.Need-is-in-depths-requires
-is-in-depths-requires c κs = search needs
-
-spline-inverse-by-requires : tie.Need-spline-inverse-by-requires
-spline-inverse-by-requires c κs = search needs
-
-put-found-requires : tie.Need-put-found-requires
-put-found-requires c κs = search needs
-
-same-length : tie.Need-same-length
-same-length c = search needs
-
 returns : tie.Need-returns
 returns c = (
   rw (c .before .before .before .spline-inverse-by .ensures, c .before .before .before .before .before .is-in-depths .ensures) at
@@ -23,11 +11,4 @@ returns c = (
 )
 
 pub put-find-spec : {M : Type 1} → statement M
-put-find-spec =
-    tie.close
-    (tie.spec
-    is-in-depths-requires
-    spline-inverse-by-requires
-    put-found-requires
-    same-length
-    returns)
+put-find-spec = tie.close (tie.spec (λ c κs. search needs) (λ c κs. search needs) (λ c κs. search needs) (λ c. search needs) returns)

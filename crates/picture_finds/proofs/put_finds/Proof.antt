@@ -16,29 +16,14 @@ Inv-loop out₀ at m b knots e n ys i₀ a₀ out i a = (i ≤ n) × (n ≤ 8) �
 abbrev μ-loop : tie.MeasureT-loop
 μ-loop out₀ at m b knots e n ys i₀ a₀ out i a = n - i
 
-lesser-requires : tie.Need-lesser-requires Inv-loop μ-loop
-lesser-requires c κs = search needs
-
 loop-holds : tie.Need-loop-holds Inv-loop μ-loop
 loop-holds c = (omega arith, omega arith, omega arith, no-finds _ _ _ _ _)
 
-mul-y : tie.Need-mul-y Inv-loop μ-loop
-mul-y c = search needs
-
-array-read-y : tie.Need-array-read-y Inv-loop μ-loop
-array-read-y c = search needs
-
-add-put-find : tie.Need-add-put-find Inv-loop μ-loop
-add-put-find c = search needs
-
 put-find-requires : tie.Need-put-find-requires Inv-loop μ-loop
-put-find-requires c κs = let l = c .before .before .loop in (
-  c .before .before .before .before .before .before .before .pre .0,
-  (c .before .before .before .before .before .before .before .pre .1 .0, (omega (arith, l .inv .1), omega (arith, l .inv .2, l .inv .3 .long))),
-)
-
-add-i : tie.Need-add-i Inv-loop μ-loop
-add-i c = search needs
+put-find-requires c κs =
+    let start = c .before .before .before .before .before .before .before in
+    let l = c .before .before .loop in
+    (start .pre .0, (start .pre .1 .0, (omega (arith, l .inv .1), omega (arith, l .inv .2, l .inv .3 .long))))
 
 loop-less : tie.Need-loop-less Inv-loop μ-loop
 loop-less c = omega arith
@@ -65,18 +50,5 @@ returns c = let l = c .before .loop in let f = c .before .before .before .before
 
 pub put-finds-spec : {M : Type 1} → statement M
 put-finds-spec =
-    tie.close
-    (tie.spec
-    Inv-loop
-    μ-loop
-    lesser-requires
-    loop-holds
-    mul-y
-    array-read-y
-    add-put-find
-    put-find-requires
-    add-i
-    loop-less
-    loop-again
-    same-length
-    returns)
+    tie.close (tie.spec Inv-loop μ-loop (λ c κs. search needs) loop-holds (λ c. search needs) (λ c. search needs) (λ c. search needs)
+    put-find-requires (λ c. search needs) loop-less loop-again same-length returns)

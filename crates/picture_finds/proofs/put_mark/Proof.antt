@@ -6,33 +6,6 @@ use Rattle.text.proofs.Writing.{then}
 use Rattle.picture_finds.proofs.put_mark.Statement.{statement}
 use Rattle.picture_finds.proofs.put_mark.Tie as tie
 
-slice-aggregate-put-number : tie.Need-slice-aggregate-put-number
-slice-aggregate-put-number c = search needs
-
-put-number-requires : tie.Need-put-number-requires
-put-number-requires c κs = search needs
-
-slice-aggregate-put-number-2 : tie.Need-slice-aggregate-put-number-2
-slice-aggregate-put-number-2 c = search needs
-
-put-number-requires-2 : tie.Need-put-number-requires-2
-put-number-requires-2 c κs = search needs
-
-slice-aggregate-put-number-3 : tie.Need-slice-aggregate-put-number-3
-slice-aggregate-put-number-3 c = search needs
-
-put-number-requires-3 : tie.Need-put-number-requires-3
-put-number-requires-3 c κs = search needs
-
-slice-aggregate-put-number-4 : tie.Need-slice-aggregate-put-number-4
-slice-aggregate-put-number-4 c = search needs
-
-put-number-requires-4 : tie.Need-put-number-requires-4
-put-number-requires-4 c κs = search needs
-
-slice-aggregate-put-word : tie.Need-slice-aggregate-put-word
-slice-aggregate-put-word c = search needs
-
 put-word-requires : tie.Need-put-word-requires
 put-word-requires c κs =
     let at-put-number4 = c .before .before .before .before in
@@ -55,13 +28,12 @@ put-word-requires c κs =
 
 same-length : tie.Need-same-length
 same-length c =
-    let at-put-word = c .before .before in
-    let at-put-number4 = at-put-word .before .before .before .before .before in
+    let at-put-number4 = c .before .before .before .before .before .before .before in
     let at-put-number3 = at-put-number4 .before .before .before .before .before in
     let at-put-number2 = at-put-number3 .before .before .before .before .before in
     let at-put-number = at-put-number2 .before .before .before .before .before in
-    at-put-word .put-word .ensures .long ∙ at-put-number4 .put-number4 .ensures .0 .long ∙ at-put-number3 .put-number3 .ensures .0 .long ∙
-    at-put-number2 .put-number2 .ensures .0 .long ∙ at-put-number .put-number .ensures .0 .long
+    c .before .before .put-word .ensures .long ∙ at-put-number4 .put-number4 .ensures .0 .long ∙ at-put-number3 .put-number3 .ensures .0 .long
+    ∙ at-put-number2 .put-number2 .ensures .0 .long ∙ at-put-number .put-number .ensures .0 .long
 
 returns : tie.Need-returns
 returns c =
@@ -84,17 +56,5 @@ returns c =
 
 pub put-mark-spec : {M : Type 1} → statement M
 put-mark-spec =
-    tie.close
-    (tie.spec
-    slice-aggregate-put-number
-    put-number-requires
-    slice-aggregate-put-number-2
-    put-number-requires-2
-    slice-aggregate-put-number-3
-    put-number-requires-3
-    slice-aggregate-put-number-4
-    put-number-requires-4
-    slice-aggregate-put-word
-    put-word-requires
-    same-length
-    returns)
+    tie.close (tie.spec (λ c. search needs) (λ c κs. search needs) (λ c. search needs) (λ c κs. search needs) (λ c. search needs)
+    (λ c κs. search needs) (λ c. search needs) (λ c κs. search needs) (λ c. search needs) put-word-requires same-length returns)

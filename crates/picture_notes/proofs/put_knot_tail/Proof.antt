@@ -5,53 +5,17 @@ use Rattle.text.proofs.Writing.{then}
 use Rattle.picture_notes.proofs.put_knot_tail.Statement.{statement}
 use Rattle.picture_notes.proofs.put_knot_tail.Tie as tie
 
-knot-column-requires : tie.Need-knot-column-requires
-knot-column-requires c κs = search needs
-
-slice-aggregate-put-number : tie.Need-slice-aggregate-put-number
-slice-aggregate-put-number c = search needs
-
-put-number-requires : tie.Need-put-number-requires
-put-number-requires c κs = search needs
-
-slice-aggregate-put-number-2 : tie.Need-slice-aggregate-put-number-2
-slice-aggregate-put-number-2 c = search needs
-
-put-number-requires-2 : tie.Need-put-number-requires-2
-put-number-requires-2 c κs = search needs
-
-slice-aggregate-put-word : tie.Need-slice-aggregate-put-word
-slice-aggregate-put-word c = search needs
-
-put-word-requires : tie.Need-put-word-requires
-put-word-requires c κs = search needs
-
-same-length : tie.Need-same-length
-same-length c = search needs
-
 returns : tie.Need-returns
-returns c = (
-  (then (then (c .before .before .before .before .before .before .before .before .before .before .before .before .put-number .ensures .0)
-      (rw (c .before .before .before .before .before .before .before .before .before .before .before .before .before .before .before .knot-column .ensures
-      .0) at (c .before .before .before .before .before .before .before .put-number2 .ensures .0))) (c .before .before .put-word .ensures)),
-  omega (
-    arith,
-    c .before .before .before .before .before .before .before .before .before .before .before .before .put-number .ensures .1,
-    c .before .before .before .before .before .before .before .put-number2 .ensures .1,
-    c .before .before .put-word .ensures .next,
-  ),
-)
+returns c =
+    let at-put-number2 = c .before .before .before .before .before .before .before in
+    let at-put-number = at-put-number2 .before .before .before .before .before in
+    let at-knot-column = at-put-number .before .before .before in (
+      (then (then (at-put-number .put-number .ensures .0) (rw (at-knot-column .knot-column .ensures .0) at (at-put-number2 .put-number2 .ensures .0)))
+          (c .before .before .put-word .ensures)),
+      omega (arith, at-put-number .put-number .ensures .1, at-put-number2 .put-number2 .ensures .1, c .before .before .put-word .ensures .next),
+    )
 
 pub put-knot-tail-spec : {M : Type 1} → statement M
 put-knot-tail-spec =
-    tie.close
-    (tie.spec
-    knot-column-requires
-    slice-aggregate-put-number
-    put-number-requires
-    slice-aggregate-put-number-2
-    put-number-requires-2
-    slice-aggregate-put-word
-    put-word-requires
-    same-length
-    returns)
+    tie.close (tie.spec (λ c κs. search needs) (λ c. search needs) (λ c κs. search needs) (λ c. search needs) (λ c κs. search needs)
+    (λ c. search needs) (λ c κs. search needs) (λ c. search needs) returns)

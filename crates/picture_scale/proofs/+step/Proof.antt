@@ -53,17 +53,5 @@ step-returns-5 t c = (
 
 pub +step-spec : {M : Type 1} → statement M
 +step-spec =
-    close
-    μ-step
-    λ t. step-lts.spec
-    (step-below t, step.Post)
-    (step-at t)
-    step.Post
-    (step-returns t)
-    (step-returns-2 t)
-    (step-returns-3 t)
-    (step-returns-4 t)
-    (step-sub-step t)
-    (step-step-requires t)
-    (step-mul-result t)
-    (step-returns-5 t)
+    close μ-step λ t. step-lts.spec (step-below t, step.Post) (step-at t) step.Post (step-returns t) (step-returns-2 t) (step-returns-3 t)
+    (step-returns-4 t) (step-sub-step t) (step-step-requires t) (step-mul-result t) (step-returns-5 t)

@@ -7,10 +7,6 @@ use Rattle.picture_scale.specs.Bounds.{Narrow}
 use Rattle.picture_scale.proofs.Heights.{curve-begins, curve-goes-on}
 use Rattle.picture_scale.proofs.curve_extent.Statement.{statement}
 use Rattle.picture_scale.proofs.curve_extent.Tie as tie
-use Rattle.picture_scale.proofs.curve_extent.Reads as reads
-use Rattle.picture_scale.proofs.curve_extent.Lts as lts
-use Rattle.picture_scale.proofs.curve_height.Reads as curve-height-reads
-use Rattle.picture_scale.proofs.widen.Reads as widen-reads
 
 abbrev Inv-loop : tie.InvT-loop
 Inv-loop b knots p h e₀ i₀ e i = (i ≤ p) × (e ≡ curveExtent b knots p i) × Narrow e
@@ -41,32 +37,18 @@ loop-less : tie.Need-loop-less Inv-loop μ-loop
 loop-less c = omega arith
 
 loop-again : tie.Need-loop-again Inv-loop μ-loop
-loop-again c = (
-  omega arith,
-  curve-goes-on _ _ _ (c .before .before .before .loop .i) (c .before .before .before .loop .inv .1) (c .before .curve-height2 .ensures .0)
-      (c .widen .ensures .0),
-  c .widen .ensures .1,
-)
+loop-again c =
+    let at-loop = c .before .before .before in (
+      omega arith,
+      curve-goes-on _ _ _ (at-loop .loop .i) (at-loop .loop .inv .1) (c .before .curve-height2 .ensures .0) (c .widen .ensures .0),
+      c .widen .ensures .1,
+    )
 
 returns : tie.Need-returns Inv-loop μ-loop
-returns c = (
-  c .before .loop .inv .1
-      ∙ ap (curveExtent (c .before .before .before .before .args .b) (c .before .before .before .before .args .knots .now)
-      (c .before .before .before .before .args .p)) (omega arith),
-  c .before .loop .inv .2,
-)
+returns c =
+    let start = c .before .before .before .before in
+    (c .before .loop .inv .1 ∙ ap (curveExtent (start .args .b) (start .args .knots .now) (start .args .p)) (omega arith), c .before .loop .inv .2)
 
 pub curve-extent-spec : {M : Type 1} → statement M
 curve-extent-spec =
-    tie.close
-    (tie.spec
-    Inv-loop
-    μ-loop
-    curve-height-requires
-    loop-holds
-    add-i
-    curve-height-requires-2
-    widen-requires
-    loop-less
-    loop-again
-    returns)
+    tie.close (tie.spec Inv-loop μ-loop curve-height-requires loop-holds add-i curve-height-requires-2 widen-requires loop-less loop-again returns)

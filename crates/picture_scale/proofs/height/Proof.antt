@@ -5,18 +5,6 @@ use Rattle.picture_scale.proofs.Heights.{height-below, height-above}
 use Rattle.picture_scale.proofs.height.Statement.{statement}
 use Rattle.picture_scale.proofs.height.Tie as tie
 
-to-bits-requires : tie.Need-to-bits-requires
-to-bits-requires c κs = search needs
-
-lesser-requires : tie.Need-lesser-requires
-lesser-requires c κs = search needs
-
-units-requires : tie.Need-units-requires
-units-requires c κs = search needs
-
-lesser-requires-2 : tie.Need-lesser-requires-2
-lesser-requires-2 c κs = search needs
-
 sub-result : tie.Need-sub-result
 sub-result c = omega (arith, c .before .lesser2 .ensures)
 
@@ -40,12 +28,4 @@ returns-2 c = (
 pub height-spec : {M : Type 1} → statement M
 height-spec =
     tie.close
-    (tie.spec
-    to-bits-requires
-    lesser-requires
-    units-requires
-    lesser-requires-2
-    sub-result
-    returns
-    add-result
-    returns-2)
+    (tie.spec (λ c κs. search needs) (λ c κs. search needs) (λ c κs. search needs) (λ c κs. search needs) sub-result returns add-result returns-2)

@@ -4,17 +4,12 @@ use borrow.Author.Tests.{le-leb, lt-leb}
 use borrow.Author.Needs.{needs}
 use Rattle.picture_scale.proofs.is_inner.Statement.{statement}
 use Rattle.picture_scale.proofs.is_inner.Tie as tie
-use Rattle.picture_scale.proofs.is_inner.Reads as reads
-use Rattle.picture_scale.proofs.is_inner.Lts as lts
 
 returns : tie.Need-returns
 returns c = simp (lt-leb 1 (c .before .args .j) (omega arith))
-
-add-result : tie.Need-add-result
-add-result c = search needs
 
 returns-2 : tie.Need-returns-2
 returns-2 c = simp (le-leb 1 (c .before .args .j) (omega arith))
 
 pub is-inner-spec : {M : Type 1} → statement M
-is-inner-spec = tie.close (tie.spec returns add-result returns-2)
+is-inner-spec = tie.close (tie.spec returns (λ c. search needs) returns-2)

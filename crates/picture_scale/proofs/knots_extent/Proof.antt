@@ -9,9 +9,6 @@ use Rattle.picture_scale.proofs.Heights.{no-knots, knots-go-on}
 use lib.ListN.{length}
 use Rattle.picture_scale.proofs.knots_extent.Statement.{statement}
 use Rattle.picture_scale.proofs.knots_extent.Tie as tie
-use Rattle.picture_scale.proofs.knots_extent.Reads as reads
-use Rattle.picture_scale.proofs.knots_extent.Lts as lts
-use Rattle.picture_scale.proofs.with_knot.Reads as with-knot-reads
 
 abbrev Inv-loop : tie.InvT-loop
 Inv-loop b knots e₀ j₀ e j = (j ≤ length knots) × (e ≡ knotsExtent b knots e₀ j) × Narrow e
@@ -21,12 +18,6 @@ abbrev μ-loop : tie.MeasureT-loop
 
 loop-holds : tie.Need-loop-holds Inv-loop μ-loop
 loop-holds c = (omega arith, no-knots _ _ _, c .before .pre)
-
-mul-with-knot : tie.Need-mul-with-knot Inv-loop μ-loop
-mul-with-knot c = search needs
-
-shared-slice-read-with-knot : tie.Need-shared-slice-read-with-knot Inv-loop μ-loop
-shared-slice-read-with-knot c = search needs
 
 with-knot-requires : tie.Need-with-knot-requires Inv-loop μ-loop
 with-knot-requires c κs = (omega arith, c .before .before .loop .inv .2)
@@ -38,31 +29,17 @@ loop-less : tie.Need-loop-less Inv-loop μ-loop
 loop-less c = omega arith
 
 loop-again : tie.Need-loop-again Inv-loop μ-loop
-loop-again c = (
-  omega arith,
-  knots-go-on _ _ _ (c .before .before .before .loop .j) (c .before .before .before .loop .inv .1) (c .with-knot .ensures .0),
-  c .with-knot .ensures .1,
-)
+loop-again c =
+    let at-loop = c .before .before .before in
+    (omega arith, knots-go-on _ _ _ (at-loop .loop .j) (at-loop .loop .inv .1) (c .with-knot .ensures .0), c .with-knot .ensures .1)
 
 returns : tie.Need-returns Inv-loop μ-loop
-returns c = (
-  c .before .loop .inv .1
-      ∙ ap (knotsExtent (c .before .before .before .args .b) (c .before .before .before .args .knots .now) (c .before .before .before .args .first))
-      (omega arith),
-  c .before .loop .inv .2,
-)
+returns c =
+    let start = c .before .before .before in (
+      c .before .loop .inv .1 ∙ ap (knotsExtent (start .args .b) (start .args .knots .now) (start .args .first)) (omega arith),
+      c .before .loop .inv .2,
+    )
 
 pub knots-extent-spec : {M : Type 1} → statement M
 knots-extent-spec =
-    tie.close
-    (tie.spec
-    Inv-loop
-    μ-loop
-    loop-holds
-    mul-with-knot
-    shared-slice-read-with-knot
-    with-knot-requires
-    add-j
-    loop-less
-    loop-again
-    returns)
+    tie.close (tie.spec Inv-loop μ-loop loop-holds (λ c. search needs) (λ c. search needs) with-knot-requires add-j loop-less loop-again returns)

@@ -6,21 +6,13 @@ use native.Mathlib.Nat.{mod-lt}
 use borrow.Author.Needs.{needs}
 use Rattle.picture_scale.proofs.multiple_above.Statement.{statement}
 use Rattle.picture_scale.proofs.multiple_above.Tie as tie
-use Rattle.picture_scale.proofs.multiple_above.Reads as reads
-use Rattle.picture_scale.proofs.multiple_above.Lts as lts
-
-rem-result : tie.Need-rem-result
-rem-result c = search needs
 
 sub-result : tie.Need-sub-result
 sub-result c = omega (arith, mod-lt (c .args .l) {m = c .args .s} (omega arith))
-
-add-result : tie.Need-add-result
-add-result c = search needs
 
 returns : tie.Need-returns
 unfolding aboveOf
 returns c = (refl, omega arith)
 
 pub multiple-above-spec : {M : Type 1} → statement M
-multiple-above-spec = tie.close (tie.spec rem-result sub-result add-result returns)
+multiple-above-spec = tie.close (tie.spec (λ c. search needs) sub-result (λ c. search needs) returns)

@@ -3,16 +3,6 @@ use native.Mathlib.Omega.{arith}
 use borrow.Author.Needs.{needs}
 use Rattle.picture_scale.proofs.widen.Statement.{statement}
 use Rattle.picture_scale.proofs.widen.Tie as tie
-use Rattle.picture_scale.proofs.widen.Reads as reads
-use Rattle.picture_scale.proofs.widen.Lts as lts
-use Rattle.picture_scale.proofs.greater.Reads as greater-reads
-use Rattle.picture_scale.proofs.lesser.Reads as lesser-reads
-
-lesser-requires : tie.Need-lesser-requires
-lesser-requires c κs = search needs
-
-greater-requires : tie.Need-greater-requires
-greater-requires c κs = search needs
 
 returns : tie.Need-returns
 returns c = (
@@ -25,4 +15,4 @@ returns c = (
 )
 
 pub widen-spec : {M : Type 1} → statement M
-widen-spec = tie.close (tie.spec lesser-requires greater-requires returns)
+widen-spec = tie.close (tie.spec (λ c κs. search needs) (λ c κs. search needs) returns)

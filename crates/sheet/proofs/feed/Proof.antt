@@ -26,12 +26,6 @@ abbrev μ-loop : tie.MeasureT-loop
 loop-holds : tie.Need-loop-holds Inv-loop μ-loop
 loop-holds c = (omega arith, omega arith, omega arith, search needs, fed-none sheetProgram _ [] 0)
 
-cut-requires : tie.Need-cut-requires Inv-loop μ-loop
-cut-requires c κs = search needs
-
-line-requires : tie.Need-line-requires Inv-loop μ-loop
-line-requires c κs = search needs
-
 add-i : tie.Need-add-i Inv-loop μ-loop
 add-i c = omega arith
 
@@ -74,25 +68,11 @@ same-length-2 c = omega arith
 
 returns : tie.Need-returns Inv-loop μ-loop
 returns c = (
-  fed-all sheetProgram (c .before .before .before .before .before .args .chunk .now) (c .before .loop .i) (omega arith) (c
-      .before .loop .inv .4),
+  fed-all sheetProgram (c .before .before .before .before .before .args .chunk .now) (c .before .loop .i) (omega arith) (c .before .loop .inv .4),
   c .before .loop .inv .3,
 )
 
 pub feed-spec : {M : Type 1} → statement M
 feed-spec =
-    tie.close
-    (tie.spec
-    Inv-loop
-    μ-loop
-    loop-holds
-    cut-requires
-    line-requires
-    add-i
-    loop-less
-    loop-again
-    loop-less-2
-    loop-again-2
-    same-length
-    same-length-2
-    returns)
+    tie.close (tie.spec Inv-loop μ-loop loop-holds (λ c κs. search needs) (λ c κs. search needs) add-i loop-less loop-again loop-less-2 loop-again-2
+    same-length same-length-2 returns)

@@ -35,5 +35,4 @@ returns-3 c =
     ∙ ap (λ (b : Bool). depthOf b (c .before .before .before .args .n)) (sym (c .before .if2 .left))
 
 pub depth-spec : {M : Type 1} → statement M
-depth-spec =
-    tie.close (tie.spec returns int-to-float-result returns-2 int-to-float-result-2 returns-3)
+depth-spec = tie.close (tie.spec returns int-to-float-result returns-2 int-to-float-result-2 returns-3)

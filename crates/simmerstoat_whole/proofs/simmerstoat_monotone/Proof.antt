@@ -5,15 +5,6 @@ use borrow.Author.Needs.{needs}
 use Rattle.simmerstoat_whole.proofs.simmerstoat_monotone.Statement.{statement}
 use Rattle.simmerstoat_whole.proofs.simmerstoat_monotone.Tie as tie
 
-monotone-requires : tie.Need-monotone-requires
-monotone-requires c κs = search needs
-
-written-told-requires : tie.Need-written-told-requires
-written-told-requires c κs = search needs
-
-same-length : tie.Need-same-length
-same-length c = search needs
-
 returns : tie.Need-returns
 returns c =
     let args = c .before .before .before .before .before .args in
@@ -22,5 +13,4 @@ returns c =
     (told .0 ∙ ap madeReply (call .0), (told .1 ∙ ap (λ a. writtenLeft a (args .written .now)) (call .0), call .1))
 
 pub simmerstoat-monotone-spec : {M : Type 1} → statement M
-simmerstoat-monotone-spec =
-    tie.close (tie.spec monotone-requires written-told-requires same-length returns)
+simmerstoat-monotone-spec = tie.close (tie.spec (λ c κs. search needs) (λ c κs. search needs) (λ c. search needs) returns)

@@ -9,24 +9,6 @@ use borrow.Author.Needs.{needs}
 use Rattle.simmerstoat_whole.proofs.simmerstoat_turns_back.Statement.{statement}
 use Rattle.simmerstoat_whole.proofs.simmerstoat_turns_back.Tie as tie
 
-basis-of-requires : tie.Need-basis-of-requires
-basis-of-requires c κs = search needs
-
-enum-known-c : tie.Need-enum-known-c
-enum-known-c c = search needs
-
-enum-told : tie.Need-enum-told
-enum-told c = search needs
-
-returns : tie.Need-returns
-returns c = search needs
-
-turns-back-requires : tie.Need-turns-back-requires
-turns-back-requires c κs = search needs
-
-turning-told-requires : tie.Need-turning-told-requires
-turning-told-requires c κs = search needs
-
 returns-2 : tie.Need-returns-2
 returns-2 c =
     let args = c .before .before .before .before .before .before .before .args in
@@ -41,12 +23,5 @@ returns-2 c =
 
 pub simmerstoat-turns-back-spec : {M : Type 1} → statement M
 simmerstoat-turns-back-spec =
-    tie.close
-    (tie.spec
-    basis-of-requires
-    enum-known-c
-    enum-told
-    returns
-    turns-back-requires
-    turning-told-requires
-    returns-2)
+    tie.close (tie.spec (λ c κs. search needs) (λ c. search needs) (λ c. search needs) (λ c. search needs) (λ c κs. search needs)
+    (λ c κs. search needs) returns-2)

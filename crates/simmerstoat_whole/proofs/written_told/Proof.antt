@@ -5,15 +5,6 @@ use borrow.Author.Needs.{needs}
 use Rattle.simmerstoat_whole.proofs.written_told.Statement.{statement}
 use Rattle.simmerstoat_whole.proofs.written_told.Tie as tie
 
-enum-known-m : tie.Need-enum-known-m
-enum-known-m c = search needs
-
-reply-requires : tie.Need-reply-requires
-reply-requires c κs = search needs
-
-enum-known-m-2 : tie.Need-enum-known-m-2
-enum-known-m-2 c = search needs
-
 returns : tie.Need-returns
 returns c =
     let args = c .before .before .before .before .args in
@@ -24,5 +15,4 @@ returns-2 : tie.Need-returns-2
 returns-2 c = search needs
 
 pub written-told-spec : {M : Type 1} → statement M
-written-told-spec =
-    tie.close (tie.spec enum-known-m reply-requires enum-known-m-2 returns returns-2)
+written-told-spec = tie.close (tie.spec (λ c. search needs) (λ c κs. search needs) (λ c. search needs) returns returns-2)

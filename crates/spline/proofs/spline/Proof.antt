@@ -6,15 +6,6 @@ use borrow.Author.Needs.{needs}
 use Rattle.spline.proofs.spline.Statement.{statement}
 use Rattle.spline.proofs.spline.Tie as tie
 
-curve-verdict-requires : tie.Need-curve-verdict-requires
-curve-verdict-requires c κs = search needs
-
-enum-known-v : tie.Need-enum-known-v
-enum-known-v c = search needs
-
-enum-told : tie.Need-enum-told
-enum-told c = search needs
-
 curve-value-requires : tie.Need-curve-value-requires
 curve-value-requires c κs = let s =
     curve-sound (c .before .before .before .before .args .b) (c .before .before .before .before .args .x)
@@ -30,6 +21,4 @@ unfolding splineOf
 returns-2 c = simp (sym (c .before .before .before .curve-verdict .ensures) ∙ c .before .enum-told .given .1, c .curve-value .ensures)
 
 pub spline-spec : {M : Type 1} → statement M
-spline-spec =
-    tie.close
-    (tie.spec curve-verdict-requires enum-known-v enum-told curve-value-requires returns returns-2)
+spline-spec = tie.close (tie.spec (λ c κs. search needs) (λ c. search needs) (λ c. search needs) curve-value-requires returns returns-2)

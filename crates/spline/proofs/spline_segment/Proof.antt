@@ -7,19 +7,10 @@ use borrow.Author.Needs.{needs}
 use Rattle.spline.proofs.spline_segment.Statement.{statement}
 use Rattle.spline.proofs.spline_segment.Tie as tie
 
-segment-verdict-requires : tie.Need-segment-verdict-requires
-segment-verdict-requires c κs = search needs
-
-enum-known-v : tie.Need-enum-known-v
-enum-known-v c = search needs
-
-enum-told : tie.Need-enum-told
-enum-told c = search needs
-
 segment-value-requires : tie.Need-segment-value-requires
 segment-value-requires c κs =
-    segment-sound (c .before .before .before .before .args .x) (c .before .before .before .before .args .cv .now)
-    (sym (c .before .before .segment-verdict .ensures) ∙ c .enum-told .given .1) .many
+    let start = c .before .before .before .before in
+    segment-sound (start .args .x) (start .args .cv .now) (sym (c .before .before .segment-verdict .ensures) ∙ c .enum-told .given .1) .many
 
 returns : tie.Need-returns
 unfolding splineSegmentOf
@@ -30,12 +21,4 @@ unfolding splineSegmentOf
 returns-2 c = rw (sym (c .before .before .before .segment-verdict .ensures) ∙ c .before .enum-told .given .1) (ap Value (c .segment-value .ensures))
 
 pub spline-segment-spec : {M : Type 1} → statement M
-spline-segment-spec =
-    tie.close
-    (tie.spec
-    segment-verdict-requires
-    enum-known-v
-    enum-told
-    segment-value-requires
-    returns
-    returns-2)
+spline-segment-spec = tie.close (tie.spec (λ c κs. search needs) (λ c. search needs) (λ c. search needs) segment-value-requires returns returns-2)

@@ -6,12 +6,6 @@ use borrow.Author.Needs.{needs}
 use Rattle.stopped.proofs.said.Statement.{statement}
 use Rattle.stopped.proofs.said.Tie as tie
 
-segments-requires : tie.Need-segments-requires
-segments-requires c κs = search needs
-
-curve-ends-requires : tie.Need-curve-ends-requires
-curve-ends-requires c κs = search needs
-
 returns : tie.Need-returns
 returns c =
     let a = c .before .before .before .before .before .args in
@@ -36,9 +30,6 @@ returns-3 c =
     let h = c .before .before .before .before .before .before .curve-ends .ensures in
     said-end (a .b) (a .knots .now) (a .y) x q h (c .before .before .before .before .if1 .left) (c .before .before .if2 .left) (c .if3 .taken)
 
-is-before-requires : tie.Need-is-before-requires
-is-before-requires c κs = search needs
-
 returns-4 : tie.Need-returns-4
 returns-4 c =
     let a = c .before .before .before .before .before .before .before .before .before .before .before .args in
@@ -47,9 +38,6 @@ returns-4 c =
     let h = c .before .before .before .before .before .before .before .before .curve-ends .ensures in
     said-before (a .b) (a .knots .now) (a .y) x q h (c .before .before .before .before .before .before .if1 .left)
     (c .before .before .before .before .if2 .left) (c .before .before .if3 .left) (sym (c .before .is-before .ensures) ∙ c .if4 .taken)
-
-is-beyond-requires : tie.Need-is-beyond-requires
-is-beyond-requires c κs = search needs
 
 returns-5 : tie.Need-returns-5
 returns-5 c =
@@ -60,9 +48,6 @@ returns-5 c =
     said-beyond (a .b) (a .knots .now) (a .y) x q h (c .before .before .before .before .before .before .before .before .if1 .left)
     (c .before .before .before .before .before .before .if2 .left) (c .before .before .before .before .if3 .left)
     (sym (c .before .before .before .is-before .ensures) ∙ c .before .before .if4 .left) (sym (c .before .is-beyond .ensures) ∙ c .if5 .taken)
-
-found-requires : tie.Need-found-requires
-found-requires c κs = search needs
 
 returns-6 : tie.Need-returns-6
 returns-6 c =
@@ -81,16 +66,5 @@ returns-6 c =
 
 pub said-spec : {M : Type 1} → statement M
 said-spec =
-    tie.close
-    (tie.spec
-    segments-requires
-    curve-ends-requires
-    returns
-    returns-2
-    returns-3
-    is-before-requires
-    returns-4
-    is-beyond-requires
-    returns-5
-    found-requires
-    returns-6)
+    tie.close (tie.spec (λ c κs. search needs) (λ c κs. search needs) returns returns-2 returns-3 (λ c κs. search needs) returns-4
+    (λ c κs. search needs) returns-5 (λ c κs. search needs) returns-6)

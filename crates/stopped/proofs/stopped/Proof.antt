@@ -10,15 +10,6 @@ use borrow.Author.Needs.{needs}
 use Rattle.stopped.proofs.stopped.Statement.{statement}
 use Rattle.stopped.proofs.stopped.Tie as tie
 
-is-span-requires : tie.Need-is-span-requires
-is-span-requires c κs = search needs
-
-spline-inverse-by-requires : tie.Need-spline-inverse-by-requires
-spline-inverse-by-requires c κs = search needs
-
-is-by-end-requires : tie.Need-is-by-end-requires
-is-by-end-requires c κs = search needs
-
 said-requires : tie.Need-said-requires
 said-requires c κs =
     let a = c .before .before .before .before .before .before .args in
@@ -51,23 +42,11 @@ returns-2 c =
     let a = start .args in let searched = sym (at-is-by-end .is-by-end .ensures) ∙ c .before .if2 .left in elsewhere (a .t) (a .y) (a .knots .now)
     (a .check) (sym (at-is-span .is-span .ensures) ∙ at-if1 .if1 .taken) (at-spline-inverse-by .spline-inverse-by .ensures) searched (c .found .ensures)
 
-without-span-requires : tie.Need-without-span-requires
-without-span-requires c κs = search needs
-
 returns-3 : tie.Need-returns-3
 returns-3 c = let a = c .before .before .before .before .args
     in without-span (a .t) (a .y) (a .knots .now) (a .check) (sym (c .before .before .is-span .ensures) ∙ c .before .if1 .left) (c .without-span .ensures)
 
 pub stopped-spec : {M : Type 1} → statement M
 stopped-spec =
-    tie.close
-    (tie.spec
-    is-span-requires
-    spline-inverse-by-requires
-    is-by-end-requires
-    said-requires
-    returns
-    found-requires
-    returns-2
-    without-span-requires
-    returns-3)
+    tie.close (tie.spec (λ c κs. search needs) (λ c κs. search needs) (λ c κs. search needs) said-requires returns found-requires returns-2
+    (λ c κs. search needs) returns-3)

@@ -10,9 +10,6 @@ use Rattle.stream.proofs.Answers.{some-bytes, no-byte}
 use Rattle.stream.proofs.of_answer.Statement.{statement}
 use Rattle.stream.proofs.of_answer.Tie as tie
 
-count-requires : tie.Need-count-requires
-count-requires c κs = search needs
-
 returns : tie.Need-returns
 returns c =
     let start = c .before .before .before in
@@ -28,4 +25,4 @@ returns-2 c =
     no-byte (start .args .answer) m _ (start .pre) e (omega arith)
 
 pub of-answer-spec : {M : Type 1} → statement M
-of-answer-spec = tie.close (tie.spec count-requires returns returns-2)
+of-answer-spec = tie.close (tie.spec (λ c κs. search needs) returns returns-2)

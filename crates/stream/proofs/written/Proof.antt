@@ -8,20 +8,8 @@ use Rattle.stream.proofs.written.Tie as tie
 returns : tie.Need-returns
 returns c = search needs
 
-write-all-requires : tie.Need-write-all-requires
-write-all-requires c κs = search needs
-
 returns-2 : tie.Need-returns-2
 returns-2 c = λ q. sym (not-false _ (c .before .before .if1 .left)) ∙ q
 
-slice-aggregate-write-all : tie.Need-slice-aggregate-write-all
-slice-aggregate-write-all c = search needs
-
-write-all-requires-2 : tie.Need-write-all-requires-2
-write-all-requires-2 c κs = search needs
-
-returns-3 : tie.Need-returns-3
-returns-3 c = search needs
-
 pub written-spec : {M : Type 1} → statement M
-written-spec = tie.close (tie.spec returns write-all-requires returns-2 slice-aggregate-write-all write-all-requires-2 returns-3)
+written-spec = tie.close (tie.spec returns (λ c κs. search needs) returns-2 (λ c. search needs) (λ c κs. search needs) (λ c. search needs))

@@ -4,12 +4,6 @@ use borrow.Author.Needs.{needs}
 use Rattle.table.proofs.handed_on.Statement.{statement}
 use Rattle.table.proofs.handed_on.Tie as tie
 
-enum-known-c : tie.Need-enum-known-c
-enum-known-c c = search needs
-
-enum-known-c-2 : tie.Need-enum-known-c-2
-enum-known-c-2 c = search needs
-
 returns : tie.Need-returns
 returns c = rw (c .before .c .given .1) refl
 
@@ -17,4 +11,4 @@ returns-2 : tie.Need-returns-2
 returns-2 c = rw (c .before .c2 .given .1) refl
 
 pub handed-on-spec : {M : Type 1} → statement M
-handed-on-spec = tie.close (tie.spec enum-known-c enum-known-c-2 returns returns-2)
+handed-on-spec = tie.close (tie.spec (λ c. search needs) (λ c. search needs) returns returns-2)

@@ -6,12 +6,6 @@ use borrow.Author.Needs.{needs}
 use Rattle.table.proofs.table_spline_inverse_by.Statement.{statement}
 use Rattle.table.proofs.table_spline_inverse_by.Tie as tie
 
-is-span-requires : tie.Need-is-span-requires
-is-span-requires c κs = search needs
-
-spline-inverse-by-requires : tie.Need-spline-inverse-by-requires
-spline-inverse-by-requires c κs = search needs
-
 with-second-requires : tie.Need-with-second-requires
 with-second-requires c κs = (sym (c .before .before .is-span .ensures) ∙ c .before .if1 .taken)
 
@@ -21,9 +15,6 @@ returns c = let a = c .before .before .before .before .before .args
     ∙ sym (inverse-base (a .o .ends) (a .o .method) (a .t) (a .y) (a .knots .now) (a .o .check) (a .o .limit) (a .o .precision)
     (sym (c .before .before .before .is-span .ensures) ∙ c .before .before .if1 .taken))
 
-without-span-requires : tie.Need-without-span-requires
-without-span-requires c κs = search needs
-
 returns-2 : tie.Need-returns-2
 returns-2 c = let a = c .before .before .before .before .args
     in inverse-spanless (a .o .ends) (a .o .method) (a .t) (a .y) (a .knots .now) (a .o .check) (a .o .limit) (a .o .precision) _
@@ -31,11 +22,4 @@ returns-2 c = let a = c .before .before .before .before .args
 
 pub table-spline-inverse-by-spec : {M : Type 1} → statement M
 table-spline-inverse-by-spec =
-    tie.close
-    (tie.spec
-    is-span-requires
-    spline-inverse-by-requires
-    with-second-requires
-    returns
-    without-span-requires
-    returns-2)
+    tie.close (tie.spec (λ c κs. search needs) (λ c κs. search needs) with-second-requires returns (λ c κs. search needs) returns-2)

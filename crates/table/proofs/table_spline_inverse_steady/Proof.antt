@@ -3,11 +3,8 @@ use borrow.Author.Needs.{needs}
 use Rattle.table.proofs.table_spline_inverse_steady.Statement.{statement}
 use Rattle.table.proofs.table_spline_inverse_steady.Tie as tie
 
-table-spline-inverse-by-requires : tie.Need-table-spline-inverse-by-requires
-table-spline-inverse-by-requires c κs = search needs
-
 returns : tie.Need-returns
 returns c = search needs
 
 pub table-spline-inverse-steady-spec : {M : Type 1} → statement M
-table-spline-inverse-steady-spec = tie.close (tie.spec table-spline-inverse-by-requires returns)
+table-spline-inverse-steady-spec = tie.close (tie.spec (λ c κs. search needs) returns)

@@ -5,9 +5,6 @@ use borrow.Author.Needs.{needs}
 use Rattle.table_span.proofs.seconds_of.Statement.{statement}
 use Rattle.table_span.proofs.seconds_of.Tie as tie
 
-is-span-requires : tie.Need-is-span-requires
-is-span-requires c κs = search needs
-
 second-requires : tie.Need-second-requires
 second-requires c κs = good-least (c .before .before .args .span) (sym (c .before .is-span .ensures) ∙ c .if1 .taken) .1
 
@@ -18,4 +15,4 @@ returns-2 : tie.Need-returns-2
 returns-2 c = simp (sym (c .before .is-span .ensures) ∙ c .if1 .left)
 
 pub seconds-of-spec : {M : Type 1} → statement M
-seconds-of-spec = tie.close (tie.spec is-span-requires second-requires returns returns-2)
+seconds-of-spec = tie.close (tie.spec (λ c κs. search needs) second-requires returns returns-2)

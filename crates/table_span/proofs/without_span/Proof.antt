@@ -4,24 +4,14 @@ use borrow.Author.Needs.{needs}
 use Rattle.table_span.proofs.without_span.Statement.{statement}
 use Rattle.table_span.proofs.without_span.Tie as tie
 
-curve-length-requires : tie.Need-curve-length-requires
-curve-length-requires c κs = search needs
-
-enum-known-l : tie.Need-enum-known-l
-enum-known-l c = search needs
-
-enum-told : tie.Need-enum-told
-enum-told c = search needs
-
 returns : tie.Need-returns
 returns c =
-    by-length (c .before .before .before .before .args .b) (c .before .before .before .before .args .n) _ (c .before .before .before .curve-length .ensures)
-    (c .before .l .given .1)
+    let start = c .before .before .before .before in
+    by-length (start .args .b) (start .args .n) _ (c .before .before .before .curve-length .ensures) (c .before .l .given .1)
 
 returns-2 : tie.Need-returns-2
 returns-2 c =
     by-span (c .before .before .before .args .b) (c .before .before .before .args .n) (c .before .before .curve-length .ensures) (c .enum-told .given .1)
 
 pub without-span-spec : {M : Type 1} → statement M
-without-span-spec =
-    tie.close (tie.spec curve-length-requires enum-known-l enum-told returns returns-2)
+without-span-spec = tie.close (tie.spec (λ c κs. search needs) (λ c. search needs) (λ c. search needs) returns returns-2)

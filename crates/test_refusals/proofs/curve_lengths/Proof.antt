@@ -11,65 +11,8 @@ Inv-loop b from end knots n₀ t6 n = Unit
 abbrev μ-loop : tie.MeasureT-loop
 μ-loop b from end knots n₀ t6 n = end - n
 
-loop-holds : tie.Need-loop-holds Inv-loop μ-loop
-loop-holds c = search needs
-
-put-name-requires : tie.Need-put-name-requires Inv-loop μ-loop
-put-name-requires c κs = search needs
-
-print-decimal-requires : tie.Need-print-decimal-requires Inv-loop μ-loop
-print-decimal-requires c κs = search needs
-
-slice-aggregate-put : tie.Need-slice-aggregate-put Inv-loop μ-loop
-slice-aggregate-put c = search needs
-
-put-requires : tie.Need-put-requires Inv-loop μ-loop
-put-requires c κs = search needs
-
-sub-spline : tie.Need-sub-spline Inv-loop μ-loop
-sub-spline c = search needs
-
-part-spline-start : tie.Need-part-spline-start Inv-loop μ-loop
-part-spline-start c = search needs
-
-part-spline-end : tie.Need-part-spline-end Inv-loop μ-loop
-part-spline-end c = search needs
-
-spline-requires : tie.Need-spline-requires Inv-loop μ-loop
-spline-requires c κs = search needs
-
-put-reply-requires : tie.Need-put-reply-requires Inv-loop μ-loop
-put-reply-requires c κs = search needs
-
-add-n : tie.Need-add-n Inv-loop μ-loop
-add-n c = search needs
-
-loop-less : tie.Need-loop-less Inv-loop μ-loop
-loop-less c = search needs
-
-loop-again : tie.Need-loop-again Inv-loop μ-loop
-loop-again c = search needs
-
-returns : tie.Need-returns Inv-loop μ-loop
-returns c = search needs
-
 pub curve-lengths-spec : {M : Type 1} → statement M
 curve-lengths-spec =
-    tie.close
-    (tie.spec
-    Inv-loop
-    μ-loop
-    loop-holds
-    put-name-requires
-    print-decimal-requires
-    slice-aggregate-put
-    put-requires
-    sub-spline
-    part-spline-start
-    part-spline-end
-    spline-requires
-    put-reply-requires
-    add-n
-    loop-less
-    loop-again
-    returns)
+    tie.close (tie.spec Inv-loop μ-loop (λ c. search needs) (λ c κs. search needs) (λ c κs. search needs) (λ c. search needs) (λ c κs. search needs)
+    (λ c. search needs) (λ c. search needs) (λ c. search needs) (λ c κs. search needs) (λ c κs. search needs) (λ c. search needs) (λ c. search needs)
+    (λ c. search needs) (λ c. search needs))

@@ -12,49 +12,7 @@ Inv-loop w table₀ i₀ i-end table i = (i ≤ i-end) × (length table ≡ leng
 abbrev μ-loop : tie.MeasureT-loop
 μ-loop w table₀ i₀ i-end table i = i-end - i
 
-loop-holds : tie.Need-loop-holds Inv-loop μ-loop
-loop-holds c = search needs
-
-mul-of-bits : tie.Need-mul-of-bits Inv-loop μ-loop
-mul-of-bits c = search needs
-
-shared-slice-read-of-bits : tie.Need-shared-slice-read-of-bits Inv-loop μ-loop
-shared-slice-read-of-bits c = search needs
-
-of-bits-requires : tie.Need-of-bits-requires Inv-loop μ-loop
-of-bits-requires c κs = search needs
-
-put-requires : tie.Need-put-requires Inv-loop μ-loop
-put-requires c κs = search needs
-
-add-i : tie.Need-add-i Inv-loop μ-loop
-add-i c = search needs
-
-loop-less : tie.Need-loop-less Inv-loop μ-loop
-loop-less c = search needs
-
-loop-again : tie.Need-loop-again Inv-loop μ-loop
-loop-again c = search needs
-
-same-length : tie.Need-same-length Inv-loop μ-loop
-same-length c = search needs
-
-returns : tie.Need-returns Inv-loop μ-loop
-returns c = search needs
-
 pub stored-spec : {M : Type 1} → statement M
 stored-spec =
-    tie.close
-    (tie.spec
-    Inv-loop
-    μ-loop
-    loop-holds
-    mul-of-bits
-    shared-slice-read-of-bits
-    of-bits-requires
-    put-requires
-    add-i
-    loop-less
-    loop-again
-    same-length
-    returns)
+    tie.close (tie.spec Inv-loop μ-loop (λ c. search needs) (λ c. search needs) (λ c. search needs) (λ c κs. search needs) (λ c κs. search needs)
+    (λ c. search needs) (λ c. search needs) (λ c. search needs) (λ c. search needs) (λ c. search needs))

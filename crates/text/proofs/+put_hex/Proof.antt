@@ -23,97 +23,37 @@ put-hex-at t = and 1 put-hex-kinds.ps (is 1 put-hex-kinds.ps μ-put-hex t) put-h
 abbrev put-hex-below : ℕ → In 1 put-hex-kinds.ps
 put-hex-below t = and 1 put-hex-kinds.ps (falls 1 put-hex-kinds.ps _<_ μ-put-hex t) put-hex.Pre
 
-put-hex-returns : (t : ℕ) → put-hex-lts.Need-returns (
-  put-hex-below t,
-  put-hex.Post,
-  glyph-reads.Asked,
-  glyph-reads.Learnt,
-  put-byte-reads.Asked,
-  put-byte-reads.Learnt,
-) (put-hex-at t) put-hex.Post
+put-hex-returns : (t : ℕ) → put-hex-lts.Need-returns
+    (put-hex-below t, put-hex.Post, glyph-reads.Asked, glyph-reads.Learnt, put-byte-reads.Asked, put-byte-reads.Learnt) (put-hex-at t) put-hex.Post
 put-hex-returns t c = (hex-none _ _ _ _ (c .if1 .taken), omega arith)
 
-put-hex-sub-put-hex : (t : ℕ) → put-hex-lts.Need-sub-put-hex (
-  put-hex-below t,
-  put-hex.Post,
-  glyph-reads.Asked,
-  glyph-reads.Learnt,
-  put-byte-reads.Asked,
-  put-byte-reads.Learnt,
-) (put-hex-at t) put-hex.Post
-put-hex-sub-put-hex t c = search needs
-
-put-hex-put-hex-requires : (t : ℕ) → put-hex-lts.Need-put-hex-requires (
-  put-hex-below t,
-  put-hex.Post,
-  glyph-reads.Asked,
-  glyph-reads.Learnt,
-  put-byte-reads.Asked,
-  put-byte-reads.Learnt,
-) (put-hex-at t) put-hex.Post
+put-hex-put-hex-requires : (t : ℕ) → put-hex-lts.Need-put-hex-requires
+    (put-hex-below t, put-hex.Post, glyph-reads.Asked, glyph-reads.Learnt, put-byte-reads.Asked, put-byte-reads.Learnt) (put-hex-at t) put-hex.Post
 put-hex-put-hex-requires t c κs = omega arith
 
-put-hex-glyph-requires : (t : ℕ) → put-hex-lts.Need-glyph-requires (
-  put-hex-below t,
-  put-hex.Post,
-  glyph-reads.Asked,
-  glyph-reads.Learnt,
-  put-byte-reads.Asked,
-  put-byte-reads.Learnt,
-) (put-hex-at t) put-hex.Post
-put-hex-glyph-requires t c κs = search needs
-
-put-hex-put-byte-requires : (t : ℕ) → put-hex-lts.Need-put-byte-requires (
-  put-hex-below t,
-  put-hex.Post,
-  glyph-reads.Asked,
-  glyph-reads.Learnt,
-  put-byte-reads.Asked,
-  put-byte-reads.Learnt,
-) (put-hex-at t) put-hex.Post
+put-hex-put-byte-requires : (t : ℕ) → put-hex-lts.Need-put-byte-requires
+    (put-hex-below t, put-hex.Post, glyph-reads.Asked, glyph-reads.Learnt, put-byte-reads.Asked, put-byte-reads.Learnt) (put-hex-at t) put-hex.Post
 put-hex-put-byte-requires t c κs =
-    omega (arith, c .before .before .before .before .put-hex .ensures .0 .long, c .before .before .before .before .put-hex .ensures .1)
+    let at-put-hex = c .before .before .before .before in
+    omega (arith, at-put-hex .put-hex .ensures .0 .long, at-put-hex .put-hex .ensures .1)
 
-put-hex-same-length : (t : ℕ) → put-hex-lts.Need-same-length (
-  put-hex-below t,
-  put-hex.Post,
-  glyph-reads.Asked,
-  glyph-reads.Learnt,
-  put-byte-reads.Asked,
-  put-byte-reads.Learnt,
-) (put-hex-at t) put-hex.Post
-put-hex-same-length t c = c .before .before .put-byte .ensures .long ∙ c .before .before .before .before .before .before .before .put-hex .ensures .0 .long
+put-hex-same-length : (t : ℕ) → put-hex-lts.Need-same-length
+    (put-hex-below t, put-hex.Post, glyph-reads.Asked, glyph-reads.Learnt, put-byte-reads.Asked, put-byte-reads.Learnt) (put-hex-at t) put-hex.Post
+put-hex-same-length t c =
+    c .before .before .put-byte .ensures .long ∙ c .before .before .before .before .before .before .before .put-hex .ensures .0 .long
 
-put-hex-returns-2 : (t : ℕ) → put-hex-lts.Need-returns-2 (
-  put-hex-below t,
-  put-hex.Post,
-  glyph-reads.Asked,
-  glyph-reads.Learnt,
-  put-byte-reads.Asked,
-  put-byte-reads.Learnt,
-) (put-hex-at t) put-hex.Post
-put-hex-returns-2 t c = (
-  hex-more _ _ _ (c .before .before .before .before .before .before .before .before .before .if1 .left)
-      (c .before .before .before .before .before .before .before .put-hex .ensures .0) (c .before .before .before .glyph .ensures)
-      (c .before .before .put-byte .ensures),
-  omega (arith, c .before .before .put-byte .ensures .next, c .before .before .before .before .before .before .before .put-hex .ensures .1),
-)
+put-hex-returns-2 : (t : ℕ) → put-hex-lts.Need-returns-2
+    (put-hex-below t, put-hex.Post, glyph-reads.Asked, glyph-reads.Learnt, put-byte-reads.Asked, put-byte-reads.Learnt) (put-hex-at t) put-hex.Post
+put-hex-returns-2 t c =
+    let at-put-hex = c .before .before .before .before .before .before .before in (
+      hex-more _ _ _ (at-put-hex .before .before .if1 .left) (at-put-hex .put-hex .ensures .0) (c .before .before .before .glyph .ensures)
+          (c .before .before .put-byte .ensures),
+      omega (arith, c .before .before .put-byte .ensures .next, at-put-hex .put-hex .ensures .1),
+    )
 
 pub +put-hex-spec : {M : Type 1} → statement M
-+put-hex-spec = close μ-put-hex λ t. put-hex-lts.spec (
-  put-hex-below t,
-  put-hex.Post,
-  glyph-reads.Asked,
-  glyph-reads.Learnt,
-  put-byte-reads.Asked,
-  put-byte-reads.Learnt,
-)
-    (put-hex-at t)
-    put-hex.Post
-    (put-hex-returns t)
-    (put-hex-sub-put-hex t)
-    (put-hex-put-hex-requires t)
-    (put-hex-glyph-requires t)
-    (put-hex-put-byte-requires t)
-    (put-hex-same-length t)
++put-hex-spec =
+    close μ-put-hex λ t. put-hex-lts.spec
+    (put-hex-below t, put-hex.Post, glyph-reads.Asked, glyph-reads.Learnt, put-byte-reads.Asked, put-byte-reads.Learnt) (put-hex-at t) put-hex.Post
+    (put-hex-returns t) (λ c. search needs) (put-hex-put-hex-requires t) (λ c κs. search needs) (put-hex-put-byte-requires t) (put-hex-same-length t)
     (put-hex-returns-2 t)

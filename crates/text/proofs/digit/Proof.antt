@@ -8,20 +8,11 @@ use Rattle.text.proofs.digit.Tie as tie
 returns : tie.Need-returns
 returns c = (digit-below (c .before .args .b) (omega arith), omega arith)
 
-cast-result : tie.Need-cast-result
-cast-result c = search needs
-
 returns-2 : tie.Need-returns-2
 returns-2 c = (digit-number _ (omega arith) (omega arith), omega arith)
 
 returns-3 : tie.Need-returns-3
 returns-3 c = (digit-between (c .before .before .before .args .b) (omega arith) (omega arith), omega arith)
-
-sub-result : tie.Need-sub-result
-sub-result c = search needs
-
-cast-result-2 : tie.Need-cast-result-2
-cast-result-2 c = search needs
 
 returns-4 : tie.Need-returns-4
 returns-4 c = (digit-letter _ (omega arith) (omega arith), omega arith)
@@ -30,6 +21,4 @@ returns-5 : tie.Need-returns-5
 returns-5 c = (digit-above (c .before .before .before .before .args .b) (omega arith), omega arith)
 
 pub digit-spec : {M : Type 1} → statement M
-digit-spec =
-    tie.close
-    (tie.spec returns cast-result returns-2 returns-3 sub-result cast-result-2 returns-4 returns-5)
+digit-spec = tie.close (tie.spec returns (λ c. search needs) returns-2 returns-3 (λ c. search needs) (λ c. search needs) returns-4 returns-5)

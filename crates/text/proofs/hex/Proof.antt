@@ -21,39 +21,27 @@ returns c = sym (hex-not _ (c .if1 .taken))
 loop-holds : tie.Need-loop-holds Inv-loop μ-loop
 loop-holds c = (omega arith, omega arith, omega arith, refl)
 
-shared-slice-read-digit : tie.Need-shared-slice-read-digit Inv-loop μ-loop
-shared-slice-read-digit c = search needs
-
-digit-requires : tie.Need-digit-requires Inv-loop μ-loop
-digit-requires c κs = search needs
-
 returns-2 : tie.Need-returns-2 Inv-loop μ-loop
 returns-2 c =
-    sym (hex-is _ (omega arith) ∙ sym (c .before .before .before .before .loop .inv .3)
-    ∙ value-stop (c .before .before .before .before .loop .n) _ (c .before .before .before .before .before .before .before .args .s .now)
-    (c .before .before .before .before .loop .i) (omega arith) (c .before .digit .ensures .0) (c .if2 .taken))
+    let at-loop = c .before .before .before .before in
+    sym (hex-is _ (omega arith) ∙ sym (at-loop .loop .inv .3) ∙ value-stop (at-loop .loop .n) _ (at-loop .before .before .before .args .s .now)
+    (at-loop .loop .i) (omega arith) (c .before .digit .ensures .0) (c .if2 .taken))
 
 mul-n : tie.Need-mul-n Inv-loop μ-loop
-mul-n c = omega (arith, room16 (c .before .before .before .before .loop .n) (c .before .before .before .before .loop .i) (omega arith) (omega arith))
+mul-n c = let at-loop = c .before .before .before .before in omega (arith, room16 (at-loop .loop .n) (at-loop .loop .i) (omega arith) (omega arith))
 
 add-n : tie.Need-add-n Inv-loop μ-loop
-add-n c = omega (arith, room16 (c .before .before .before .before .loop .n) (c .before .before .before .before .loop .i) (omega arith) (omega arith))
-
-add-i : tie.Need-add-i Inv-loop μ-loop
-add-i c = search needs
-
-loop-less : tie.Need-loop-less Inv-loop μ-loop
-loop-less c = search needs
+add-n c = let at-loop = c .before .before .before .before in omega (arith, room16 (at-loop .loop .n) (at-loop .loop .i) (omega arith) (omega arith))
 
 loop-again : tie.Need-loop-again Inv-loop μ-loop
-loop-again c = (
-  omega arith,
-  omega arith,
-  grow16 _ _ _ (omega arith) (omega arith),
-  value-step (c .before .before .before .before .loop .n) _ (c .before .before .before .before .before .before .before .args .s .now)
-      (c .before .before .before .before .loop .i) (omega arith) (c .before .digit .ensures .0) (c .if2 .left)
-      ∙ c .before .before .before .before .loop .inv .3,
-)
+loop-again c =
+    let at-loop = c .before .before .before .before in (
+      omega arith,
+      omega arith,
+      grow16 _ _ _ (omega arith) (omega arith),
+      value-step (at-loop .loop .n) _ (at-loop .before .before .before .args .s .now) (at-loop .loop .i) (omega arith) (c .before .digit .ensures .0)
+          (c .if2 .left) ∙ at-loop .loop .inv .3,
+    )
 
 returns-3 : tie.Need-returns-3 Inv-loop μ-loop
 returns-3 c =
@@ -62,18 +50,5 @@ returns-3 c =
 
 pub hex-spec : {M : Type 1} → statement M
 hex-spec =
-    tie.close
-    (tie.spec
-    Inv-loop
-    μ-loop
-    returns
-    loop-holds
-    shared-slice-read-digit
-    digit-requires
-    returns-2
-    mul-n
-    add-n
-    add-i
-    loop-less
-    loop-again
-    returns-3)
+    tie.close (tie.spec Inv-loop μ-loop returns loop-holds (λ c. search needs) (λ c κs. search needs) returns-2 mul-n add-n (λ c. search needs)
+    (λ c. search needs) loop-again returns-3)

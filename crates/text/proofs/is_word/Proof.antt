@@ -21,23 +21,11 @@ returns c = sym (same-long _ _ (c .if1 .taken))
 loop-holds : tie.Need-loop-holds Inv-loop μ-loop
 loop-holds c = (omega arith, omega arith, refl)
 
-shared-slice-read-if2 : tie.Need-shared-slice-read-if2 Inv-loop μ-loop
-shared-slice-read-if2 c = search needs
-
-shared-slice-read-if2-2 : tie.Need-shared-slice-read-if2-2 Inv-loop μ-loop
-shared-slice-read-if2-2 c = search needs
-
 returns-2 : tie.Need-returns-2 Inv-loop μ-loop
 returns-2 c =
     sym (sym (c .before .before .before .before .loop .inv .2)
     ∙ same-stop (c .before .before .before .before .before .before .args .s .now) (c .before .before .before .before .before .before .args .w .now)
     (c .before .before .before .before .loop .i) (omega arith) (omega arith) (c .if2 .taken))
-
-add-i : tie.Need-add-i Inv-loop μ-loop
-add-i c = search needs
-
-loop-less : tie.Need-loop-less Inv-loop μ-loop
-loop-less c = search needs
 
 loop-again : tie.Need-loop-again Inv-loop μ-loop
 loop-again c = (
@@ -49,22 +37,11 @@ loop-again c = (
 
 returns-3 : tie.Need-returns-3 Inv-loop μ-loop
 returns-3 c =
-    sym (sym (c .before .loop .inv .2)
-    ∙ same-done (c .before .before .before .args .s .now) (c .before .before .before .args .w .now) (c .before .loop .i) (omega arith) (omega arith)
+    let start = c .before .before .before in
+    sym (sym (c .before .loop .inv .2) ∙ same-done (start .args .s .now) (start .args .w .now) (c .before .loop .i) (omega arith) (omega arith)
     (omega arith))
 
 pub is-word-spec : {M : Type 1} → statement M
 is-word-spec =
-    tie.close
-    (tie.spec
-    Inv-loop
-    μ-loop
-    returns
-    loop-holds
-    shared-slice-read-if2
-    shared-slice-read-if2-2
-    returns-2
-    add-i
-    loop-less
-    loop-again
-    returns-3)
+    tie.close (tie.spec Inv-loop μ-loop returns loop-holds (λ c. search needs) (λ c. search needs) returns-2 (λ c. search needs) (λ c. search needs)
+    loop-again returns-3)

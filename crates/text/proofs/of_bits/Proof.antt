@@ -25,6 +25,4 @@ unfolding doubleOf
 returns-3 c = refl
 
 pub of-bits-spec : {M : Type 1} → statement M
-of-bits-spec =
-    tie.close
-    (tie.spec float-from-bits-result returns returns-2 float-from-bits-result-2 returns-3)
+of-bits-spec = tie.close (tie.spec float-from-bits-result returns returns-2 float-from-bits-result-2 returns-3)

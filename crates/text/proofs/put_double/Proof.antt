@@ -3,17 +3,8 @@ use borrow.Author.Needs.{needs}
 use Rattle.text.proofs.put_double.Statement.{statement}
 use Rattle.text.proofs.put_double.Tie as tie
 
-to-bits-requires : tie.Need-to-bits-requires
-to-bits-requires c κs = search needs
-
-put-hex-requires : tie.Need-put-hex-requires
-put-hex-requires c κs = search needs
-
-same-length : tie.Need-same-length
-same-length c = search needs
-
 returns : tie.Need-returns
 returns c = (rw (c .before .before .before .to-bits .ensures) at (c .before .before .put-hex .ensures .0), c .before .before .put-hex .ensures .1)
 
 pub put-double-spec : {M : Type 1} → statement M
-put-double-spec = tie.close (tie.spec to-bits-requires put-hex-requires same-length returns)
+put-double-spec = tie.close (tie.spec (λ c κs. search needs) (λ c κs. search needs) (λ c. search needs) returns)

@@ -5,18 +5,6 @@ use Rattle.text_decimals.proofs.Digits.{number-small, behind-none, behi
 use borrow.Author.Needs.{needs}
 use Rattle.text_decimals.proofs.behind.Statement.{statement}
 use Rattle.text_decimals.proofs.behind.Tie as tie
-use Rattle.text_decimals.proofs.behind.Reads as reads
-use Rattle.text_decimals.proofs.behind.Lts as lts
-use Rattle.text_decimals.proofs.number_in.Reads as number-in-reads
-
-number-in-requires : tie.Need-number-in-requires
-number-in-requires c κs = search needs
-
-enum-known-f : tie.Need-enum-known-f
-enum-known-f c = search needs
-
-enum-told : tie.Need-enum-told
-enum-told c = search needs
 
 returns : tie.Need-returns
 returns c = behind-none _ (c .before .before .number-in .ensures) (c .enum-told .given .1)
@@ -39,15 +27,4 @@ returns-4 c =
     (c .if2 .left)
 
 pub behind-spec : {M : Type 1} → statement M
-behind-spec =
-    tie.close
-    (tie.spec
-    number-in-requires
-    enum-known-f
-    enum-told
-    returns
-    mul-t6
-    returns-2
-    mul-t7
-    returns-3
-    returns-4)
+behind-spec = tie.close (tie.spec (λ c κs. search needs) (λ c. search needs) (λ c. search needs) returns mul-t6 returns-2 mul-t7 returns-3 returns-4)

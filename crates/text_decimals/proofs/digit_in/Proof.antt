@@ -8,9 +8,6 @@ use Rattle.text_decimals.proofs.digit_in.Tie as tie
 returns : tie.Need-returns
 returns c = (digit-below (c .before .args .b) (omega arith), omega arith)
 
-cast-result : tie.Need-cast-result
-cast-result c = search needs
-
 returns-2 : tie.Need-returns-2
 returns-2 c = (digit-is _ (omega arith) (omega arith), omega arith)
 
@@ -18,4 +15,4 @@ returns-3 : tie.Need-returns-3
 returns-3 c = (digit-above (c .before .before .args .b) (omega arith), omega arith)
 
 pub digit-in-spec : {M : Type 1} → statement M
-digit-in-spec = tie.close (tie.spec returns cast-result returns-2 returns-3)
+digit-in-spec = tie.close (tie.spec returns (λ c. search needs) returns-2 returns-3)

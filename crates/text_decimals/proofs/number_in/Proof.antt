@@ -24,41 +24,29 @@ returns-2 c = number-long _ _ (omega arith) (omega arith)
 loop-holds : tie.Need-loop-holds Inv-loop μ-loop
 loop-holds c = (omega arith, omega arith, omega arith, omega arith, omega arith, refl)
 
-shared-slice-read-digit-in : tie.Need-shared-slice-read-digit-in Inv-loop μ-loop
-shared-slice-read-digit-in c = search needs
-
-digit-in-requires : tie.Need-digit-in-requires Inv-loop μ-loop
-digit-in-requires c κs = search needs
-
 returns-3 : tie.Need-returns-3 Inv-loop μ-loop
 returns-3 c =
-    sym (number-is _ _ (omega arith) (omega arith) ∙ sym (c .before .before .before .before .loop .inv .5)
-    ∙ digits-stop (c .before .before .before .before .loop .n) _ (c .before .before .before .before .before .before .before .before .args .s .now)
-    (c .before .before .before .before .loop .i) (omega arith) (c .before .digit-in .ensures .0) (c .if3 .taken))
+    let at-loop = c .before .before .before .before in
+    sym (number-is _ _ (omega arith) (omega arith) ∙ sym (at-loop .loop .inv .5) ∙ digits-stop (at-loop .loop .n) _
+    (at-loop .before .before .before .before .args .s .now) (at-loop .loop .i) (omega arith) (c .before .digit-in .ensures .0) (c .if3 .taken))
 
 mul-n : tie.Need-mul-n Inv-loop μ-loop
-mul-n c = omega (arith, room10 (c .before .before .before .before .loop .n) (c .before .before .before .before .loop .i) (omega arith) (omega arith))
+mul-n c = let at-loop = c .before .before .before .before in omega (arith, room10 (at-loop .loop .n) (at-loop .loop .i) (omega arith) (omega arith))
 
 add-n : tie.Need-add-n Inv-loop μ-loop
-add-n c = omega (arith, room10 (c .before .before .before .before .loop .n) (c .before .before .before .before .loop .i) (omega arith) (omega arith))
-
-add-i : tie.Need-add-i Inv-loop μ-loop
-add-i c = search needs
-
-loop-less : tie.Need-loop-less Inv-loop μ-loop
-loop-less c = search needs
+add-n c = let at-loop = c .before .before .before .before in omega (arith, room10 (at-loop .loop .n) (at-loop .loop .i) (omega arith) (omega arith))
 
 loop-again : tie.Need-loop-again Inv-loop μ-loop
-loop-again c = (
-  omega arith,
-  omega arith,
-  omega arith,
-  omega arith,
-  grow10 _ _ _ (omega arith) (omega arith),
-  digits-step (c .before .before .before .before .loop .n) _ (c .before .before .before .before .before .before .before .before .args .s .now)
-      (c .before .before .before .before .loop .i) (omega arith) (c .before .digit-in .ensures .0) (c .if3 .left)
-      ∙ c .before .before .before .before .loop .inv .5,
-)
+loop-again c =
+    let at-loop = c .before .before .before .before in (
+      omega arith,
+      omega arith,
+      omega arith,
+      omega arith,
+      grow10 _ _ _ (omega arith) (omega arith),
+      digits-step (at-loop .loop .n) _ (at-loop .before .before .before .before .args .s .now) (at-loop .loop .i) (omega arith)
+          (c .before .digit-in .ensures .0) (c .if3 .left) ∙ at-loop .loop .inv .5,
+    )
 
 returns-4 : tie.Need-returns-4 Inv-loop μ-loop
 returns-4 c =
@@ -67,19 +55,5 @@ returns-4 c =
 
 pub number-in-spec : {M : Type 1} → statement M
 number-in-spec =
-    tie.close
-    (tie.spec
-    Inv-loop
-    μ-loop
-    returns
-    returns-2
-    loop-holds
-    shared-slice-read-digit-in
-    digit-in-requires
-    returns-3
-    mul-n
-    add-n
-    add-i
-    loop-less
-    loop-again
-    returns-4)
+    tie.close (tie.spec Inv-loop μ-loop returns returns-2 loop-holds (λ c. search needs) (λ c κs. search needs) returns-3 mul-n add-n
+    (λ c. search needs) (λ c. search needs) loop-again returns-4)

@@ -20,152 +20,47 @@ abbrev put-fixed-at : ℕ → In 1 put-fixed-kinds.ps
 put-fixed-at t = and 1 put-fixed-kinds.ps (is 1 put-fixed-kinds.ps μ-put-fixed t) put-fixed.Pre
 
 abbrev put-fixed-below : ℕ → In 1 put-fixed-kinds.ps
-put-fixed-below t =
-    and 1 put-fixed-kinds.ps (falls 1 put-fixed-kinds.ps _<_ μ-put-fixed t) put-fixed.Pre
+put-fixed-below t = and 1 put-fixed-kinds.ps (falls 1 put-fixed-kinds.ps _<_ μ-put-fixed t) put-fixed.Pre
 
-put-fixed-put-whole-requires : (t : ℕ) → put-fixed-lts.Need-put-whole-requires (
-  put-whole-reads.Asked,
-  put-whole-reads.Learnt,
-  put-byte-reads.Asked,
-  put-byte-reads.Learnt,
-  put-fixed-below t,
-  put-fixed.Post,
-) (put-fixed-at t) put-fixed.Post
+put-fixed-put-whole-requires : (t : ℕ) → put-fixed-lts.Need-put-whole-requires
+    (put-whole-reads.Asked, put-whole-reads.Learnt, put-byte-reads.Asked, put-byte-reads.Learnt, put-fixed-below t, put-fixed.Post) (put-fixed-at t)
+    put-fixed.Post
 put-fixed-put-whole-requires t c κs =
-    (whole-short (c .before .before .before .args .n) (c .before .before .before .args .d) (omega arith) (c .before .if1 .taken), omega arith)
+    let start = c .before .before .before in
+    (whole-short (start .args .n) (start .args .d) (omega arith) (c .before .if1 .taken), omega arith)
 
-put-fixed-put-byte-requires : (t : ℕ) → put-fixed-lts.Need-put-byte-requires (
-  put-whole-reads.Asked,
-  put-whole-reads.Learnt,
-  put-byte-reads.Asked,
-  put-byte-reads.Learnt,
-  put-fixed-below t,
-  put-fixed.Post,
-) (put-fixed-at t) put-fixed.Post
-put-fixed-put-byte-requires t c κs = search needs
+put-fixed-returns : (t : ℕ) → put-fixed-lts.Need-returns
+    (put-whole-reads.Asked, put-whole-reads.Learnt, put-byte-reads.Asked, put-byte-reads.Learnt, put-fixed-below t, put-fixed.Post) (put-fixed-at t)
+    put-fixed.Post
+put-fixed-returns t c =
+    let at-put-whole = c .before .before .before .before .before .before in
+    let at-if1 = at-put-whole .before .before in
+    let start = at-if1 .before .before in (
+      fixed-none (start .args .d) (start .args .n) (at-if1 .if1 .taken) (at-put-whole .put-whole .ensures .0) (c .before .before .put-byte .ensures),
+      omega (arith, at-put-whole .put-whole .ensures .1, c .before .before .put-byte .ensures .next),
+    )
 
-put-fixed-same-length : (t : ℕ) → put-fixed-lts.Need-same-length (
-  put-whole-reads.Asked,
-  put-whole-reads.Learnt,
-  put-byte-reads.Asked,
-  put-byte-reads.Learnt,
-  put-fixed-below t,
-  put-fixed.Post,
-) (put-fixed-at t) put-fixed.Post
-put-fixed-same-length t c = search needs
-
-put-fixed-returns : (t : ℕ) → put-fixed-lts.Need-returns (
-  put-whole-reads.Asked,
-  put-whole-reads.Learnt,
-  put-byte-reads.Asked,
-  put-byte-reads.Learnt,
-  put-fixed-below t,
-  put-fixed.Post,
-) (put-fixed-at t) put-fixed.Post
-put-fixed-returns t c = (
-  fixed-none (c .before .before .before .before .before .before .before .before .before .before .args .d)
-      (c .before .before .before .before .before .before .before .before .before .before .args .n)
-      (c .before .before .before .before .before .before .before .before .if1 .taken)
-      (c .before .before .before .before .before .before .put-whole .ensures .0) (c .before .before .put-byte .ensures),
-  omega (arith, c .before .before .before .before .before .before .put-whole .ensures .1, c .before .before .put-byte .ensures .next),
-)
-
-put-fixed-sub-put-fixed : (t : ℕ) → put-fixed-lts.Need-sub-put-fixed (
-  put-whole-reads.Asked,
-  put-whole-reads.Learnt,
-  put-byte-reads.Asked,
-  put-byte-reads.Learnt,
-  put-fixed-below t,
-  put-fixed.Post,
-) (put-fixed-at t) put-fixed.Post
-put-fixed-sub-put-fixed t c = search needs
-
-put-fixed-put-fixed-requires : (t : ℕ) → put-fixed-lts.Need-put-fixed-requires (
-  put-whole-reads.Asked,
-  put-whole-reads.Learnt,
-  put-byte-reads.Asked,
-  put-byte-reads.Learnt,
-  put-fixed-below t,
-  put-fixed.Post,
-) (put-fixed-at t) put-fixed.Post
+put-fixed-put-fixed-requires : (t : ℕ) → put-fixed-lts.Need-put-fixed-requires
+    (put-whole-reads.Asked, put-whole-reads.Learnt, put-byte-reads.Asked, put-byte-reads.Learnt, put-fixed-below t, put-fixed.Post) (put-fixed-at t)
+    put-fixed.Post
 put-fixed-put-fixed-requires t c κs =
-    (omega arith, (fixed-less (c .before .before .before .args .n) (c .before .before .before .args .d) (omega arith) (c .before .if1 .left), omega arith))
+    let start = c .before .before .before in
+    (omega arith, (fixed-less (start .args .n) (start .args .d) (omega arith) (c .before .if1 .left), omega arith))
 
-put-fixed-cast-put-byte : (t : ℕ) → put-fixed-lts.Need-cast-put-byte (
-  put-whole-reads.Asked,
-  put-whole-reads.Learnt,
-  put-byte-reads.Asked,
-  put-byte-reads.Learnt,
-  put-fixed-below t,
-  put-fixed.Post,
-) (put-fixed-at t) put-fixed.Post
-put-fixed-cast-put-byte t c = search needs
-
-put-fixed-add-put-byte : (t : ℕ) → put-fixed-lts.Need-add-put-byte (
-  put-whole-reads.Asked,
-  put-whole-reads.Learnt,
-  put-byte-reads.Asked,
-  put-byte-reads.Learnt,
-  put-fixed-below t,
-  put-fixed.Post,
-) (put-fixed-at t) put-fixed.Post
-put-fixed-add-put-byte t c = search needs
-
-put-fixed-put-byte-requires-2 : (t : ℕ) → put-fixed-lts.Need-put-byte-requires-2 (
-  put-whole-reads.Asked,
-  put-whole-reads.Learnt,
-  put-byte-reads.Asked,
-  put-byte-reads.Learnt,
-  put-fixed-below t,
-  put-fixed.Post,
-) (put-fixed-at t) put-fixed.Post
-put-fixed-put-byte-requires-2 t c κs = search needs
-
-put-fixed-same-length-2 : (t : ℕ) → put-fixed-lts.Need-same-length-2 (
-  put-whole-reads.Asked,
-  put-whole-reads.Learnt,
-  put-byte-reads.Asked,
-  put-byte-reads.Learnt,
-  put-fixed-below t,
-  put-fixed.Post,
-) (put-fixed-at t) put-fixed.Post
-put-fixed-same-length-2 t c = search needs
-
-put-fixed-returns-2 : (t : ℕ) → put-fixed-lts.Need-returns-2 (
-  put-whole-reads.Asked,
-  put-whole-reads.Learnt,
-  put-byte-reads.Asked,
-  put-byte-reads.Learnt,
-  put-fixed-below t,
-  put-fixed.Post,
-) (put-fixed-at t) put-fixed.Post
-put-fixed-returns-2 t c = (
-  fixed-more (c .before .before .before .before .before .before .before .before .before .before .args .d)
-      (c .before .before .before .before .before .before .before .before .before .before .args .n)
-      (c .before .before .before .before .before .before .before .before .if1 .left)
-      (c .before .before .before .before .before .before .put-fixed .ensures .0) (c .before .before .put-byte2 .ensures),
-  omega (arith, c .before .before .before .before .before .before .put-fixed .ensures .1, c .before .before .put-byte2 .ensures .next),
-)
+put-fixed-returns-2 : (t : ℕ) → put-fixed-lts.Need-returns-2
+    (put-whole-reads.Asked, put-whole-reads.Learnt, put-byte-reads.Asked, put-byte-reads.Learnt, put-fixed-below t, put-fixed.Post) (put-fixed-at t)
+    put-fixed.Post
+put-fixed-returns-2 t c =
+    let at-put-fixed = c .before .before .before .before .before .before in
+    let at-if1 = at-put-fixed .before .before in
+    let start = at-if1 .before .before in (
+      fixed-more (start .args .d) (start .args .n) (at-if1 .if1 .left) (at-put-fixed .put-fixed .ensures .0) (c .before .before .put-byte2 .ensures),
+      omega (arith, at-put-fixed .put-fixed .ensures .1, c .before .before .put-byte2 .ensures .next),
+    )
 
 pub +put-fixed-spec : {M : Type 1} → statement M
-+put-fixed-spec = close μ-put-fixed λ t. put-fixed-lts.spec (
-  put-whole-reads.Asked,
-  put-whole-reads.Learnt,
-  put-byte-reads.Asked,
-  put-byte-reads.Learnt,
-  put-fixed-below t,
-  put-fixed.Post,
-)
-    (put-fixed-at t)
-    put-fixed.Post
-    (put-fixed-put-whole-requires t)
-    (put-fixed-put-byte-requires t)
-    (put-fixed-same-length t)
-    (put-fixed-returns t)
-    (put-fixed-sub-put-fixed t)
-    (put-fixed-put-fixed-requires t)
-    (put-fixed-cast-put-byte t)
-    (put-fixed-add-put-byte t)
-    (put-fixed-put-byte-requires-2 t)
-    (put-fixed-same-length-2 t)
-    (put-fixed-returns-2 t)
++put-fixed-spec =
+    close μ-put-fixed λ t. put-fixed-lts.spec
+    (put-whole-reads.Asked, put-whole-reads.Learnt, put-byte-reads.Asked, put-byte-reads.Learnt, put-fixed-below t, put-fixed.Post) (put-fixed-at t)
+    put-fixed.Post (put-fixed-put-whole-requires t) (λ c κs. search needs) (λ c. search needs) (put-fixed-returns t) (λ c. search needs)
+    (put-fixed-put-fixed-requires t) (λ c. search needs) (λ c. search needs) (λ c κs. search needs) (λ c. search needs) (put-fixed-returns-2 t)

@@ -18,18 +18,11 @@ loop-holds : tie.Need-loop-holds Inv-loop μ-loop
 loop-holds c = (omega arith, sym (pow-zero _))
 
 mul-p : tie.Need-mul-p Inv-loop μ-loop
-mul-p c =
-    omega (
-      arith,
-      power-fits (c .before .before .args .b) (c .before .loop .i) (c .before .before .args .k) _ (c .before .before .pre .0) (omega arith)
-          (c .before .loop .inv .1) (c .before .before .pre .1),
-    )
-
-add-i : tie.Need-add-i Inv-loop μ-loop
-add-i c = search needs
-
-loop-less : tie.Need-loop-less Inv-loop μ-loop
-loop-less c = search needs
+mul-p c = omega (
+  arith,
+  power-fits (c .before .before .args .b) (c .before .loop .i) (c .before .before .args .k) _ (c .before .before .pre .0) (omega arith)
+      (c .before .loop .inv .1) (c .before .before .pre .1),
+)
 
 loop-again : tie.Need-loop-again Inv-loop μ-loop
 loop-again c = (omega arith, power-next (c .before .before .args .b) (c .before .loop .i) _ (c .before .loop .inv .1))
@@ -38,5 +31,4 @@ returns : tie.Need-returns Inv-loop μ-loop
 returns c = power-done (c .before .before .args .b) (c .before .loop .i) (c .before .before .args .k) _ (c .before .loop .inv .1) (omega arith) (omega arith)
 
 pub power-spec : {M : Type 1} → statement M
-power-spec =
-    tie.close (tie.spec Inv-loop μ-loop loop-holds mul-p add-i loop-less loop-again returns)
+power-spec = tie.close (tie.spec Inv-loop μ-loop loop-holds mul-p (λ c. search needs) (λ c. search needs) loop-again returns)

@@ -8,11 +8,8 @@ use Rattle.text_rounded.proofs.shift.Tie as tie
 returns : tie.Need-returns
 returns c = (small-shift _ (omega arith), omega arith)
 
-sub-result : tie.Need-sub-result
-sub-result c = search needs
-
 returns-2 : tie.Need-returns-2
 returns-2 c = (large-shift _ (omega arith), omega arith)
 
 pub shift-spec : {M : Type 1} → statement M
-shift-spec = tie.close (tie.spec returns sub-result returns-2)
+shift-spec = tie.close (tie.spec returns (λ c. search needs) returns-2)

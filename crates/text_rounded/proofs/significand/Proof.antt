@@ -8,11 +8,8 @@ use Rattle.text_rounded.proofs.significand.Tie as tie
 returns : tie.Need-returns
 returns c = (small-significand _ (omega arith), omega arith)
 
-add-result : tie.Need-add-result
-add-result c = search needs
-
 returns-2 : tie.Need-returns-2
 returns-2 c = (large-significand _ (omega arith), omega arith)
 
 pub significand-spec : {M : Type 1} → statement M
-significand-spec = tie.close (tie.spec returns add-result returns-2)
+significand-spec = tie.close (tie.spec returns (λ c. search needs) returns-2)

@@ -7,12 +7,6 @@ use Rattle.text_rounded.proofs.Parts.{ten-power, low-room, high-room, h
 use Rattle.text_rounded.proofs.units.Statement.{statement}
 use Rattle.text_rounded.proofs.units.Tie as tie
 
-significand-requires : tie.Need-significand-requires
-significand-requires c κs = search needs
-
-shift-requires : tie.Need-shift-requires
-shift-requires c κs = search needs
-
 returns : tie.Need-returns
 returns c = (no-units (c .before .before .before .args .d) (c .before .before .before .args .a) (omega arith) (omega arith) (omega arith), omega arith)
 
@@ -21,32 +15,26 @@ power-requires c κs = (omega arith, omega (arith, ten-power (c .before .before 
 
 mul-low : tie.Need-mul-low
 mul-low c =
-    omega (
-      arith,
-      low-room (c .before .before .before .significand .result) (c .power .result)
-          (omega (arith, ten-power (c .before .before .before .before .args .d) (omega arith))),
-    )
+    let at-significand = c .before .before .before in
+    let start = at-significand .before in
+    omega (arith, low-room (at-significand .significand .result) (c .power .result) (omega (arith, ten-power (start .args .d) (omega arith))))
 
 mul-high : tie.Need-mul-high
-mul-high c =
-    omega (
-      arith,
-      high-room (c .before .before .before .significand .result) (c .power .result) (omega arith)
-          (omega (arith, ten-power (c .before .before .before .before .args .d) (omega arith))),
-    )
+mul-high c = omega (
+  arith,
+  high-room (c .before .before .before .significand .result) (c .power .result) (omega arith)
+      (omega (arith, ten-power (c .before .before .before .before .args .d) (omega arith))),
+)
 
 add-high : tie.Need-add-high
 add-high c =
+    let at-significand = c .before .before .before in
+    let start = at-significand .before in
     omega (
       arith,
-      low-room (c .before .before .before .significand .result) (c .power .result)
-          (omega (arith, ten-power (c .before .before .before .before .args .d) (omega arith))),
-      high-room (c .before .before .before .significand .result) (c .power .result) (omega arith)
-          (omega (arith, ten-power (c .before .before .before .before .args .d) (omega arith))),
+      low-room (at-significand .significand .result) (c .power .result) (omega (arith, ten-power (start .args .d) (omega arith))),
+      high-room (at-significand .significand .result) (c .power .result) (omega arith) (omega (arith, ten-power (start .args .d) (omega arith))),
     )
-
-sub-power : tie.Need-sub-power
-sub-power c = search needs
 
 power-requires-2 : tie.Need-power-requires-2
 power-requires-2 c κs = (omega arith, omega (arith, half-room (c .before .before .shift .result) (omega arith)))
@@ -68,25 +56,14 @@ nearest-requires c κs = (
 
 returns-2 : tie.Need-returns-2
 returns-2 c =
-    units-are (c .before .before .before .before .before .before .args .d) (c .before .before .before .before .before .before .args .a)
-    (c .before .before .before .before .before .significand .result) (c .before .before .before .before .shift .result)
-    (c .before .before .power .result) (c .before .power2 .result) _ (c .before .before .before .before .before .significand .ensures .0)
-    (c .before .before .before .before .before .significand .ensures .1) (c .before .before .before .before .shift .ensures .0)
-    (c .before .before .before .before .shift .ensures .1) (c .before .before .power .ensures) (c .before .power2 .ensures)
-    (c .nearest .ensures)
+    let at-shift = c .before .before .before .before in
+    let at-significand = at-shift .before in
+    let start = at-significand .before in
+    units-are (start .args .d) (start .args .a) (at-significand .significand .result) (at-shift .shift .result) (c .before .before .power .result)
+    (c .before .power2 .result) _ (at-significand .significand .ensures .0) (at-significand .significand .ensures .1) (at-shift .shift .ensures .0)
+    (at-shift .shift .ensures .1) (c .before .before .power .ensures) (c .before .power2 .ensures) (c .nearest .ensures)
 
 pub units-spec : {M : Type 1} → statement M
 units-spec =
-    tie.close
-    (tie.spec
-    significand-requires
-    shift-requires
-    returns
-    power-requires
-    mul-low
-    mul-high
-    add-high
-    sub-power
-    power-requires-2
-    nearest-requires
-    returns-2)
+    tie.close (tie.spec (λ c κs. search needs) (λ c κs. search needs) returns power-requires mul-low mul-high add-high (λ c. search needs)
+    power-requires-2 nearest-requires returns-2)

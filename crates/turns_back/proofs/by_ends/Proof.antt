@@ -7,24 +7,6 @@ use borrow.Author.Needs.{needs}
 use Rattle.turns_back.proofs.by_ends.Statement.{statement}
 use Rattle.turns_back.proofs.by_ends.Tie as tie
 
-way-taken-requires : tie.Need-way-taken-requires
-way-taken-requires c κs = search needs
-
-enum-told : tie.Need-enum-told
-enum-told c = search needs
-
-in-direction-requires : tie.Need-in-direction-requires
-in-direction-requires c κs = search needs
-
-enum-told-2 : tie.Need-enum-told-2
-enum-told-2 c = search needs
-
-in-direction-requires-2 : tie.Need-in-direction-requires-2
-in-direction-requires-2 c κs = search needs
-
-enum-told-3 : tie.Need-enum-told-3
-enum-told-3 c = search needs
-
 returns : tie.Need-returns
 returns c =
     let at-way-taken = c .before .before .before in
@@ -47,14 +29,5 @@ returns-3 c =
 
 pub by-ends-spec : {M : Type 1} → statement M
 by-ends-spec =
-    tie.close
-    (tie.spec
-    way-taken-requires
-    enum-told
-    in-direction-requires
-    enum-told-2
-    in-direction-requires-2
-    enum-told-3
-    returns
-    returns-2
-    returns-3)
+    tie.close (tie.spec (λ c κs. search needs) (λ c. search needs) (λ c κs. search needs) (λ c. search needs) (λ c κs. search needs)
+    (λ c. search needs) returns returns-2 returns-3)

@@ -37,24 +37,18 @@ is-segment-never-falling-requires c κs =
 
 returns : tie.Need-returns Inv-loop μ-loop
 returns c =
-    let l = c .before .before .before .loop in
     let g = c .before .before .before .before in
+    let l = c .before .before .before .loop in
     let a = g .before .args in (
       falls-here (a .b) (turnedAll (a .up) (heldAll (a .knots .now))) (g .segments .result) (l .s) (omega arith) (l .inv .1)
           (sym (not-true _ (c .if1 .taken)) ∙ c .before .is-segment-never-falling .ensures),
       omega (arith, g .segments .ensures),
     )
 
-add-s : tie.Need-add-s Inv-loop μ-loop
-add-s c = search needs
-
-loop-less : tie.Need-loop-less Inv-loop μ-loop
-loop-less c = search needs
-
 loop-again : tie.Need-loop-again Inv-loop μ-loop
 loop-again c =
-    let l = c .before .before .before .loop in
     let g = c .before .before .before .before in
+    let l = c .before .before .before .loop in
     let a = g .before .args in (
       omega arith,
       rising-on (a .b) (turnedAll (a .up) (heldAll (a .knots .now))) (g .segments .result) (l .s) (omega arith) (l .inv .1)
@@ -63,25 +57,14 @@ loop-again c =
 
 returns-2 : tie.Need-returns-2 Inv-loop μ-loop
 returns-2 c =
-    let l = c .before .loop in
     let g = c .before .before in
+    let l = c .before .loop in
     let a = g .before .args in (
       none-falls (a .b) (turnedAll (a .up) (heldAll (a .knots .now))) (g .segments .result) (l .s) (l .inv .0) (omega arith) (l .inv .1),
-      omega
-          (arith, g .segments .ensures),
+      omega (arith, g .segments .ensures),
     )
 
 pub first-fall-spec : {M : Type 1} → statement M
 first-fall-spec =
-    tie.close
-    (tie.spec
-    Inv-loop
-    μ-loop
-    segments-requires
-    loop-holds
-    is-segment-never-falling-requires
-    returns
-    add-s
-    loop-less
-    loop-again
-    returns-2)
+    tie.close (tie.spec Inv-loop μ-loop segments-requires loop-holds is-segment-never-falling-requires returns (λ c. search needs) (λ c. search needs)
+    loop-again returns-2)

@@ -8,53 +8,16 @@ use borrow.Author.Needs.{needs}
 use Rattle.turns_back.proofs.four_from.Statement.{statement}
 use Rattle.turns_back.proofs.four_from.Tie as tie
 
-mul-raised : tie.Need-mul-raised
-mul-raised c = search needs
-
-shared-slice-copy-out-raised : tie.Need-shared-slice-copy-out-raised
-shared-slice-copy-out-raised c = search needs
-
 raised-requires : tie.Need-raised-requires
-raised-requires c κs =
-    let o = c .before in
-    small-at most (o .args .knots .now) (o .pre .1 .1) (o .args .at) (omega arith)
-
-add-raised : tie.Need-add-raised
-add-raised c = search needs
-
-mul-raised-2 : tie.Need-mul-raised-2
-mul-raised-2 c = search needs
-
-shared-slice-copy-out-raised-2 : tie.Need-shared-slice-copy-out-raised-2
-shared-slice-copy-out-raised-2 c = search needs
+raised-requires c κs = let o = c .before in small-at most (o .args .knots .now) (o .pre .1 .1) (o .args .at) (omega arith)
 
 raised-requires-2 : tie.Need-raised-requires-2
-raised-requires-2 c κs =
-    let o = c .before .before .before in
-    small-at most (o .args .knots .now) (o .pre .1 .1) (o .args .at + 1) (omega arith)
-
-add-raised-2 : tie.Need-add-raised-2
-add-raised-2 c = search needs
-
-mul-raised-3 : tie.Need-mul-raised-3
-mul-raised-3 c = search needs
-
-shared-slice-copy-out-raised-3 : tie.Need-shared-slice-copy-out-raised-3
-shared-slice-copy-out-raised-3 c = search needs
+raised-requires-2 c κs = let o = c .before .before .before in small-at most (o .args .knots .now) (o .pre .1 .1) (o .args .at + 1) (omega arith)
 
 raised-requires-3 : tie.Need-raised-requires-3
 raised-requires-3 c κs =
     let o = c .before .before .before .before .before in
     small-at most (o .args .knots .now) (o .pre .1 .1) (o .args .at + 2) (omega arith)
-
-add-raised-3 : tie.Need-add-raised-3
-add-raised-3 c = search needs
-
-mul-raised-4 : tie.Need-mul-raised-4
-mul-raised-4 c = search needs
-
-shared-slice-copy-out-raised-4 : tie.Need-shared-slice-copy-out-raised-4
-shared-slice-copy-out-raised-4 c = search needs
 
 raised-requires-4 : tie.Need-raised-requires-4
 raised-requires-4 c κs =
@@ -84,21 +47,6 @@ returns c =
 
 pub four-from-spec : {M : Type 1} → statement M
 four-from-spec =
-    tie.close
-    (tie.spec
-    mul-raised
-    shared-slice-copy-out-raised
-    raised-requires
-    add-raised
-    mul-raised-2
-    shared-slice-copy-out-raised-2
-    raised-requires-2
-    add-raised-2
-    mul-raised-3
-    shared-slice-copy-out-raised-3
-    raised-requires-3
-    add-raised-3
-    mul-raised-4
-    shared-slice-copy-out-raised-4
-    raised-requires-4
-    returns)
+    tie.close (tie.spec (λ c. search needs) (λ c. search needs) raised-requires (λ c. search needs) (λ c. search needs) (λ c. search needs)
+    raised-requires-2 (λ c. search needs) (λ c. search needs) (λ c. search needs) raised-requires-3 (λ c. search needs) (λ c. search needs)
+    (λ c. search needs) raised-requires-4 returns)

@@ -12,12 +12,6 @@ use borrow.Author.Needs.{needs}
 use Rattle.turns_back.proofs.in_direction.Statement.{statement}
 use Rattle.turns_back.proofs.in_direction.Tie as tie
 
-first-fall-requires : tie.Need-first-fall-requires
-first-fall-requires c κs = search needs
-
-segments-requires : tie.Need-segments-requires
-segments-requires c κs = search needs
-
 cast-t8 : tie.Need-cast-t8
 cast-t8 c =
     let o = c .before .before .before in
@@ -45,5 +39,4 @@ returns-2 c =
     climbs (a .b) (a .up) z (f .result) (f .ensures .0) h
 
 pub in-direction-spec : {M : Type 1} → statement M
-in-direction-spec =
-    tie.close (tie.spec first-fall-requires segments-requires cast-t8 returns returns-2)
+in-direction-spec = tie.close (tie.spec (λ c κs. search needs) (λ c κs. search needs) cast-t8 returns returns-2)

@@ -5,13 +5,8 @@ use borrow.Author.Needs.{needs}
 use Rattle.turns_back.proofs.is_never_falling_at.Statement.{statement}
 use Rattle.turns_back.proofs.is_never_falling_at.Tie as tie
 
-four-from-requires : tie.Need-four-from-requires
-four-from-requires c κs = search needs
-
 is-never-falling-requires : tie.Need-is-never-falling-requires
-is-never-falling-requires c κs =
-    let f = c .four-from .ensures in
-    (f .few0, (f .few1, (f .few2, f .few3)))
+is-never-falling-requires c κs = let f = c .four-from .ensures in (f .few0, (f .few1, (f .few2, f .few3)))
 
 returns : tie.Need-returns
 returns c =
@@ -22,4 +17,4 @@ returns c =
     (c .is-never-falling .ensures)
 
 pub is-never-falling-at-spec : {M : Type 1} → statement M
-is-never-falling-at-spec = tie.close (tie.spec four-from-requires is-never-falling-requires returns)
+is-never-falling-at-spec = tie.close (tie.spec (λ c κs. search needs) is-never-falling-requires returns)

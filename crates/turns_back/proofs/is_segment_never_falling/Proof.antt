@@ -10,16 +10,10 @@ use borrow.Author.Needs.{needs}
 use Rattle.turns_back.proofs.is_segment_never_falling.Statement.{statement}
 use Rattle.turns_back.proofs.is_segment_never_falling.Tie as tie
 
-is-start-no-lower-requires : tie.Need-is-start-no-lower-requires
-is-start-no-lower-requires c κs = search needs
-
 returns : tie.Need-returns
 returns c =
     let a = c .before .before .args in
     starts-below (a .b) (turnedAll (a .up) (heldAll (a .knots .now))) (a .s) (c .before .is-start-no-lower .ensures) (not-true _ (c .if1 .taken))
-
-step-requires : tie.Need-step-requires
-step-requires c κs = search needs
 
 mul-is-never-falling-at : tie.Need-mul-is-never-falling-at
 mul-is-never-falling-at c =
@@ -40,11 +34,4 @@ returns-2 c =
 
 pub is-segment-never-falling-spec : {M : Type 1} → statement M
 is-segment-never-falling-spec =
-    tie.close
-    (tie.spec
-    is-start-no-lower-requires
-    returns
-    step-requires
-    mul-is-never-falling-at
-    is-never-falling-at-requires
-    returns-2)
+    tie.close (tie.spec (λ c κs. search needs) returns (λ c κs. search needs) mul-is-never-falling-at is-never-falling-at-requires returns-2)

@@ -11,24 +11,6 @@ use borrow.Author.Needs.{needs}
 use Rattle.turns_back.proofs.is_start_no_lower.Statement.{statement}
 use Rattle.turns_back.proofs.is_start_no_lower.Tie as tie
 
-enum-told : tie.Need-enum-told
-enum-told c = search needs
-
-enum-told-2 : tie.Need-enum-told-2
-enum-told-2 c = search needs
-
-enum-told-3 : tie.Need-enum-told-3
-enum-told-3 c = search needs
-
-enum-told-4 : tie.Need-enum-told-4
-enum-told-4 c = search needs
-
-enum-told-5 : tie.Need-enum-told-5
-enum-told-5 c = search needs
-
-enum-told-6 : tie.Need-enum-told-6
-enum-told-6 c = search needs
-
 is-power-start-no-lower-requires : tie.Need-is-power-start-no-lower-requires
 is-power-start-no-lower-requires c κs =
     let o = c .before .before in
@@ -71,18 +53,5 @@ returns-6 c =
 
 pub is-start-no-lower-spec : {M : Type 1} → statement M
 is-start-no-lower-spec =
-    tie.close
-    (tie.spec
-    enum-told
-    enum-told-2
-    enum-told-3
-    enum-told-4
-    enum-told-5
-    enum-told-6
-    is-power-start-no-lower-requires
-    returns
-    returns-2
-    returns-3
-    returns-4
-    returns-5
-    returns-6)
+    tie.close (tie.spec (λ c. search needs) (λ c. search needs) (λ c. search needs) (λ c. search needs) (λ c. search needs) (λ c. search needs)
+    is-power-start-no-lower-requires returns returns-2 returns-3 returns-4 returns-5 returns-6)

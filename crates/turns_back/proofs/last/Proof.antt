@@ -5,15 +5,6 @@ use borrow.Author.Needs.{needs}
 use Rattle.turns_back.proofs.last.Statement.{statement}
 use Rattle.turns_back.proofs.last.Tie as tie
 
-segments-requires : tie.Need-segments-requires
-segments-requires c κs = search needs
-
-sub-result : tie.Need-sub-result
-sub-result c = search needs
-
-step-requires : tie.Need-step-requires
-step-requires c κs = search needs
-
 mul-result : tie.Need-mul-result
 mul-result c =
     let o = c .before .before in
@@ -29,4 +20,4 @@ returns c =
     )
 
 pub last-spec : {M : Type 1} → statement M
-last-spec = tie.close (tie.spec segments-requires sub-result step-requires mul-result returns)
+last-spec = tie.close (tie.spec (λ c κs. search needs) (λ c. search needs) (λ c κs. search needs) mul-result returns)

@@ -26,26 +26,8 @@ mul-top c = let h = halves (c .args .x) (c .args .y) (c .pre .0) (c .pre .1) in 
 add-top : tie.Need-add-top
 add-top c = let h = halves (c .args .x) (c .args .y) (c .pre .0) (c .pre .1) in omega (arith, h)
 
-mul-rest : tie.Need-mul-rest
-mul-rest c = search needs
-
-add-rest : tie.Need-add-rest
-add-rest c = search needs
-
 returns : tie.Need-returns
 returns c = wide (c .args .x) (c .args .y)
 
 pub product-spec : {M : Type 1} → statement M
-product-spec =
-    tie.close
-    (tie.spec
-    mul-low
-    mul-mid
-    mul-mid-2
-    add-mid
-    add-mid-2
-    mul-top
-    add-top
-    mul-rest
-    add-rest
-    returns)
+product-spec = tie.close (tie.spec mul-low mul-mid mul-mid-2 add-mid add-mid-2 mul-top add-top (λ c. search needs) (λ c. search needs) returns)

@@ -9,15 +9,6 @@ use borrow.Author.Needs.{needs}
 use Rattle.turns_back.proofs.turns_back.Statement.{statement}
 use Rattle.turns_back.proofs.turns_back.Tie as tie
 
-verdict-requires : tie.Need-verdict-requires
-verdict-requires c κs = search needs
-
-enum-known-v : tie.Need-enum-known-v
-enum-known-v c = search needs
-
-enum-told : tie.Need-enum-told
-enum-told c = search needs
-
 by-ends-requires : tie.Need-by-ends-requires
 by-ends-requires c κs =
     let a = c .before .before .before .args in
@@ -40,5 +31,4 @@ returns-2 c =
     (c .by-ends .ensures)
 
 pub turns-back-spec : {M : Type 1} → statement M
-turns-back-spec =
-    tie.close (tie.spec verdict-requires enum-known-v enum-told by-ends-requires returns returns-2)
+turns-back-spec = tie.close (tie.spec (λ c κs. search needs) (λ c. search needs) (λ c. search needs) by-ends-requires returns returns-2)

@@ -9,15 +9,6 @@ use borrow.Author.Needs.{needs}
 use Rattle.turns_back.proofs.turns_back_by.Statement.{statement}
 use Rattle.turns_back.proofs.turns_back_by.Tie as tie
 
-verdict-requires : tie.Need-verdict-requires
-verdict-requires c κs = search needs
-
-enum-known-v : tie.Need-enum-known-v
-enum-known-v c = search needs
-
-enum-told : tie.Need-enum-told
-enum-told c = search needs
-
 in-direction-requires : tie.Need-in-direction-requires
 in-direction-requires c κs =
     let a = c .before .before .before .args in
@@ -39,6 +30,4 @@ returns-2 c =
     given (turningOf (a .b) (a .up) z) (c .before .before .before .verdict .ensures) (c .before .enum-told .given .1) (c .in-direction .ensures)
 
 pub turns-back-by-spec : {M : Type 1} → statement M
-turns-back-by-spec =
-    tie.close
-    (tie.spec verdict-requires enum-known-v enum-told in-direction-requires returns returns-2)
+turns-back-by-spec = tie.close (tie.spec (λ c κs. search needs) (λ c. search needs) (λ c. search needs) in-direction-requires returns returns-2)

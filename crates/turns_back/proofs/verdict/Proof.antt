@@ -13,24 +13,12 @@ use borrow.Author.Needs.{needs}
 use Rattle.turns_back.proofs.verdict.Statement.{statement}
 use Rattle.turns_back.proofs.verdict.Tie as tie
 
-curve-length-requires : tie.Need-curve-length-requires
-curve-length-requires c κs = search needs
-
-enum-told : tie.Need-enum-told
-enum-told c = search needs
-
-enum-told-2 : tie.Need-enum-told-2
-enum-told-2 c = search needs
-
 returns : tie.Need-returns
 returns c =
     let a = c .before .before .before .args in
     let ks = a .knots .now in
     short (a .b) (heldAll ks) (c .before .before .curve-length .ensures ∙ ap (λ (n : ℕ). first (curveLength (a .b) n)) (sym (long ks)))
     (c .enum-told2 .given .1)
-
-first-large-requires : tie.Need-first-large-requires
-first-large-requires c κs = search needs
 
 cast-t7 : tie.Need-cast-t7
 cast-t7 c =
@@ -42,30 +30,21 @@ cast-t7 c =
 returns-2 : tie.Need-returns-2
 returns-2 c =
     let l = c .before .before .before .before in
-    let a = l .before .args in
+    let start = l .before in
+    let a = start .args in
     let ks = a .knots .now in
     too-large (a .b) (heldAll ks) (l .curve-length .ensures ∙ ap (λ (n : ℕ). first (curveLength (a .b) n)) (sym (long ks)))
-    (c .before .before .enum-told .given .1)
-    (c .before .first-large .result) (c .before .first-large .ensures .0) (omega (arith, long ks))
+    (c .before .before .enum-told .given .1) (c .before .first-large .result) (c .before .first-large .ensures .0) (omega (arith, long ks))
 
 returns-3 : tie.Need-returns-3
 returns-3 c =
     let l = c .before .before .before .before in
-    let a = l .before .args in
+    let start = l .before in
+    let a = start .args in
     let ks = a .knots .now in
     passes (a .b) (heldAll ks) (l .curve-length .ensures ∙ ap (λ (n : ℕ). first (curveLength (a .b) n)) (sym (long ks)))
-    (c .before .before .enum-told .given .1)
-    (omega (arith, long ks, c .before .first-large .ensures .0))
+    (c .before .before .enum-told .given .1) (omega (arith, long ks, c .before .first-large .ensures .0))
 
 pub verdict-spec : {M : Type 1} → statement M
 verdict-spec =
-    tie.close
-    (tie.spec
-    curve-length-requires
-    enum-told
-    enum-told-2
-    returns
-    first-large-requires
-    cast-t7
-    returns-2
-    returns-3)
+    tie.close (tie.spec (λ c κs. search needs) (λ c. search needs) (λ c. search needs) returns (λ c κs. search needs) cast-t7 returns-2 returns-3)

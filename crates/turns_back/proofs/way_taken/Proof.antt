@@ -9,21 +9,6 @@ use borrow.Author.Needs.{needs}
 use Rattle.turns_back.proofs.way_taken.Statement.{statement}
 use Rattle.turns_back.proofs.way_taken.Tie as tie
 
-four-from-requires : tie.Need-four-from-requires
-four-from-requires c κs = search needs
-
-last-requires : tie.Need-last-requires
-last-requires c κs = search needs
-
-four-from-requires-2 : tie.Need-four-from-requires-2
-four-from-requires-2 c κs = search needs
-
-start-requires : tie.Need-start-requires
-start-requires c κs = search needs
-
-end-requires : tie.Need-end-requires
-end-requires c κs = search needs
-
 returns : tie.Need-returns
 returns c =
     let at-start = c .before .before in
@@ -64,13 +49,5 @@ returns-3 c =
 
 pub way-taken-spec : {M : Type 1} → statement M
 way-taken-spec =
-    tie.close
-    (tie.spec
-    four-from-requires
-    last-requires
-    four-from-requires-2
-    start-requires
-    end-requires
-    returns
-    returns-2
-    returns-3)
+    tie.close (tie.spec (λ c κs. search needs) (λ c κs. search needs) (λ c κs. search needs) (λ c κs. search needs) (λ c κs. search needs) returns
+    returns-2 returns-3)

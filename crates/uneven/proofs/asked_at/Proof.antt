@@ -6,15 +6,6 @@ use borrow.Author.Needs.{needs}
 use Rattle.uneven.proofs.asked_at.Statement.{statement}
 use Rattle.uneven.proofs.asked_at.Tie as tie
 
-enum-told : tie.Need-enum-told
-enum-told c = search needs
-
-enum-told-2 : tie.Need-enum-told-2
-enum-told-2 c = search needs
-
-enum-known-a : tie.Need-enum-known-a
-enum-known-a c = search needs
-
 returns : tie.Need-returns
 unfolding ofBits
 returns c = sym (ap askedAt (c .enum-told .given .1))
@@ -27,6 +18,4 @@ returns-3 : tie.Need-returns-3
 returns-3 c = search needs
 
 pub asked-at-spec : {M : Type 1} → statement M
-asked-at-spec =
-    tie.close
-    (tie.spec enum-told enum-told-2 enum-known-a returns returns-2 returns-3)
+asked-at-spec = tie.close (tie.spec (λ c. search needs) (λ c. search needs) (λ c. search needs) returns returns-2 returns-3)

@@ -7,33 +7,6 @@ use borrow.Author.Needs.{needs}
 use Rattle.uneven.proofs.depth_at.Statement.{statement}
 use Rattle.uneven.proofs.depth_at.Tie as tie
 
-spline-inverse-with-requires : tie.Need-spline-inverse-with-requires
-spline-inverse-with-requires c κs = search needs
-
-asked-at-requires : tie.Need-asked-at-requires
-asked-at-requires c κs = search needs
-
-spline-requires : tie.Need-spline-requires
-spline-requires c κs = search needs
-
-segments-requires : tie.Need-segments-requires
-segments-requires c κs = search needs
-
-segments-requires-2 : tie.Need-segments-requires-2
-segments-requires-2 c κs = search needs
-
-depths-verdict-requires : tie.Need-depths-verdict-requires
-depths-verdict-requires c κs = search needs
-
-enum-known-v : tie.Need-enum-known-v
-enum-known-v c = search needs
-
-unsuited-requires : tie.Need-unsuited-requires
-unsuited-requires c κs = search needs
-
-enum-told : tie.Need-enum-told
-enum-told c = search needs
-
 suited-requires : tie.Need-suited-requires
 suited-requires c κs =
     let inv = c .before .before .before .before .before .before .before in
@@ -69,17 +42,5 @@ returns-2 c =
 
 pub depth-at-spec : {M : Type 1} → statement M
 depth-at-spec =
-    tie.close
-    (tie.spec
-    spline-inverse-with-requires
-    asked-at-requires
-    spline-requires
-    segments-requires
-    segments-requires-2
-    depths-verdict-requires
-    enum-known-v
-    unsuited-requires
-    enum-told
-    suited-requires
-    returns
-    returns-2)
+    tie.close (tie.spec (λ c κs. search needs) (λ c κs. search needs) (λ c κs. search needs) (λ c κs. search needs) (λ c κs. search needs)
+    (λ c κs. search needs) (λ c. search needs) (λ c κs. search needs) (λ c. search needs) suited-requires returns returns-2)

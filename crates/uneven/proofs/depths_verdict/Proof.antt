@@ -9,25 +9,13 @@ use borrow.Author.Needs.{needs}
 use Rattle.uneven.proofs.depths_verdict.Statement.{statement}
 use Rattle.uneven.proofs.depths_verdict.Tie as tie
 
-enum-known-e : tie.Need-enum-known-e
-enum-known-e c = search needs
-
-enum-told : tie.Need-enum-told
-enum-told c = search needs
-
-returns : tie.Need-returns
-returns c = search needs
-
 returns-2 : tie.Need-returns-2
 returns-2 c = sym (ap (λ (x : Evaluation). verdictOf x (c .before .before .before .args .equal)) (c .before .e .given .1))
 
 returns-3 : tie.Need-returns-3
 returns-3 c =
-    sym
-    (ap (λ (x : Evaluation). verdictOf x (c .before .before .before .args .equal)) (c .before .enum-told .given .1)
-    ∙ ap (λ (t : Bool). cond t Passed (Failed UnequalSegments)) (c .if1 .left))
+    sym (ap (λ (x : Evaluation). verdictOf x (c .before .before .before .args .equal)) (c .before .enum-told .given .1) ∙ ap
+    (λ (t : Bool). cond t Passed (Failed UnequalSegments)) (c .if1 .left))
 
 pub depths-verdict-spec : {M : Type 1} → statement M
-depths-verdict-spec =
-    tie.close
-    (tie.spec enum-known-e enum-told returns returns-2 returns-3)
+depths-verdict-spec = tie.close (tie.spec (λ c. search needs) (λ c. search needs) (λ c. search needs) returns-2 returns-3)

@@ -8,15 +8,6 @@ use borrow.Author.Needs.{needs}
 use Rattle.uneven.proofs.suited.Statement.{statement}
 use Rattle.uneven.proofs.suited.Tie as tie
 
-enum-known-a : tie.Need-enum-known-a
-enum-known-a c = search needs
-
-enum-known-a-2 : tie.Need-enum-known-a-2
-enum-known-a-2 c = search needs
-
-enum-known-a-3 : tie.Need-enum-known-a-3
-enum-known-a-3 c = search needs
-
 depth-of-requires : tie.Need-depth-of-requires
 depth-of-requires c κs = subst (λ (i : Inversion). countTold i < 4294967295) (c .before .a3 .given .1) (c .before .before .before .pre)
 
@@ -31,6 +22,4 @@ returns-3 c =
     c .depth-of .ensures ∙ sym (ap (λ (i : Inversion). suited i (λ _. c .before .before .before .before .args .e)) (c .before .before .a3 .given .1))
 
 pub suited-spec : {M : Type 1} → statement M
-suited-spec =
-    tie.close
-    (tie.spec enum-known-a enum-known-a-2 enum-known-a-3 depth-of-requires returns returns-2 returns-3)
+suited-spec = tie.close (tie.spec (λ c. search needs) (λ c. search needs) (λ c. search needs) depth-of-requires returns returns-2 returns-3)

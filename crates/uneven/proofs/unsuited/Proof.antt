@@ -6,15 +6,6 @@ use borrow.Author.Needs.{needs}
 use Rattle.uneven.proofs.unsuited.Statement.{statement}
 use Rattle.uneven.proofs.unsuited.Tie as tie
 
-enum-known-a : tie.Need-enum-known-a
-enum-known-a c = search needs
-
-enum-told : tie.Need-enum-told
-enum-told c = search needs
-
-enum-told-2 : tie.Need-enum-told-2
-enum-told-2 c = search needs
-
 returns : tie.Need-returns
 returns c = sym (ap (λ (i : Inversion). unsuited i (c .before .before .before .args .r)) (c .before .a .given .1))
 
@@ -25,12 +16,4 @@ returns-3 : tie.Need-returns-3
 returns-3 c = sym (ap (λ (i : Inversion). unsuited i (c .before .before .args .r)) (c .enum-told2 .given .1))
 
 pub unsuited-spec : {M : Type 1} → statement M
-unsuited-spec =
-    tie.close
-    (tie.spec
-    enum-known-a
-    enum-told
-    enum-told-2
-    returns
-    returns-2
-    returns-3)
+unsuited-spec = tie.close (tie.spec (λ c. search needs) (λ c. search needs) (λ c. search needs) returns returns-2 returns-3)

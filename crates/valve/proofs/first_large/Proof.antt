@@ -6,30 +6,6 @@ use borrow.Author.Needs.{needs}
 use Rattle.valve.proofs.first_large.Statement.{statement}
 use Rattle.valve.proofs.first_large.Tie as tie
 
-shared-slice-copy-out-is-small : tie.Need-shared-slice-copy-out-is-small
-shared-slice-copy-out-is-small c = search needs
-
-is-small-requires : tie.Need-is-small-requires
-is-small-requires c κs = search needs
-
-shared-slice-copy-out-is-small-2 : tie.Need-shared-slice-copy-out-is-small-2
-shared-slice-copy-out-is-small-2 c = search needs
-
-is-small-requires-2 : tie.Need-is-small-requires-2
-is-small-requires-2 c κs = search needs
-
-shared-slice-copy-out-is-small-3 : tie.Need-shared-slice-copy-out-is-small-3
-shared-slice-copy-out-is-small-3 c = search needs
-
-is-small-requires-3 : tie.Need-is-small-requires-3
-is-small-requires-3 c κs = search needs
-
-shared-slice-copy-out-is-small-4 : tie.Need-shared-slice-copy-out-is-small-4
-shared-slice-copy-out-is-small-4 c = search needs
-
-is-small-requires-4 : tie.Need-is-small-requires-4
-is-small-requires-4 c κs = search needs
-
 returns : tie.Need-returns
 returns c =
     let t3 = c .before .before .before in
@@ -69,24 +45,9 @@ returns-4 c =
     (large-1 knots (sym (t1 .before .is-small .ensures) ∙ t1 .if1 .taken) (sym (c .before .is-small2 .ensures) ∙ c .if2 .left), lit≤ tt)
 
 returns-5 : tie.Need-returns-5
-returns-5 c =
-    let knots = c .before .before .before .args .knots .now in
-    (large-0 knots (sym (c .before .is-small .ensures) ∙ c .if1 .left), lit≤ tt)
+returns-5 c = let knots = c .before .before .before .args .knots .now in (large-0 knots (sym (c .before .is-small .ensures) ∙ c .if1 .left), lit≤ tt)
 
 pub first-large-spec : {M : Type 1} → statement M
 first-large-spec =
-    tie.close
-    (tie.spec
-    shared-slice-copy-out-is-small
-    is-small-requires
-    shared-slice-copy-out-is-small-2
-    is-small-requires-2
-    shared-slice-copy-out-is-small-3
-    is-small-requires-3
-    shared-slice-copy-out-is-small-4
-    is-small-requires-4
-    returns
-    returns-2
-    returns-3
-    returns-4
-    returns-5)
+    tie.close (tie.spec (λ c. search needs) (λ c κs. search needs) (λ c. search needs) (λ c κs. search needs) (λ c. search needs)
+    (λ c κs. search needs) (λ c. search needs) (λ c κs. search needs) returns returns-2 returns-3 returns-4 returns-5)

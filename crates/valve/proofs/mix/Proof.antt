@@ -8,15 +8,6 @@ use borrow.Author.Needs.{needs}
 use Rattle.valve.proofs.mix.Statement.{statement}
 use Rattle.valve.proofs.mix.Tie as tie
 
-verdict-requires : tie.Need-verdict-requires
-verdict-requires c κs = search needs
-
-enum-known-v : tie.Need-enum-known-v
-enum-known-v c = search needs
-
-enum-told : tie.Need-enum-told
-enum-told c = search needs
-
 row-requires : tie.Need-row-requires
 row-requires c κs =
     let a = c .before .before .before .args in
@@ -25,9 +16,8 @@ row-requires c κs =
 
 weighted-sum-requires : tie.Need-weighted-sum-requires
 weighted-sum-requires c κs =
-    let s = c .before in
-    let a = s .before .before .before .args in
-    let p = passed (a .step) (a .knots .now) (sym (s .before .before .verdict .ensures) ∙ s .enum-told .given .1) in
+    let a = c .before .before .before .before .args in
+    let p = passed (a .step) (a .knots .now) (sym (c .before .before .before .verdict .ensures) ∙ c .before .enum-told .given .1) in
     (c .row .ensures .few, (p .many, p .knots))
 
 returns : tie.Need-returns
@@ -37,13 +27,10 @@ returns c =
 
 returns-2 : tie.Need-returns-2
 returns-2 c =
-    let s = c .before .before in
-    let a = s .before .before .before .args in
+    let a = c .before .before .before .before .before .args in
     ap Mixed
     (toZ-ofZ (record { sfits = c .weighted-sum .ok }) ∙ c .weighted-sum .ensures ∙ by-four (a .knots .now) (a .step) _ _ _ _ (c .before .row .ensures))
-    ∙ sym (is-mixed (a .step) (a .knots .now) (sym (s .before .before .verdict .ensures) ∙ s .enum-told .given .1))
+    ∙ sym (is-mixed (a .step) (a .knots .now) (sym (c .before .before .before .before .verdict .ensures) ∙ c .before .before .enum-told .given .1))
 
 pub mix-spec : {M : Type 1} → statement M
-mix-spec =
-    tie.close
-    (tie.spec verdict-requires enum-known-v enum-told row-requires weighted-sum-requires returns returns-2)
+mix-spec = tie.close (tie.spec (λ c κs. search needs) (λ c. search needs) (λ c. search needs) row-requires weighted-sum-requires returns returns-2)

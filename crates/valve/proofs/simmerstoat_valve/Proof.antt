@@ -8,18 +8,6 @@ use borrow.Author.Needs.{needs}
 use Rattle.valve.proofs.simmerstoat_valve.Statement.{statement}
 use Rattle.valve.proofs.simmerstoat_valve.Tie as tie
 
-verdict-requires : tie.Need-verdict-requires
-verdict-requires c κs = search needs
-
-enum-known-v : tie.Need-enum-known-v
-enum-known-v c = search needs
-
-reply-requires : tie.Need-reply-requires
-reply-requires c κs = search needs
-
-enum-told : tie.Need-enum-told
-enum-told c = search needs
-
 row-requires : tie.Need-row-requires
 row-requires c κs =
     let a = c .before .before .before .args in
@@ -29,9 +17,8 @@ row-requires c κs =
 
 weighted-sum-requires : tie.Need-weighted-sum-requires
 weighted-sum-requires c κs =
-    let s = c .before in
-    let a = s .before .before .before .args in
-    let p = passed (a .step) (a .knots .now) (sym (s .before .before .verdict .ensures) ∙ s .enum-told .given .1) in
+    let a = c .before .before .before .before .args in
+    let p = passed (a .step) (a .knots .now) (sym (c .before .before .before .verdict .ensures) ∙ c .before .enum-told .given .1) in
     (c .row .ensures .few, (p .many, p .knots))
 
 returns : tie.Need-returns
@@ -42,9 +29,9 @@ returns c =
 
 returns-2 : tie.Need-returns-2
 returns-2 c =
-    let s = c .before .before in
-    let a = s .before .before .before .args in
-    let is = is-mixed (a .step) (a .knots .now) (sym (s .before .before .verdict .ensures) ∙ s .enum-told .given .1) in (
+    let a = c .before .before .before .before .before .args in
+    let is =
+    is-mixed (a .step) (a .knots .now) (sym (c .before .before .before .before .verdict .ensures) ∙ c .before .before .enum-told .given .1) in (
       sym (ap mixtureReply is),
       toZ-ofZ (record { sfits = c .weighted-sum .ok }) ∙ c .weighted-sum .ensures ∙ by-four (a .knots .now) (a .step) _ _ _ _ (c .before .row .ensures)
           ∙ sym (ap (λ m. sumLeft m (a .sum .now)) is),
@@ -52,5 +39,5 @@ returns-2 c =
 
 pub simmerstoat-valve-spec : {M : Type 1} → statement M
 simmerstoat-valve-spec =
-    tie.close
-    (tie.spec verdict-requires enum-known-v reply-requires enum-told row-requires weighted-sum-requires returns returns-2)
+    tie.close (tie.spec (λ c κs. search needs) (λ c. search needs) (λ c κs. search needs) (λ c. search needs) row-requires weighted-sum-requires
+    returns returns-2)

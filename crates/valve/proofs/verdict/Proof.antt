@@ -13,12 +13,6 @@ returns-2 c = let a = c .before .before .args in too-many (a .step) (a .knots .n
 returns-3 : tie.Need-returns-3
 returns-3 c = let a = c .before .before .before .args in too-far (a .step) (a .knots .now) (c .before .before .if1 .left) (c .before .if2 .left) (c .if3 .taken)
 
-first-large-requires : tie.Need-first-large-requires
-first-large-requires c κs = search needs
-
-cast-t9 : tie.Need-cast-t9
-cast-t9 c = search needs
-
 returns-4 : tie.Need-returns-4
 returns-4 c =
     let a = c .before .before .before .before .before .args in
@@ -32,6 +26,4 @@ returns-5 c =
     (c .before .first-large .result) (c .before .first-large .ensures .0) (c .if4 .left)
 
 pub verdict-spec : {M : Type 1} → statement M
-verdict-spec =
-    tie.close
-    (tie.spec returns returns-2 returns-3 first-large-requires cast-t9 returns-4 returns-5)
+verdict-spec = tie.close (tie.spec returns returns-2 returns-3 (λ c κs. search needs) (λ c. search needs) returns-4 returns-5)

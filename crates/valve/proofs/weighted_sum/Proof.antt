@@ -6,26 +6,14 @@ use borrow.Author.Needs.{needs}
 use Rattle.valve.proofs.weighted_sum.Statement.{statement}
 use Rattle.valve.proofs.weighted_sum.Tie as tie
 
-shared-slice-copy-out-term : tie.Need-shared-slice-copy-out-term
-shared-slice-copy-out-term c = search needs
-
 term-requires : tie.Need-term-requires
 term-requires c κs = let s = c .before in (s .pre .0 .few0, s .pre .1 .1 .each 0 (lit< tt))
-
-shared-slice-copy-out-term-2 : tie.Need-shared-slice-copy-out-term-2
-shared-slice-copy-out-term-2 c = search needs
 
 term-requires-2 : tie.Need-term-requires-2
 term-requires-2 c κs = let s = c .before .before .before in (s .pre .0 .few1, s .pre .1 .1 .each 1 (lit< tt))
 
-shared-slice-copy-out-term-3 : tie.Need-shared-slice-copy-out-term-3
-shared-slice-copy-out-term-3 c = search needs
-
 term-requires-3 : tie.Need-term-requires-3
 term-requires-3 c κs = let s = c .before .before .before .before .before in (s .pre .0 .few2, s .pre .1 .1 .each 2 (lit< tt))
-
-shared-slice-copy-out-term-4 : tie.Need-shared-slice-copy-out-term-4
-shared-slice-copy-out-term-4 c = search needs
 
 term-requires-4 : tie.Need-term-requires-4
 term-requires-4 c κs = let s = c .before .before .before .before .before .before .before in (s .pre .0 .few3, s .pre .1 .1 .each 3 (lit< tt))
@@ -41,9 +29,8 @@ plus-requires-2 c κs =
     let third = c .before .before .before in
     let b = third .before .before in
     let a = b .before .before in
-    let p =
-    plus-is (a .term .result) (b .term2 .result) 67108864000000 67108864000000 (a .term .ensures .1) (b .term2 .ensures .1) (lit< tt) (c .plus .result)
-    (c .plus .ensures) in
+    let p = plus-is (a .term .result) (b .term2 .result) 67108864000000 67108864000000 (a .term .ensures .1) (b .term2 .ensures .1) (lit< tt)
+    (c .plus .result) (c .plus .ensures) in
     plus-fit (c .plus .result) (third .term3 .result) 134217728000000 67108864000000 (p .1) (third .term3 .ensures .1) (lit< tt)
 
 plus-requires-3 : tie.Need-plus-requires-3
@@ -53,12 +40,10 @@ plus-requires-3 c κs =
     let third = d .before .before in
     let b = third .before .before in
     let a = b .before .before in
-    let p =
-    plus-is (a .term .result) (b .term2 .result) 67108864000000 67108864000000 (a .term .ensures .1) (b .term2 .ensures .1) (lit< tt)
+    let p = plus-is (a .term .result) (b .term2 .result) 67108864000000 67108864000000 (a .term .ensures .1) (b .term2 .ensures .1) (lit< tt)
     (first .plus .result) (first .plus .ensures) in
-    let q =
-    plus-is (first .plus .result) (third .term3 .result) 134217728000000 67108864000000 (p .1) (third .term3 .ensures .1) (lit< tt) (c .plus2 .result)
-    (c .plus2 .ensures) in
+    let q = plus-is (first .plus .result) (third .term3 .result) 134217728000000 67108864000000 (p .1) (third .term3 .ensures .1) (lit< tt)
+    (c .plus2 .result) (c .plus2 .ensures) in
     plus-fit (c .plus2 .result) (d .term4 .result) 201326592000000 67108864000000 (q .1) (d .term4 .ensures .1) (lit< tt)
 
 returns : tie.Need-returns
@@ -77,17 +62,5 @@ returns c =
 
 pub weighted-sum-spec : {M : Type 1} → statement M
 weighted-sum-spec =
-    tie.close
-    (tie.spec
-    shared-slice-copy-out-term
-    term-requires
-    shared-slice-copy-out-term-2
-    term-requires-2
-    shared-slice-copy-out-term-3
-    term-requires-3
-    shared-slice-copy-out-term-4
-    term-requires-4
-    plus-requires
-    plus-requires-2
-    plus-requires-3
-    returns)
+    tie.close (tie.spec (λ c. search needs) term-requires (λ c. search needs) term-requires-2 (λ c. search needs) term-requires-3 (λ c. search needs)
+    term-requires-4 plus-requires plus-requires-2 plus-requires-3 returns)

@@ -19,15 +19,6 @@ abbrev μ-loop : tie.MeasureT-loop
 loop-holds : tie.Need-loop-holds Inv-loop μ-loop
 loop-holds c = (omega arith, omega arith)
 
-mul-is-small : tie.Need-mul-is-small Inv-loop μ-loop
-mul-is-small c = search needs
-
-shared-slice-copy-out-is-small : tie.Need-shared-slice-copy-out-is-small Inv-loop μ-loop
-shared-slice-copy-out-is-small c = search needs
-
-is-small-requires : tie.Need-is-small-requires Inv-loop μ-loop
-is-small-requires c κs = search needs
-
 returns : tie.Need-returns Inv-loop μ-loop
 returns c =
     let l = c .before .before .before .before .loop in
@@ -37,12 +28,6 @@ returns c =
           (sym (not-true _ (c .if1 .taken)) ∙ c .before .is-small .ensures ∙ ap (small (a .most)) (sym (knot ks (l .i)))),
       omega arith,
     )
-
-add-i : tie.Need-add-i Inv-loop μ-loop
-add-i c = search needs
-
-loop-less : tie.Need-loop-less Inv-loop μ-loop
-loop-less c = search needs
 
 loop-again : tie.Need-loop-again Inv-loop μ-loop
 loop-again c =
@@ -63,16 +48,5 @@ returns-2 c =
 
 pub first-large-spec : {M : Type 1} → statement M
 first-large-spec =
-    tie.close
-    (tie.spec
-    Inv-loop
-    μ-loop
-    loop-holds
-    mul-is-small
-    shared-slice-copy-out-is-small
-    is-small-requires
-    returns
-    add-i
-    loop-less
-    loop-again
-    returns-2)
+    tie.close (tie.spec Inv-loop μ-loop loop-holds (λ c. search needs) (λ c. search needs) (λ c κs. search needs) returns (λ c. search needs)
+    (λ c. search needs) loop-again returns-2)

@@ -8,12 +8,9 @@ use Rattle.whole.proofs.Held.{size-same}
 use Rattle.whole.proofs.is_small.Statement.{statement}
 use Rattle.whole.proofs.is_small.Tie as tie
 
-size-requires : tie.Need-size-requires
-size-requires c κs = search needs
-
 returns : tie.Need-returns
 unfolding small
 returns c = ap (λ (n : ℕ). leb n (c .before .args .most)) (c .size .ensures ∙ size-same (c .before .args .k) (c .before .fits .k))
 
 pub is-small-spec : {M : Type 1} → statement M
-is-small-spec = tie.close (tie.spec size-requires returns)
+is-small-spec = tie.close (tie.spec (λ c κs. search needs) returns)

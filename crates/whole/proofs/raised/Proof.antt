@@ -5,9 +5,6 @@ use Rattle.whole.proofs.Held.{size-le, up-raised, up-lowered, down-lowe
 use Rattle.whole.proofs.raised.Statement.{statement}
 use Rattle.whole.proofs.raised.Tie as tie
 
-size-requires : tie.Need-size-requires
-size-requires c κs = search needs
-
 add-result : tie.Need-add-result
 add-result c =
     let o = c .before .before .before in
@@ -55,15 +52,4 @@ returns-4 c =
     (c .before .if1 .left) (c .if3 .left)
 
 pub raised-spec : {M : Type 1} → statement M
-raised-spec =
-    tie.close
-    (tie.spec
-    size-requires
-    add-result
-    returns
-    sub-result
-    returns-2
-    sub-result-2
-    returns-3
-    add-result-2
-    returns-4)
+raised-spec = tie.close (tie.spec (λ c κs. search needs) add-result returns sub-result returns-2 sub-result-2 returns-3 add-result-2 returns-4)

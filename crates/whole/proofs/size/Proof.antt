@@ -7,9 +7,6 @@ use Rattle.whole.proofs.size.Tie as tie
 cast-result : tie.Need-cast-result
 cast-result c = not-below (c .before .args .k) (c .before .fits .k) (c .if1 .taken)
 
-returns : tie.Need-returns
-returns c = search needs
-
 sub-result : tie.Need-sub-result
 sub-result c = below-fits (c .before .args .k) (c .before .fits .k) (c .if1 .left)
 
@@ -23,4 +20,4 @@ returns-2 : tie.Need-returns-2
 returns-2 c = below-is (c .before .args .k) (c .before .fits .k) (c .if1 .left)
 
 pub size-spec : {M : Type 1} → statement M
-size-spec = tie.close (tie.spec cast-result returns sub-result cast-result-2 add-result returns-2)
+size-spec = tie.close (tie.spec cast-result (λ c. search needs) sub-result cast-result-2 add-result returns-2)

@@ -21,12 +21,6 @@ abbrev μ-loop : tie.MeasureT-loop
 sub-last : tie.Need-sub-last Inv-loop μ-loop
 sub-last c = omega arith
 
-div-last : tie.Need-div-last Inv-loop μ-loop
-div-last c = search needs
-
-sums-requires : tie.Need-sums-requires Inv-loop μ-loop
-sums-requires c κs = search needs
-
 put-last-requires : tie.Need-put-last-requires Inv-loop μ-loop
 put-last-requires c κs = (lit< tt, (lit≤ tt, omega arith))
 
@@ -35,9 +29,8 @@ loop-holds c =
     let a = c .before .before .before .before .before .before .before .args in (
       omega arith,
       refl,
-      begun (a .m) (a .step) (a .stride) (a .knots .now) (a .out .now) _
-          (first-window (a .m) (a .step) (a .stride) (a .knots .now) _ (a .out .now) _ (c .before .before .before .sums .ensures)
-          (c .before .before .put-last .ensures)),
+      begun (a .m) (a .step) (a .stride) (a .knots .now) (a .out .now) _ (first-window (a .m) (a .step) (a .stride) (a .knots .now) _ (a .out .now) _
+          (c .before .before .before .sums .ensures) (c .before .before .put-last .ensures)),
     )
 
 places-at : (c : tie.In-loop Inv-loop μ-loop)
@@ -110,38 +103,17 @@ same-length c = c .before .loop .inv .1 ∙ c .before .before .before .before .p
 
 returns : tie.Need-returns Inv-loop μ-loop
 returns c =
-    let a = c .before .before .before .before .before .before .before .before .before .args in
+    let start = c .before .before .before .before .before .before .before .before .before in
+    let a = start .args in
     let l = c .before .loop in (
       refl,
-      all-windows (a .m) (a .step) (a .stride) (a .knots .now) (l .s) _ _ _ _
-          (c .before .before .before .before .before .before .before .before .before .pre .1 .1 .0) (omega arith)
+      all-windows (a .m) (a .step) (a .stride) (a .knots .now) (l .s) _ _ _ _ (start .pre .1 .1 .0) (omega arith)
           (first-window (a .m) (a .step) (a .stride) (a .knots .now) _ (a .out .now) _ (c .before .before .before .before .before .sums .ensures)
           (c .before .before .before .before .put-last .ensures)) (l .inv .2),
     )
 
 pub put-windows-spec : {M : Type 1} → statement M
 put-windows-spec =
-    tie.close
-    (tie.spec
-    Inv-loop
-    μ-loop
-    sub-last
-    div-last
-    sums-requires
-    put-last-requires
-    loop-holds
-    mul-at
-    add-at
-    add-s
-    mul-start
-    mul-put-window
-    sub-put-window
-    part-put-window-start
-    part-put-window-end
-    put-window-requires
-    loop-less
-    loop-again
-    mul-result
-    add-result
-    same-length
+    tie.close (tie.spec Inv-loop μ-loop sub-last (λ c. search needs) (λ c κs. search needs) put-last-requires loop-holds mul-at add-at add-s mul-start
+    mul-put-window sub-put-window part-put-window-start part-put-window-end put-window-requires loop-less loop-again mul-result add-result same-length
     returns)

@@ -5,9 +5,6 @@ use borrow.Author.Needs.{needs}
 use Rattle.convert.proofs.refusals.output_verdict.Statement.{statement}
 use Rattle.convert.proofs.refusals.output_verdict.Tie as tie
 
-is-linear-requires : tie.Need-is-linear-requires
-is-linear-requires c κs = search needs
-
 returns : tie.Need-returns
 returns c = simp (sym (c .before .is-linear .ensures) ∙ c .if1 .taken)
 
@@ -16,14 +13,11 @@ returns-2 c =
     let a = c .before .before .before .before .args in
     simp (sym (c .before .before .is-linear .ensures) ∙ c .before .if1 .left, lt-ltb (a .room) (a .need) (c .if2 .taken))
 
-knots-requires : tie.Need-knots-requires
-knots-requires c κs = search needs
-
 returns-3 : tie.Need-returns-3
 returns-3 c =
-    let b = c .before .before in
-    let a = b .before .before .before .args in
-    simp (sym (b .before .is-linear .ensures) ∙ b .if1 .left, le-ltb (a .room) (a .need) (c .before .if2 .left)) (c .knots .ensures)
+    let a = c .before .before .before .before .before .args in
+    simp (sym (c .before .before .before .is-linear .ensures) ∙ c .before .before .if1 .left, le-ltb (a .room) (a .need) (c .before .if2 .left))
+    (c .knots .ensures)
 
 pub output-verdict-spec : {M : Type 1} → statement M
-output-verdict-spec = tie.close (tie.spec is-linear-requires returns returns-2 knots-requires returns-3)
+output-verdict-spec = tie.close (tie.spec (λ c κs. search needs) returns returns-2 (λ c κs. search needs) returns-3)

@@ -6,15 +6,6 @@ use borrow.Author.Needs.{needs}
 use Rattle.convert.proofs.refusals.segment_verdict.Statement.{statement}
 use Rattle.convert.proofs.refusals.segment_verdict.Tie as tie
 
-segment-length-requires : tie.Need-segment-length-requires
-segment-length-requires c κs = search needs
-
-enum-told : tie.Need-enum-told
-enum-told c = search needs
-
-enum-told-2 : tie.Need-enum-told-2
-enum-told-2 c = search needs
-
 returns : tie.Need-returns
 returns c =
     let a = c .before .before .before .before .args in
@@ -30,12 +21,4 @@ returns-2 c =
     segment-goes-on (a .to) (a .cv .now) (a .room) (l .segment-length .ensures) (c .before .enum-told .given .1) (c .output-verdict .ensures)
 
 pub segment-verdict-spec : {M : Type 1} → statement M
-segment-verdict-spec =
-    tie.close
-    (tie.spec
-    segment-length-requires
-    enum-told
-    enum-told-2
-    returns
-    output-verdict-requires
-    returns-2)
+segment-verdict-spec = tie.close (tie.spec (λ c κs. search needs) (λ c. search needs) (λ c. search needs) returns output-verdict-requires returns-2)

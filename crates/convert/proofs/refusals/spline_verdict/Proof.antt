@@ -6,15 +6,6 @@ use borrow.Author.Needs.{needs}
 use Rattle.convert.proofs.refusals.spline_verdict.Statement.{statement}
 use Rattle.convert.proofs.refusals.spline_verdict.Tie as tie
 
-curve-length-requires : tie.Need-curve-length-requires
-curve-length-requires c κs = search needs
-
-enum-told : tie.Need-enum-told
-enum-told c = search needs
-
-enum-told-2 : tie.Need-enum-told-2
-enum-told-2 c = search needs
-
 returns : tie.Need-returns
 returns c =
     let a = c .before .before .before .before .args in
@@ -22,8 +13,8 @@ returns c =
 
 output-length-requires : tie.Need-output-length-requires
 output-length-requires c κs =
-    let l = c .before .before in
-    let h = length-passed (l .before .before .args .from) _ (sym (l .curve-length .ensures) ∙ c .enum-told .given .1) in
+    let h =
+    length-passed (c .before .before .before .before .args .from) _ (sym (c .before .before .curve-length .ensures) ∙ c .enum-told .given .1) in
     (h .least, h .most)
 
 output-verdict-requires : tie.Need-output-verdict-requires
@@ -41,11 +32,4 @@ returns-2 c =
 pub spline-verdict-spec : {M : Type 1} → statement M
 spline-verdict-spec =
     tie.close
-    (tie.spec
-    curve-length-requires
-    enum-told
-    enum-told-2
-    returns
-    output-length-requires
-    output-verdict-requires
-    returns-2)
+    (tie.spec (λ c κs. search needs) (λ c. search needs) (λ c. search needs) returns output-length-requires output-verdict-requires returns-2)

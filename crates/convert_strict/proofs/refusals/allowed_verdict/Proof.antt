@@ -6,15 +6,6 @@ use borrow.Author.Needs.{needs}
 use Rattle.convert_strict.proofs.refusals.allowed_verdict.Statement.{statement}
 use Rattle.convert_strict.proofs.refusals.allowed_verdict.Tie as tie
 
-curve-length-requires : tie.Need-curve-length-requires
-curve-length-requires c κs = search needs
-
-enum-told : tie.Need-enum-told
-enum-told c = search needs
-
-enum-told-2 : tie.Need-enum-told-2
-enum-told-2 c = search needs
-
 returns : tie.Need-returns
 returns c =
     let a = c .before .before .before .before .args in
@@ -32,12 +23,4 @@ returns-2 c =
     (c .before .enum-told .given .1) (c .later-verdict .ensures)
 
 pub allowed-verdict-spec : {M : Type 1} → statement M
-allowed-verdict-spec =
-    tie.close
-    (tie.spec
-    curve-length-requires
-    enum-told
-    enum-told-2
-    returns
-    later-verdict-requires
-    returns-2)
+allowed-verdict-spec = tie.close (tie.spec (λ c κs. search needs) (λ c. search needs) (λ c. search needs) returns later-verdict-requires returns-2)

@@ -6,16 +6,10 @@ use borrow.Author.Needs.{needs}
 use Rattle.convert_strict.proofs.refusals.later_verdict.Statement.{statement}
 use Rattle.convert_strict.proofs.refusals.later_verdict.Tie as tie
 
-is-linear-requires : tie.Need-is-linear-requires
-is-linear-requires c κs = search needs
-
 returns : tie.Need-returns
 returns c =
     let a = c .before .before .before .args in
     by-linear (a .from) (a .to) (a .knots .now) (a .allowance) (a .room) (sym (c .before .is-linear .ensures) ∙ c .if1 .taken)
-
-is-allowance-requires : tie.Need-is-allowance-requires
-is-allowance-requires c κs = search needs
 
 returns-2 : tie.Need-returns-2
 returns-2 c =
@@ -40,12 +34,4 @@ returns-3 c =
 
 pub later-verdict-spec : {M : Type 1} → statement M
 later-verdict-spec =
-    tie.close
-    (tie.spec
-    is-linear-requires
-    returns
-    is-allowance-requires
-    returns-2
-    output-length-requires
-    output-verdict-requires
-    returns-3)
+    tie.close (tie.spec (λ c κs. search needs) returns (λ c κs. search needs) returns-2 output-length-requires output-verdict-requires returns-3)

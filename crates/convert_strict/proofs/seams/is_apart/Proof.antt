@@ -5,11 +5,8 @@ use borrow.Author.Needs.{needs}
 use Rattle.convert_strict.proofs.seams.is_apart.Statement.{statement}
 use Rattle.convert_strict.proofs.seams.is_apart.Tie as tie
 
-magnitude-requires : tie.Need-magnitude-requires
-magnitude-requires c κs = search needs
-
 returns : tie.Need-returns
 returns c = ap (λ (x : Float). lt (c .before .args .allowance) x) (c .magnitude .ensures)
 
 pub is-apart-spec : {M : Type 1} → statement M
-is-apart-spec = tie.close (tie.spec magnitude-requires returns)
+is-apart-spec = tie.close (tie.spec (λ c κs. search needs) returns)

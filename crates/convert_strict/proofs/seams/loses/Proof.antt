@@ -6,25 +6,16 @@ use borrow.Author.Needs.{needs}
 use Rattle.convert_strict.proofs.seams.loses.Statement.{statement}
 use Rattle.convert_strict.proofs.seams.loses.Tie as tie
 
-is-apart-requires : tie.Need-is-apart-requires
-is-apart-requires c κs = search needs
-
 returns : tie.Need-returns
 returns c =
     let a = c .before .before .before .args in
     yes-11 (a .allowance) (a .w) (a .h) (a .stride) (c .before .before .if1 .taken) (sym (c .before .is-apart .ensures) ∙ c .if2 .taken)
-
-is-apart-requires-2 : tie.Need-is-apart-requires-2
-is-apart-requires-2 c κs = search needs
 
 returns-2 : tie.Need-returns-2
 returns-2 c =
     let a = c .before .before .before .before .before .args in
     yes-12 (a .allowance) (a .w) (a .h) (a .stride) (c .before .before .before .before .if1 .taken)
     (sym (c .before .before .before .is-apart .ensures) ∙ c .before .before .if2 .left) (sym (c .before .is-apart2 .ensures) ∙ c .if3 .taken)
-
-is-apart-requires-3 : tie.Need-is-apart-requires-3
-is-apart-requires-3 c κs = search needs
 
 returns-3 : tie.Need-returns-3
 returns-3 c =
@@ -33,25 +24,16 @@ returns-3 c =
     (sym (c .before .before .before .before .is-apart .ensures) ∙ c .before .before .before .if2 .left)
     (sym (c .before .before .is-apart2 .ensures) ∙ c .before .if3 .left) (c .is-apart3 .ensures)
 
-is-apart-requires-4 : tie.Need-is-apart-requires-4
-is-apart-requires-4 c κs = search needs
-
 returns-4 : tie.Need-returns-4
 returns-4 c =
     let a = c .before .before .before .before .args in
     yes-21 (a .allowance) (a .w) (a .h) (a .stride) (c .before .before .if4 .taken) (sym (c .before .is-apart4 .ensures) ∙ c .if5 .taken)
-
-is-apart-requires-5 : tie.Need-is-apart-requires-5
-is-apart-requires-5 c κs = search needs
 
 returns-5 : tie.Need-returns-5
 returns-5 c =
     let a = c .before .before .before .before .before .args in
     yes-22 (a .allowance) (a .w) (a .h) (a .stride) (c .before .before .before .if4 .taken)
     (sym (c .before .before .is-apart4 .ensures) ∙ c .before .if5 .left) (c .is-apart5 .ensures)
-
-is-apart-requires-6 : tie.Need-is-apart-requires-6
-is-apart-requires-6 c κs = search needs
 
 returns-6 : tie.Need-returns-6
 returns-6 c =
@@ -65,18 +47,5 @@ returns-7 c =
 
 pub loses-spec : {M : Type 1} → statement M
 loses-spec =
-    tie.close
-    (tie.spec
-    is-apart-requires
-    returns
-    is-apart-requires-2
-    returns-2
-    is-apart-requires-3
-    returns-3
-    is-apart-requires-4
-    returns-4
-    is-apart-requires-5
-    returns-5
-    is-apart-requires-6
-    returns-6
-    returns-7)
+    tie.close (tie.spec (λ c κs. search needs) returns (λ c κs. search needs) returns-2 (λ c κs. search needs) returns-3 (λ c κs. search needs)
+    returns-4 (λ c κs. search needs) returns-5 (λ c κs. search needs) returns-6 returns-7)

@@ -11,7 +11,7 @@ returns-2 : tie.Need-returns-2
 returns-2 c = shift-2 (c .before .before .args .stride) (c .before .before .args .h) (c .before .before .args .w) (c .if2 .taken)
 
 returns-3 : tie.Need-returns-3
-returns-3 c = shift-3 (c .before .before .before .args .stride) (c .before .before .before .args .h) (c .before .before .before .args .w) (c .if3 .taken)
+returns-3 c = let start = c .before .before .before in shift-3 (start .args .stride) (start .args .h) (start .args .w) (c .if3 .taken)
 
 returns-4 : tie.Need-returns-4
 returns-4 c = shift-4 (c .before .before .before .args .stride) (c .before .before .before .args .h) (c .before .before .before .args .w)

@@ -1,14 +1,14 @@
 -- At most 4097: so it fits the signed number, which is then the same number, and a double holds it.
 use native.Mathlib.Omega.{arith}
 use mathlib.Core.Path.{_≡_, sym, ap, subst}
-use Prim.Native.Nat.{ℕ, _≤_, _<_, _^_}
+use Prim.Native.Nat.{ℕ, _≤_}
 use lib.IntN.{ℤ, pos}
 use lib.Dec.{T, le→leb}
 use lib.Ieee.{inFloat, ofInt, binary64}
 use mir.Val.{SFits, toZ}
 use mir.Syntax.{w64}
 use mir.Facts.{toZ-ofZ}
-use borrow.Author.Needs.{needs, sfits-of}
+use borrow.Author.Needs.{sfits-of}
 use Rattle.doubles.proofs.whole.double_of.Statement.{statement}
 use Rattle.doubles.proofs.whole.double_of.Tie as tie
 

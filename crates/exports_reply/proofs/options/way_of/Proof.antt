@@ -10,12 +10,6 @@ use Rattle.exports_reply.specs.Options.{rules, methodOf, wayOf}
 use Rattle.exports_reply.proofs.options.way_of.Statement.{statement}
 use Rattle.exports_reply.proofs.options.way_of.Tie as tie
 
-by-method-requires : tie.Need-by-method-requires
-by-method-requires c κs = search needs
-
-by-method-requires-2 : tie.Need-by-method-requires-2
-by-method-requires-2 c κs = search needs
-
 returns : tie.Need-returns
 returns c = c .by-method .ensures ∙ ap (λ (n : ℕ). wayOf n (c .before .before .args .method)) (sym (c .before .match .keys1))
 
@@ -28,4 +22,4 @@ returns-3 c =
     (omega (arith, c .match .rest .0 .1, c .match .rest .1)))
 
 pub way-of-spec : {M : Type 1} → statement M
-way-of-spec = tie.close (tie.spec by-method-requires by-method-requires-2 returns returns-2 returns-3)
+way-of-spec = tie.close (tie.spec (λ c κs. search needs) (λ c κs. search needs) returns returns-2 returns-3)

@@ -6,42 +6,22 @@ use borrow.Author.Needs.{needs}
 use Rattle.inverse.proofs.refusals.verdict.Statement.{statement}
 use Rattle.inverse.proofs.refusals.verdict.Tie as tie
 
-curve-length-requires : tie.Need-curve-length-requires
-curve-length-requires c κs = search needs
-
-enum-told : tie.Need-enum-told
-enum-told c = search needs
-
-enum-told-2 : tie.Need-enum-told-2
-enum-told-2 c = search needs
-
 returns : tie.Need-returns
 returns c =
     let a = c .before .before .before .before .args in
     by-length (a .b) (a .y) (a .knots .now) (a .check) (a .limit) (a .precision) (c .before .before .curve-length .ensures) (c .enum-told2 .given .1)
 
-asked-requires : tie.Need-asked-requires
-asked-requires c κs = search needs
-
-enum-told-3 : tie.Need-enum-told-3
-enum-told-3 c = search needs
-
-enum-told-4 : tie.Need-enum-told-4
-enum-told-4 c = search needs
-
 returns-2 : tie.Need-returns-2
 returns-2 c =
-    let q = c .before .before in
-    let l = q .before .before .before in
+    let l = c .before .before .before .before .before in
     let a = l .before .before .args in
-    by-asked (a .b) (a .y) (a .knots .now) (a .check) (a .limit) (a .precision) (l .curve-length .ensures) (q .before .enum-told .given .1)
-    (q .asked .ensures) (c .enum-told4 .given .1)
+    by-asked (a .b) (a .y) (a .knots .now) (a .check) (a .limit) (a .precision) (l .curve-length .ensures)
+    (c .before .before .before .enum-told .given .1) (c .before .before .asked .ensures) (c .enum-told4 .given .1)
 
 knots-verdict-requires : tie.Need-knots-verdict-requires
 knots-verdict-requires c κs =
-    let q = c .before .before in
-    let l = q .before .before .before in
-    let p = length-passed (l .before .before .args .b) _ (sym (l .curve-length .ensures) ∙ q .before .enum-told .given .1) in
+    let l = c .before .before .before .before .before in
+    let p = length-passed (l .before .before .args .b) _ (sym (l .curve-length .ensures) ∙ c .before .before .before .enum-told .given .1) in
     (p .least, p .most)
 
 returns-3 : tie.Need-returns-3
@@ -54,15 +34,5 @@ returns-3 c =
 
 pub verdict-spec : {M : Type 1} → statement M
 verdict-spec =
-    tie.close
-    (tie.spec
-    curve-length-requires
-    enum-told
-    enum-told-2
-    returns
-    asked-requires
-    enum-told-3
-    enum-told-4
-    returns-2
-    knots-verdict-requires
-    returns-3)
+    tie.close (tie.spec (λ c κs. search needs) (λ c. search needs) (λ c. search needs) returns (λ c κs. search needs) (λ c. search needs)
+    (λ c. search needs) returns-2 knots-verdict-requires returns-3)

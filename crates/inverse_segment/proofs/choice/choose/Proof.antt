@@ -6,19 +6,10 @@ use borrow.Author.Needs.{needs}
 use Rattle.inverse_segment.proofs.choice.choose.Statement.{statement}
 use Rattle.inverse_segment.proofs.choice.choose.Tie as tie
 
-enum-told : tie.Need-enum-told
-enum-told c = search needs
-
-chord-requires : tie.Need-chord-requires
-chord-requires c κs = search needs
-
 returns : tie.Need-returns
 returns c =
     let a = c .before .before .args in
     by-chord (a .how) (a .y) (a .regula-falsi) (a .width) (a .st) (first-two (a .how) (c .before .match .keys2)) (c .chord .ensures)
-
-paced-requires : tie.Need-paced-requires
-paced-requires c κs = search needs
 
 returns-2 : tie.Need-returns-2
 returns-2 c =
@@ -26,4 +17,4 @@ returns-2 c =
     by-pace (a .how) (a .y) (a .regula-falsi) (a .width) (a .st) (sym (ap ruleOf (c .before .enum-told .given .1))) (c .paced .ensures)
 
 pub choose-spec : {M : Type 1} → statement M
-choose-spec = tie.close (tie.spec enum-told chord-requires returns paced-requires returns-2)
+choose-spec = tie.close (tie.spec (λ c. search needs) (λ c κs. search needs) returns (λ c κs. search needs) returns-2)

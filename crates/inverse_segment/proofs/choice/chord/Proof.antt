@@ -5,21 +5,11 @@ use borrow.Author.Needs.{needs}
 use Rattle.inverse_segment.proofs.choice.chord.Statement.{statement}
 use Rattle.inverse_segment.proofs.choice.chord.Tie as tie
 
-weighed-requires : tie.Need-weighed-requires
-weighed-requires c κs = search needs
-
-fraction-requires : tie.Need-fraction-requires
-fraction-requires c κs = search needs
-
-lerp-requires : tie.Need-lerp-requires
-lerp-requires c κs = search needs
-
 returns : tie.Need-returns
 returns c =
-    let at-weighed = c .before .before in
-    let start = at-weighed .before in
-    λ limit i e. chord-is (weightingOf (start .args .how)) limit i _ _ _ e (at-weighed .weighed .ensures) (c .before .fraction .ensures)
+    let start = c .before .before .before in
+    λ limit i e. chord-is (weightingOf (start .args .how)) limit i _ _ _ e (c .before .before .weighed .ensures) (c .before .fraction .ensures)
     (c .lerp .ensures)
 
 pub chord-spec : {M : Type 1} → statement M
-chord-spec = tie.close (tie.spec weighed-requires fraction-requires lerp-requires returns)
+chord-spec = tie.close (tie.spec (λ c κs. search needs) (λ c κs. search needs) (λ c κs. search needs) returns)

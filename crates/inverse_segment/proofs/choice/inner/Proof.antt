@@ -9,19 +9,13 @@ returns : tie.Need-returns
 unfolding inner ofBits
 returns c = simp (c .before .before .if1 .taken, c .if2 .taken)
 
-lerp-requires : tie.Need-lerp-requires
-lerp-requires c κs = search needs
-
 returns-2 : tie.Need-returns-2
 unfolding inner ofBits
 returns-2 c = simp (c .before .before .before .if1 .taken, c .before .if2 .left) (c .lerp .ensures)
-
-lerp-requires-2 : tie.Need-lerp-requires-2
-lerp-requires-2 c κs = search needs
 
 returns-3 : tie.Need-returns-3
 unfolding inner ofBits
 returns-3 c = simp (c .before .if1 .left) (c .lerp2 .ensures)
 
 pub inner-spec : {M : Type 1} → statement M
-inner-spec = tie.close (tie.spec returns lerp-requires returns-2 lerp-requires-2 returns-3)
+inner-spec = tie.close (tie.spec returns (λ c κs. search needs) returns-2 (λ c κs. search needs) returns-3)

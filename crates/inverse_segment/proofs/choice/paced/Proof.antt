@@ -6,21 +6,9 @@ use borrow.Author.Needs.{needs}
 use Rattle.inverse_segment.proofs.choice.paced.Statement.{statement}
 use Rattle.inverse_segment.proofs.choice.paced.Tie as tie
 
-lerp-requires : tie.Need-lerp-requires
-lerp-requires c κs = search needs
-
 returns : tie.Need-returns
 unfolding ofBits
 returns c = λ limit i e. paced-middle limit i _ _ _ e _ (c .before .if1 .taken) (c .lerp .ensures)
-
-weighed-requires : tie.Need-weighed-requires
-weighed-requires c κs = search needs
-
-lerp-requires-2 : tie.Need-lerp-requires-2
-lerp-requires-2 c κs = search needs
-
-inner-requires : tie.Need-inner-requires
-inner-requires c κs = search needs
 
 returns-2 : tie.Need-returns-2
 unfolding ofBits
@@ -29,4 +17,4 @@ returns-2 c =
     (c .before .before .before .before .weighed .ensures) refl (c .before .lerp2 .ensures) (c .inner .ensures)
 
 pub paced-spec : {M : Type 1} → statement M
-paced-spec = tie.close (tie.spec lerp-requires returns weighed-requires lerp-requires-2 inner-requires returns-2)
+paced-spec = tie.close (tie.spec (λ c κs. search needs) returns (λ c κs. search needs) (λ c κs. search needs) (λ c κs. search needs) returns-2)

@@ -3,24 +3,6 @@ use borrow.Author.Needs.{needs}
 use Rattle.inverse_segment.proofs.choice.reweighed.Statement.{statement}
 use Rattle.inverse_segment.proofs.choice.reweighed.Tie as tie
 
-enum-told : tie.Need-enum-told
-enum-told c = search needs
-
-halved-requires : tie.Need-halved-requires
-halved-requires c κs = search needs
-
-enum-told-2 : tie.Need-enum-told-2
-enum-told-2 c = search needs
-
-toward-requires : tie.Need-toward-requires
-toward-requires c κs = search needs
-
-enum-told-3 : tie.Need-enum-told-3
-enum-told-3 c = search needs
-
-toward-requires-2 : tie.Need-toward-requires-2
-toward-requires-2 c κs = search needs
-
 returns : tie.Need-returns
 returns c = rw (c .before .enum-told .given .1) (c .halved .ensures)
 
@@ -32,4 +14,5 @@ returns-3 c = rw (c .before .enum-told3 .given .1) (c .toward2 .ensures)
 
 pub reweighed-spec : {M : Type 1} → statement M
 reweighed-spec =
-    tie.close (tie.spec enum-told halved-requires enum-told-2 toward-requires enum-told-3 toward-requires-2 returns returns-2 returns-3)
+    tie.close (tie.spec (λ c. search needs) (λ c κs. search needs) (λ c. search needs) (λ c κs. search needs) (λ c. search needs)
+    (λ c κs. search needs) returns returns-2 returns-3)

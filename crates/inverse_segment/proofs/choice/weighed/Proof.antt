@@ -5,9 +5,6 @@ use borrow.Author.Needs.{needs}
 use Rattle.inverse_segment.proofs.choice.weighed.Statement.{statement}
 use Rattle.inverse_segment.proofs.choice.weighed.Tie as tie
 
-reweighed-requires : tie.Need-reweighed-requires
-reweighed-requires c κs = search needs
-
 returns : tie.Need-returns
 unfolding weighed
 returns c = simp (c .before .before .before .before .if1 .taken, lt-ltb _ _ (c .before .before .if2 .taken)) (c .reweighed .ensures)
@@ -21,4 +18,4 @@ unfolding weighed
 returns-3 c = simp (c .if1 .left)
 
 pub weighed-spec : {M : Type 1} → statement M
-weighed-spec = tie.close (tie.spec reweighed-requires returns returns-2 returns-3)
+weighed-spec = tie.close (tie.spec (λ c κs. search needs) returns returns-2 returns-3)

@@ -6,41 +6,22 @@ use borrow.Author.Needs.{needs}
 use Rattle.inverse_segment.proofs.refusals.segment_verdict.Statement.{statement}
 use Rattle.inverse_segment.proofs.refusals.segment_verdict.Tie as tie
 
-segment-length-requires : tie.Need-segment-length-requires
-segment-length-requires c κs = search needs
-
-enum-told : tie.Need-enum-told
-enum-told c = search needs
-
-enum-told-2 : tie.Need-enum-told-2
-enum-told-2 c = search needs
-
 returns : tie.Need-returns
 returns c =
     let a = c .before .before .before .before .args in
     by-length (a .y) (a .cv .now) (a .limit) (a .precision) (c .before .before .segment-length .ensures) (c .enum-told2 .given .1)
 
-asked-requires : tie.Need-asked-requires
-asked-requires c κs = search needs
-
-enum-told-3 : tie.Need-enum-told-3
-enum-told-3 c = search needs
-
-enum-told-4 : tie.Need-enum-told-4
-enum-told-4 c = search needs
-
 returns-2 : tie.Need-returns-2
 returns-2 c =
-    let q = c .before .before in
-    let l = q .before .before .before in
+    let l = c .before .before .before .before .before in
     let a = l .before .before .args in
-    by-asked (a .y) (a .cv .now) (a .limit) (a .precision) (l .segment-length .ensures) (q .before .enum-told .given .1) (q .asked .ensures)
-    (c .enum-told4 .given .1)
+    by-asked (a .y) (a .cv .now) (a .limit) (a .precision) (l .segment-length .ensures) (c .before .before .before .enum-told .given .1)
+    (c .before .before .asked .ensures) (c .enum-told4 .given .1)
 
 knots-requires : tie.Need-knots-requires
 knots-requires c κs =
-    let q = c .before .before in
-    segment-length-passed _ (sym (q .before .before .before .segment-length .ensures) ∙ q .before .enum-told .given .1)
+    segment-length-passed _
+    (sym (c .before .before .before .before .before .segment-length .ensures) ∙ c .before .before .before .enum-told .given .1)
 
 returns-3 : tie.Need-returns-3
 returns-3 c =
@@ -52,15 +33,5 @@ returns-3 c =
 
 pub segment-verdict-spec : {M : Type 1} → statement M
 segment-verdict-spec =
-    tie.close
-    (tie.spec
-    segment-length-requires
-    enum-told
-    enum-told-2
-    returns
-    asked-requires
-    enum-told-3
-    enum-told-4
-    returns-2
-    knots-requires
-    returns-3)
+    tie.close (tie.spec (λ c κs. search needs) (λ c. search needs) (λ c. search needs) returns (λ c κs. search needs) (λ c. search needs)
+    (λ c. search needs) returns-2 knots-requires returns-3)

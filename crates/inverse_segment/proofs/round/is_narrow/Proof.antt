@@ -5,9 +5,6 @@ use borrow.Author.Needs.{needs}
 use Rattle.inverse_segment.proofs.round.is_narrow.Statement.{statement}
 use Rattle.inverse_segment.proofs.round.is_narrow.Tie as tie
 
-magnitude-requires : tie.Need-magnitude-requires
-magnitude-requires c κs = search needs
-
 returns : tie.Need-returns
 unfolding narrow ofBits
 returns c = simp (← c .before .magnitude .ensures, c .if1 .taken)
@@ -17,4 +14,4 @@ unfolding narrow ofBits
 returns-2 c = simp (← c .before .magnitude .ensures, c .if1 .left)
 
 pub is-narrow-spec : {M : Type 1} → statement M
-is-narrow-spec = tie.close (tie.spec magnitude-requires returns returns-2)
+is-narrow-spec = tie.close (tie.spec (λ c κs. search needs) returns returns-2)

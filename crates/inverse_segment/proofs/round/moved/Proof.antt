@@ -7,12 +7,6 @@ use borrow.Author.Needs.{needs}
 use Rattle.inverse_segment.proofs.round.moved.Statement.{statement}
 use Rattle.inverse_segment.proofs.round.moved.Tie as tie
 
-add-t12 : tie.Need-add-t12
-add-t12 c = search needs
-
-add-t15 : tie.Need-add-t15
-add-t15 c = search needs
-
 returns : tie.Need-returns
 unfolding moved
 returns c = (simp (c .before .before .before .if1 .taken, eq-eqb _ _ (c .before .if2 .taken), add-one), omega arith)
@@ -30,4 +24,4 @@ unfolding moved
 returns-4 c = (simp (c .before .before .if1 .left, ne-eqb _ _ (c .if3 .left)), omega arith)
 
 pub moved-spec : {M : Type 1} → statement M
-moved-spec = tie.close (tie.spec add-t12 add-t15 returns returns-2 returns-3 returns-4)
+moved-spec = tie.close (tie.spec (λ c. search needs) (λ c. search needs) returns returns-2 returns-3 returns-4)

@@ -9,54 +9,28 @@ use borrow.Author.Needs.{needs}
 use Rattle.inverse_segment.proofs.round.round.Statement.{statement}
 use Rattle.inverse_segment.proofs.round.round.Tie as tie
 
-is-narrow-requires : tie.Need-is-narrow-requires
-is-narrow-requires c κs = search needs
-
-lerp-requires : tie.Need-lerp-requires
-lerp-requires c κs = search needs
-
 returns : tie.Need-returns
 unfolding ofBits
 returns c =
-    let at-is-narrow = c .before .before in
-    let start = at-is-narrow .before .before in (
-      (λ limit i e d s ev k. round-width (ruleOf (start .args .how)) (hornerOf (start .args .w)) _ _ _ _ _ limit i s ev k (sym (c .before .if1 .taken) ∙
-          at-is-narrow .is-narrow .ensures) (c .lerp .ensures)),
+    let start = c .before .before .before .before in (
+      (λ limit i e d s ev k. round-width (ruleOf (start .args .how)) (hornerOf (start .args .w)) _ _ _ _ _ limit i s ev k
+          (sym (c .before .if1 .taken) ∙ c .before .before .is-narrow .ensures) (c .lerp .ensures)),
       (omega arith, omega arith),
     )
 
-choose-requires : tie.Need-choose-requires
-choose-requires c κs = search needs
-
-horner-requires : tie.Need-horner-requires
-horner-requires c κs = search needs
-
-moved-requires : tie.Need-moved-requires
-moved-requires c κs = search needs
-
-magnitude-requires : tie.Need-magnitude-requires
-magnitude-requires c κs = search needs
-
-add-t25 : tie.Need-add-t25
-add-t25 c = search needs
-
 returns-2 : tie.Need-returns-2
 returns-2 c =
-    let at-magnitude = c .before .before in
-    let at-moved = at-magnitude .before in
+    let at-moved = c .before .before .before in
     let at-horner = at-moved .before in
     let at-choose = at-horner .before .before in
     let at-if1 = at-choose .before in
     let at-is-narrow = at-if1 .before in
     let start = at-is-narrow .before .before in (
-      (λ limit i e d s ev k. round-value (ruleOf (start .args .how)) (hornerOf (start .args .w)) _ _ _ _ _ limit i s ev k (sym (at-if1 .if1 .left) ∙
-          at-is-narrow .is-narrow .ensures) (at-choose .choose .ensures limit i e d) (at-horner .horner .ensures) (at-moved .moved .ensures .0)
-          (at-magnitude .magnitude .ensures) (c .before .if2 .taken)),
+      (λ limit i e d s ev k. round-value (ruleOf (start .args .how)) (hornerOf (start .args .w)) _ _ _ _ _ limit i s ev k
+          (sym (at-if1 .if1 .left) ∙ at-is-narrow .is-narrow .ensures) (at-choose .choose .ensures limit i e d) (at-horner .horner .ensures)
+          (at-moved .moved .ensures .0) (c .before .before .magnitude .ensures) (c .before .if2 .taken)),
       (omega arith, omega arith),
     )
-
-add-t26 : tie.Need-add-t26
-add-t26 c = search needs
 
 returns-3 : tie.Need-returns-3
 returns-3 c =
@@ -74,16 +48,5 @@ returns-3 c =
 
 pub round-spec : {M : Type 1} → statement M
 round-spec =
-    tie.close
-    (tie.spec
-    is-narrow-requires
-    lerp-requires
-    returns
-    choose-requires
-    horner-requires
-    moved-requires
-    magnitude-requires
-    add-t25
-    returns-2
-    add-t26
-    returns-3)
+    tie.close (tie.spec (λ c κs. search needs) (λ c κs. search needs) returns (λ c κs. search needs) (λ c κs. search needs) (λ c κs. search needs)
+    (λ c κs. search needs) (λ c. search needs) returns-2 (λ c. search needs) returns-3)

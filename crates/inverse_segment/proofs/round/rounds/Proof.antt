@@ -23,9 +23,6 @@ Inv-loop how w y precision rising limit n most early st₀ width₀ i₀ count�
 abbrev μ-loop : tie.MeasureT-loop
 μ-loop how w y precision rising limit n most early st₀ width₀ i₀ count₀ st width i count = limit - i
 
-mul-early : tie.Need-mul-early Inv-loop μ-loop
-mul-early c = search needs
-
 loop-holds : tie.Need-loop-holds Inv-loop μ-loop
 unfolding ofBits
 loop-holds c = (
@@ -39,20 +36,8 @@ loop-holds c = (
       (start (c .args .first)) (c .args .n),
 )
 
-uses-regula-falsi-requires : tie.Need-uses-regula-falsi-requires Inv-loop μ-loop
-uses-regula-falsi-requires c κs = search needs
-
 round-requires : tie.Need-round-requires Inv-loop μ-loop
 round-requires c κs = omega arith
-
-enum-known-t : tie.Need-enum-known-t Inv-loop μ-loop
-enum-known-t c = search needs
-
-enum-known-t-2 : tie.Need-enum-known-t-2 Inv-loop μ-loop
-enum-known-t-2 c = search needs
-
-stopped-requires : tie.Need-stopped-requires Inv-loop μ-loop
-stopped-requires c κs = search needs
 
 returns : tie.Need-returns Inv-loop μ-loop
 returns c =
@@ -86,38 +71,15 @@ loop-again c =
           (a .limit) (l .loop .i) (l .loop .st) (r .before .uses-regula-falsi .ensures) (l .loop .inv .1)) (l .loop .inv .5)) (c .before .t .given .1),
     )
 
-lerp-requires : tie.Need-lerp-requires Inv-loop μ-loop
-lerp-requires c κs = search needs
-
-stopped-requires-2 : tie.Need-stopped-requires-2 Inv-loop μ-loop
-stopped-requires-2 c κs = search needs
-
 returns-2 : tie.Need-returns-2 Inv-loop μ-loop
 unfolding ofBits
 returns-2 c =
     let l = c .before .before .before .before in
     let a = l .before .args in
-    λ s ev k. c .stopped2 .ensures
-    ∙ led-spent (ruleOf (a .how)) (hornerOf (a .w)) (a .y) (a .precision) (a .rising) (a .limit) (start (a .first)) (a .n) (l .loop .i) (l .loop .count)
-    (l .loop .st) (omega arith) (c .before .lerp .ensures) (l .loop .inv .6) s ev k
+    λ s ev k. c .stopped2 .ensures ∙ led-spent (ruleOf (a .how)) (hornerOf (a .w)) (a .y) (a .precision) (a .rising) (a .limit) (start (a .first))
+    (a .n) (l .loop .i) (l .loop .count) (l .loop .st) (omega arith) (c .before .lerp .ensures) (l .loop .inv .6) s ev k
 
 pub rounds-spec : {M : Type 1} → statement M
 rounds-spec =
-    tie.close
-    (tie.spec
-    Inv-loop
-    μ-loop
-    mul-early
-    loop-holds
-    uses-regula-falsi-requires
-    round-requires
-    enum-known-t
-    enum-known-t-2
-    stopped-requires
-    returns
-    add-i
-    loop-less
-    loop-again
-    lerp-requires
-    stopped-requires-2
-    returns-2)
+    tie.close (tie.spec Inv-loop μ-loop (λ c. search needs) loop-holds (λ c κs. search needs) round-requires (λ c. search needs) (λ c. search needs)
+    (λ c κs. search needs) returns add-i loop-less loop-again (λ c κs. search needs) (λ c κs. search needs) returns-2)

@@ -5,21 +5,6 @@ use Rattle.text.proofs.Writing.{nothing}
 use Rattle.picture.proofs.draw.put_knot.Statement.{statement}
 use Rattle.picture.proofs.draw.put_knot.Tie as tie
 
-is-shown-requires : tie.Need-is-shown-requires
-is-shown-requires c κs = search needs
-
-knot-column-requires : tie.Need-knot-column-requires
-knot-column-requires c κs = search needs
-
-height-requires : tie.Need-height-requires
-height-requires c κs = search needs
-
-put-dot-requires : tie.Need-put-dot-requires
-put-dot-requires c κs = search needs
-
-same-length : tie.Need-same-length
-same-length c = search needs
-
 returns : tie.Need-returns
 returns c = (
   rw (← c .before .before .before .before .before .before .before .is-shown .ensures, c .before .before .before .before .before .before .if1 .taken)
@@ -34,11 +19,4 @@ returns-2 c = (rw (← c .before .is-shown .ensures, c .if1 .left) (nothing _ _)
 pub put-knot-spec : {M : Type 1} → statement M
 put-knot-spec =
     tie.close
-    (tie.spec
-    is-shown-requires
-    knot-column-requires
-    height-requires
-    put-dot-requires
-    same-length
-    returns
-    returns-2)
+    (tie.spec (λ c κs. search needs) (λ c κs. search needs) (λ c κs. search needs) (λ c κs. search needs) (λ c. search needs) returns returns-2)

@@ -19,29 +19,20 @@ abbrev μ-loop : tie.MeasureT-loop
 loop-holds : tie.Need-loop-holds Inv-loop μ-loop
 loop-holds c = (omega arith, omega arith, no-knots _ _ _)
 
-mul-put-knot : tie.Need-mul-put-knot Inv-loop μ-loop
-mul-put-knot c = search needs
-
-shared-slice-read-put-knot : tie.Need-shared-slice-read-put-knot Inv-loop μ-loop
-shared-slice-read-put-knot c = search needs
-
 put-knot-requires : tie.Need-put-knot-requires Inv-loop μ-loop
 put-knot-requires c κs =
     (omega arith, (omega arith, (c .before .before .before .before .before .before .pre .1 .0, omega (arith, c .before .before .before .loop .inv .2 .long))))
-
-add-j : tie.Need-add-j Inv-loop μ-loop
-add-j c = search needs
 
 loop-less : tie.Need-loop-less Inv-loop μ-loop
 loop-less c = omega arith
 
 loop-again : tie.Need-loop-again Inv-loop μ-loop
-loop-again c = (
-  omega arith,
-  omega (arith, c .before .before .put-knot .ensures .1),
-  knots-go-on _ _ _ (c .before .before .before .before .before .before .loop .j) (c .before .before .before .before .before .before .loop .inv .2)
-      (c .before .before .put-knot .ensures .0),
-)
+loop-again c =
+    let at-loop = c .before .before .before .before .before .before in (
+      omega arith,
+      omega (arith, c .before .before .put-knot .ensures .1),
+      knots-go-on _ _ _ (at-loop .loop .j) (at-loop .loop .inv .2) (c .before .before .put-knot .ensures .0),
+    )
 
 same-length : tie.Need-same-length Inv-loop μ-loop
 same-length c = c .before .loop .inv .2 .long
@@ -52,16 +43,5 @@ returns c = let z : c .before .loop .j ≡ length (c .before .before .before .be
 
 pub put-knots-spec : {M : Type 1} → statement M
 put-knots-spec =
-    tie.close
-    (tie.spec
-    Inv-loop
-    μ-loop
-    loop-holds
-    mul-put-knot
-    shared-slice-read-put-knot
-    put-knot-requires
-    add-j
-    loop-less
-    loop-again
-    same-length
-    returns)
+    tie.close (tie.spec Inv-loop μ-loop loop-holds (λ c. search needs) (λ c. search needs) put-knot-requires (λ c. search needs) loop-less loop-again
+    same-length returns)

@@ -18,39 +18,26 @@ abbrev μ-loop : tie.MeasureT-loop
 loop-holds : tie.Need-loop-holds Inv-loop μ-loop
 loop-holds c = (omega arith, omega arith, no-points _ _ _ _)
 
-add-loop : tie.Need-add-loop Inv-loop μ-loop
-add-loop c = search needs
-
-column-requires : tie.Need-column-requires Inv-loop μ-loop
-column-requires c κs = search needs
-
 curve-height-requires : tie.Need-curve-height-requires Inv-loop μ-loop
 curve-height-requires c κs = (omega arith, omega arith)
 
 put-point-requires : tie.Need-put-point-requires Inv-loop μ-loop
-put-point-requires c κs = (
-  c .before .before .before .before .before .before .before .pre .0,
-  (
-    omega (arith, c .before .curve-height .ensures .1 .1),
-    omega
-        (arith, c .before .before .before .before .loop .inv .2 .long),
-  ),
-)
-
-add-i : tie.Need-add-i Inv-loop μ-loop
-add-i c = search needs
+put-point-requires c κs =
+    let at-loop = c .before .before .before .before in
+    let start = at-loop .before .before .before in
+    (start .pre .0, (omega (arith, c .before .curve-height .ensures .1 .1), omega (arith, at-loop .loop .inv .2 .long)))
 
 loop-less : tie.Need-loop-less Inv-loop μ-loop
 loop-less c = omega arith
 
 loop-again : tie.Need-loop-again Inv-loop μ-loop
-loop-again c = (
-  omega arith,
-  omega (arith, c .before .before .put-point .ensures .1),
-  points-go-on _ _ _ _ (c .before .before .before .before .before .before .before .loop .i)
-      (c .before .before .before .before .before .column .ensures .0) (c .before .before .before .before .curve-height .ensures .0)
-      (c .before .before .before .before .before .before .before .loop .inv .2) (c .before .before .put-point .ensures .0),
-)
+loop-again c =
+    let at-loop = c .before .before .before .before .before .before .before in (
+      omega arith,
+      omega (arith, c .before .before .put-point .ensures .1),
+      points-go-on _ _ _ _ (at-loop .loop .i) (c .before .before .before .before .before .column .ensures .0)
+          (c .before .before .before .before .curve-height .ensures .0) (at-loop .loop .inv .2) (c .before .before .put-point .ensures .0),
+    )
 
 same-length : tie.Need-same-length Inv-loop μ-loop
 same-length c = c .before .loop .inv .2 .long
@@ -60,17 +47,5 @@ returns c = let z : c .before .loop .i ≡ c .before .before .before .before .ar
 
 pub put-points-spec : {M : Type 1} → statement M
 put-points-spec =
-    tie.close
-    (tie.spec
-    Inv-loop
-    μ-loop
-    loop-holds
-    add-loop
-    column-requires
-    curve-height-requires
-    put-point-requires
-    add-i
-    loop-less
-    loop-again
-    same-length
-    returns)
+    tie.close (tie.spec Inv-loop μ-loop loop-holds (λ c. search needs) (λ c κs. search needs) curve-height-requires put-point-requires
+    (λ c. search needs) loop-less loop-again same-length returns)

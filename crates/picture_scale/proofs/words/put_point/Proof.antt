@@ -5,43 +5,15 @@ use Rattle.text.proofs.Writing.{then}
 use Rattle.picture_scale.proofs.words.put_point.Statement.{statement}
 use Rattle.picture_scale.proofs.words.put_point.Tie as tie
 
-slice-aggregate-put-number : tie.Need-slice-aggregate-put-number
-slice-aggregate-put-number c = search needs
-
-put-number-requires : tie.Need-put-number-requires
-put-number-requires c κs = search needs
-
-slice-aggregate-put-number-2 : tie.Need-slice-aggregate-put-number-2
-slice-aggregate-put-number-2 c = search needs
-
-row-requires : tie.Need-row-requires
-row-requires c κs = search needs
-
-put-number-requires-2 : tie.Need-put-number-requires-2
-put-number-requires-2 c κs = search needs
-
-same-length : tie.Need-same-length
-same-length c = search needs
-
 returns : tie.Need-returns
-returns c = (
-  (then (c .before .before .before .before .before .before .before .before .put-number .ensures .0)
-      (rw (c .before .before .before .row .ensures .0) at (c .before .before .put-number2 .ensures .0))),
-  omega (
-    arith,
-    c .before .before .before .before .before .before .before .before .put-number .ensures .1,
-    c .before .before .put-number2 .ensures .1,
-  ),
-)
+returns c =
+    let at-row = c .before .before .before in
+    let at-put-number = at-row .before .before .before .before .before in (
+      (then (at-put-number .put-number .ensures .0) (rw (at-row .row .ensures .0) at (c .before .before .put-number2 .ensures .0))),
+      omega (arith, at-put-number .put-number .ensures .1, c .before .before .put-number2 .ensures .1),
+    )
 
 pub put-point-spec : {M : Type 1} → statement M
 put-point-spec =
-    tie.close
-    (tie.spec
-    slice-aggregate-put-number
-    put-number-requires
-    slice-aggregate-put-number-2
-    row-requires
-    put-number-requires-2
-    same-length
-    returns)
+    tie.close (tie.spec (λ c. search needs) (λ c κs. search needs) (λ c. search needs) (λ c κs. search needs) (λ c κs. search needs)
+    (λ c. search needs) returns)

@@ -17,12 +17,6 @@ same-for-each : {A : Type 0} (k : BasisChoice) (d : A) (f g : Basis → A) → (
 same-for-each (Known b) d f g same = same b
 same-for-each Unknown d f g same = refl
 
-is-span-requires : tie.Need-is-span-requires
-is-span-requires c κs = search needs
-
-simmerstoat-spline-requires : tie.Need-simmerstoat-spline-requires
-simmerstoat-spline-requires c κs = search needs
-
 returns : tie.Need-returns
 returns c =
     let args = c .before .before .before .before .before .args in
@@ -35,24 +29,6 @@ returns c =
       call .1 ∙ same-for-each k old _ (λ b. valueLeft (tableSplineOf (tableOf (args .span) b) (args .x) (args .knots .now)) old)
           (λ b. ap (λ e. valueLeft e old) (sym (spline-base (tableOf (args .span) b) (args .x) (args .knots .now) good))),
     )
-
-basis-of-requires : tie.Need-basis-of-requires
-basis-of-requires c κs = search needs
-
-enum-known-c : tie.Need-enum-known-c
-enum-known-c c = search needs
-
-enum-told : tie.Need-enum-told
-enum-told c = search needs
-
-returns-2 : tie.Need-returns-2
-returns-2 c = search needs
-
-without-span-requires : tie.Need-without-span-requires
-without-span-requires c κs = search needs
-
-reply-requires : tie.Need-reply-requires
-reply-requires c κs = search needs
 
 returns-3 : tie.Need-returns-3
 returns-3 c =
@@ -72,15 +48,5 @@ returns-3 c =
 
 pub simmerstoat-table-spline-spec : {M : Type 1} → statement M
 simmerstoat-table-spline-spec =
-    tie.close
-    (tie.spec
-    is-span-requires
-    simmerstoat-spline-requires
-    returns
-    basis-of-requires
-    enum-known-c
-    enum-told
-    returns-2
-    without-span-requires
-    reply-requires
-    returns-3)
+    tie.close (tie.spec (λ c κs. search needs) (λ c κs. search needs) returns (λ c κs. search needs) (λ c. search needs) (λ c. search needs)
+    (λ c. search needs) (λ c κs. search needs) (λ c κs. search needs) returns-3)

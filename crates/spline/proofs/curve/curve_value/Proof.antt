@@ -8,16 +8,10 @@ use borrow.Author.Needs.{needs}
 use Rattle.spline.proofs.curve.curve_value.Statement.{statement}
 use Rattle.spline.proofs.curve.curve_value.Tie as tie
 
-segments-requires : tie.Need-segments-requires
-segments-requires c κs = search needs
-
 place-requires : tie.Need-place-requires
 place-requires c κs =
     let a = c .before .before .args in
     (omega (arith, c .segments .ensures), omega (arith, c .segments .ensures, few (length (a .knots .now)) (stepOf (a .b)) (c .before .before .pre .1)))
-
-step-requires : tie.Need-step-requires
-step-requires c κs = search needs
 
 mul-start : tie.Need-mul-start
 mul-start c =
@@ -57,38 +51,22 @@ part-value-in-start c =
           (c .before .place .ensures),
     )
 
-part-value-in-end : tie.Need-part-value-in-end
-part-value-in-end c = search needs
-
 value-in-requires : tie.Need-value-in-requires
 value-in-requires c κs =
-    let p = c .before in
-    let o = p .before .before .before .before in
-    simp (rest, length-drop)
-    (omega (
+    let o = c .before .before .before .before .before in
+    simp (rest, length-drop) (omega (
       arith,
-      starts (o .args .b) (length (o .args .knots .now)) (o .pre .0) (p .before .before .segments .ensures) (p .step .ensures .0)
-          (p .before .place .ensures),
+      starts (o .args .b) (length (o .args .knots .now)) (o .pre .0) (c .before .before .before .segments .ensures) (c .before .step .ensures .0)
+          (c .before .before .place .ensures),
     ))
 
 returns : tie.Need-returns
 returns c =
-    let p = c .before .before in
-    let o = p .before .before .before .before in
-    put-together (o .args .b) (o .args .x) (o .args .knots .now) (p .before .before .segments .ensures) (p .step .ensures .0) (p .before .place .ensures)
-    refl (c .value-in .ensures)
+    let o = c .before .before .before .before .before .before in
+    put-together (o .args .b) (o .args .x) (o .args .knots .now) (c .before .before .before .before .segments .ensures)
+    (c .before .before .step .ensures .0) (c .before .before .before .place .ensures) refl (c .value-in .ensures)
 
 pub curve-value-spec : {M : Type 1} → statement M
 curve-value-spec =
-    tie.close
-    (tie.spec
-    segments-requires
-    place-requires
-    step-requires
-    mul-start
-    mul-value-in
-    sub-value-in
-    part-value-in-start
-    part-value-in-end
-    value-in-requires
-    returns)
+    tie.close (tie.spec (λ c κs. search needs) place-requires (λ c κs. search needs) mul-start mul-value-in sub-value-in part-value-in-start
+    (λ c. search needs) value-in-requires returns)

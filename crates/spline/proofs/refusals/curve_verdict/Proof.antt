@@ -6,15 +6,6 @@ use borrow.Author.Needs.{needs}
 use Rattle.spline.proofs.refusals.curve_verdict.Statement.{statement}
 use Rattle.spline.proofs.refusals.curve_verdict.Tie as tie
 
-curve-length-requires : tie.Need-curve-length-requires
-curve-length-requires c κs = search needs
-
-enum-told : tie.Need-enum-told
-enum-told c = search needs
-
-enum-told-2 : tie.Need-enum-told-2
-enum-told-2 c = search needs
-
 returns : tie.Need-returns
 returns c =
     let a = c .before .before .before .before .args in
@@ -38,6 +29,4 @@ returns-3 c =
     curve-knots (a .b) (a .x) (a .knots .now) (l .curve-length .ensures) (c .before .before .enum-told .given .1) (c .before .if1 .left) (c .knots .ensures)
 
 pub curve-verdict-spec : {M : Type 1} → statement M
-curve-verdict-spec =
-    tie.close
-    (tie.spec curve-length-requires enum-told enum-told-2 returns returns-2 knots-requires returns-3)
+curve-verdict-spec = tie.close (tie.spec (λ c κs. search needs) (λ c. search needs) (λ c. search needs) returns returns-2 knots-requires returns-3)

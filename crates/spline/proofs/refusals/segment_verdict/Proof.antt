@@ -7,22 +7,10 @@ use borrow.Author.Needs.{needs}
 use Rattle.spline.proofs.refusals.segment_verdict.Statement.{statement}
 use Rattle.spline.proofs.refusals.segment_verdict.Tie as tie
 
-segment-length-requires : tie.Need-segment-length-requires
-segment-length-requires c κs = search needs
-
-enum-told : tie.Need-enum-told
-enum-told c = search needs
-
-enum-told-2 : tie.Need-enum-told-2
-enum-told-2 c = search needs
-
 returns : tie.Need-returns
 returns c =
     let a = c .before .before .before .before .args in
     segment-stops (a .x) (a .cv .now) (c .before .before .segment-length .ensures) (c .enum-told2 .given .1)
-
-is-inside-requires : tie.Need-is-inside-requires
-is-inside-requires c κs = search needs
 
 returns-2 : tie.Need-returns-2
 returns-2 c =
@@ -44,12 +32,4 @@ returns-3 c =
 pub segment-verdict-spec : {M : Type 1} → statement M
 segment-verdict-spec =
     tie.close
-    (tie.spec
-    segment-length-requires
-    enum-told
-    enum-told-2
-    returns
-    is-inside-requires
-    returns-2
-    knots-requires
-    returns-3)
+    (tie.spec (λ c κs. search needs) (λ c. search needs) (λ c. search needs) returns (λ c κs. search needs) returns-2 knots-requires returns-3)
