@@ -6,7 +6,7 @@ use simmerstoat::raw;
 use crate::compare::{hold, Input};
 use crate::inputs::{self, Rng, AWKWARD, PRECISIONS};
 use crate::model::{self, Options, RefusalNumber, STEP};
-use crate::parts::Part;
+use crate::part::Part;
 use crate::port::{self, InversionReply};
 use crate::tally::{Call, Tally, DIFFERS, HOLDS, NO_NUMBER};
 

@@ -3,7 +3,7 @@
 use crate::compare;
 use crate::inputs::{self, Rng};
 use crate::model::{Ends, Method, Options};
-use crate::parts::Part;
+use crate::part::Part;
 use crate::port::{self, UNTOUCHED, UNTOUCHED_WHOLE};
 use crate::tally::{Call, Tally, NO_NUMBER};
 

@@ -3,8 +3,8 @@
 use crate::compare;
 use crate::inputs::{self, Rng, LIMITS, PRECISIONS, SEGMENTS};
 use crate::model::{Ends, Options, STEP};
-use crate::parts::Worker;
 use crate::tally::Tally;
+use crate::worker::Worker;
 
 /// Inversions of a whole run whose answer took rounds; those that end at once come on top.
 pub const WANTED: u64 = 10_000_000;

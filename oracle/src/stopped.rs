@@ -5,7 +5,7 @@ use simmerstoat::raw;
 use crate::compare::{hold, inverted, Input};
 use crate::inputs::{self, Rng};
 use crate::model::{self, Ends, Ground, Inversion, Options, STEP};
-use crate::parts::Part;
+use crate::part::Part;
 use crate::port::{UNTOUCHED, UNTOUCHED_WHOLE};
 use crate::table::{self, SPANS};
 use crate::tally::{of_job, of_reply, Call, Tally, NO_NUMBER};

@@ -7,7 +7,7 @@ use crate::compare::{self, hold, Input};
 use crate::crates;
 use crate::inputs::{Rng, AWKWARD};
 use crate::model::{self, RefusalNumber, STEP};
-use crate::parts::Part;
+use crate::part::Part;
 use crate::port::{ConversionReply, UNTOUCHED, UNTOUCHED_WHOLE};
 use crate::tally::{of_reply, Call, Tally};
 

@@ -5,7 +5,7 @@ use simmerstoat::raw;
 use crate::compare::{converted, hold, inverted, valued, Input};
 use crate::inputs::{self, Rng};
 use crate::model::{self, Ends, Fate, Inversion, Method, Options, RefusalNumber};
-use crate::parts::Part;
+use crate::part::Part;
 use crate::port::{ConversionReply, ValueReply, UNTOUCHED, UNTOUCHED_WHOLE};
 use crate::strict;
 use crate::tally::{of_ground, of_reply, Call, Tally};

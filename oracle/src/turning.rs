@@ -2,7 +2,7 @@
 
 use crate::compare::{hold, Input};
 use crate::inputs::Rng;
-use crate::parts::Part;
+use crate::part::Part;
 use crate::tally::{of_reply, of_turning, Call, Tally, PLAIN};
 use crate::whole::{asked, cubics, expected, expected_table, knots, night, table, value, Told, Way, MOST_ROW, WAYS};
 

@@ -7,7 +7,7 @@ use crate::compare::{hold, Input};
 use crate::crates;
 use crate::inputs::{self, Rng};
 use crate::model::{self, Ends, Fate, Method, Options, RefusalNumber, STEP};
-use crate::parts::Part;
+use crate::part::Part;
 use crate::port::{UNTOUCHED, UNTOUCHED_WHOLE};
 use crate::tally::{of_ground, Call, Tally, NO_NUMBER};
 

@@ -6,7 +6,7 @@ use simmerstoat::valve::{mix, Refusal, WHOLE};
 use crate::compare::{hold, Input};
 use crate::crates;
 use crate::inputs::Rng;
-use crate::parts::Part;
+use crate::part::Part;
 use crate::tally::{of_reply, Call, Tally, PLAIN};
 
 pub const PART: Part = Part { once, knots };

@@ -8,10 +8,11 @@ use std::{env, process, thread};
 use judge::compare;
 use judge::inputs::{self, scattered, Rng, AWKWARD, LIMITS, PRECISIONS, SEGMENTS};
 use judge::model::{self, Options, STEP};
-use judge::parts::{Worker, PARTS};
+use judge::parts::PARTS;
 use judge::port::{self, UNTOUCHED, UNTOUCHED_WHOLE};
 use judge::steady;
 use judge::tally::{Call, Tally, NO_NUMBER};
+use judge::worker::Worker;
 
 /// What is run.
 #[derive(Clone, Copy)]
