@@ -1,8 +1,9 @@
 # From what bare.awk prints, a line for each name that a file declares: FILE#NAME, its kind, its statement, all of it; parted by tabs.
-# The kind is pub, private, field (of a record, or a case of a data type) or local (below a where); FILE# alone has the kind file.
-# A statement is a theorem's type, with the parameters of the modules around it; of a word (a type, a record, an abbreviation) it is all of
-# it; of a function its head and its contract. An import is FILE#, import, the word as it is written there (with a dot, that of a module), FILE#NAME
-# or MODULE#NAME that it stands for; one in a form that is not read, as a line that declares an operator, is FILE#, unread, its line, its text.
+# The kind is pub, private, field (of a record, or a case of a data type) or local (below a where); FILE# alone has the kind file. A
+# statement is a theorem's type, with the parameters of the modules around it; of a word (a type, a record, an abbreviation) it is all of
+# it; of a function its head and its contract. An import is FILE#, import, the word as it is written there (with a dot, that of a module),
+# FILE#NAME or MODULE#NAME that it stands for; one in a form that is not read, as a line that declares an operator, is FILE#, unread, its
+# line, its text.
 
 function indent(s) { match(s, /^ */); return RLENGTH }
 
@@ -35,8 +36,8 @@ function text_at(i, all,    t, j, deep) {
     return t
 }
 
-# the file of a path of ours, Rattle.NAME.specs.A.B or Rattle.NAME.proofs.A: the longest that is one; else the path itself, as it is of
-# the language's own libraries and of what the compiler makes of a source
+# the file of a path of ours, Rattle.NAME.specs.A.B or Rattle.NAME.proofs.A: the longest that is one; else the path itself, as it
+# is of the language's own libraries and of what the compiler makes of a source
 function home(path,    p, n, i, at) {
     if (path !~ /^Rattle·/) return path
     sub(/^Rattle·/, "", path)
@@ -78,10 +79,19 @@ function rust(s,    at, n, item, k, pair) {
 # use A.B.{c, d as e}, use A.B as f and use A.B; any other form is told as one that is not read
 function import(s, i,    at, list, n, item, k, pair, form) {
     form = s
-    if (!sub(/^use /, "", s)) { at = ""; }
-    else if (s ~ /^[^ {}*]+ as [^ {}*.]+$/) { at = s; sub(/ as .*/, "", at); sub(/.* as /, "", s); print file "#\timport\t" s ".\t" home(at) "#"; return }
-    else if (s ~ /^[^ {}*]+$/ && s !~ /::/) { at = s; sub(/.*\./, "", s); print file "#\timport\t" s ".\t" home(at) "#"; return }
-    else if (match(s, /\.[{][^{}]*[}]$/)) { at = substr(s, 1, RSTART - 1); list = substr(s, RSTART + 2, RLENGTH - 3) }
+    if (!sub(/^use /, "", s)) at = ""
+    else if (s ~ /^[^ {}*]+ as [^ {}*.]+$/) {
+        at = s
+        sub(/ as .*/, "", at)
+        sub(/.* as /, "", s)
+        print file "#\timport\t" s ".\t" home(at) "#"
+        return
+    } else if (s ~ /^[^ {}*]+$/ && s !~ /::/) {
+        at = s
+        sub(/.*\./, "", s)
+        print file "#\timport\t" s ".\t" home(at) "#"
+        return
+    } else if (match(s, /\.[{][^{}]*[}]$/)) { at = substr(s, 1, RSTART - 1); list = substr(s, RSTART + 2, RLENGTH - 3) }
     if (at == "" || at ~ /[ {}*]/ || at ~ /^package\./) { print file "#\tunread\t" i "\t" form; return }
     at = home(at)
     sub(/, *$/, "", list)

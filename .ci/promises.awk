@@ -3,10 +3,13 @@
 BEGIN {
     print "# Promises"
     print ""
-    print "What the library promises, a sentence for each promise. docs/KEPT.md has, in the same sections, what keeps each of them: the theorem, the contract"
-    print "or the run; docs/STATEMENTS.txt has the text of these. Drawn by `bin/promises --write`, compared by `bin/promises`: write in docs/KEPT.md."
+    print "What the library promises, a sentence for each promise. docs/KEPT.md has, in the same sections, what keeps each of them:" \
+        " the theorem, the contract"
+    print "or the run; docs/STATEMENTS.txt has the text of these. Drawn by `bin/promises --write`, compared by `bin/promises`:" \
+        " write in docs/KEPT.md."
     print ""
-    print "A contract says that the reply is the definition's, on every input: it determines the reply, so that no second reply fits. What is proved of"
+    print "A contract says that the reply is the definition's, on every input: it determines the reply, so that no second reply fits." \
+        " What is proved of"
     print "the definition then holds of the code."
 }
 /^## / && !begun { begun = 1 }
@@ -17,8 +20,10 @@ BEGIN {
     if (skip) {
         name = $0
         sub(/^#+ /, "", name)
-        if (name == "The definitions") print "### The definitions\n\nThe files that the contracts rest on, with their lines: docs/KEPT.md.\n"
-        if (name == "What the scripts refuse") print "## What the scripts refuse\n\nThe damages that `.ci/test-scripts` tries on a copy of the tree: docs/KEPT.md.\n"
+        if (name == "The definitions")
+            print "### The definitions\n\nThe files that the contracts rest on, with their lines: docs/KEPT.md.\n"
+        if (name == "What the scripts refuse")
+            print "## What the scripts refuse\n\nThe damages that `.ci/test-scripts` tries on a copy of the tree: docs/KEPT.md.\n"
     }
 }
 skip { next }

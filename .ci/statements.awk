@@ -1,9 +1,9 @@
 # What is promised, as it stands in the tree. First the names, as declared.awk prints them; then, each after its mark:
 #   row TEXT     a line of docs/KEPT.md to print as it is
 #   cited NAME   a reference FILE#NAME of a document
-# Prints the rows, then the text of every reference, and of every word that these texts use and that is declared among the theorems; then, for
-# each file, what its texts import: the module, and the words of the texts that come from there. Each such word with a capital letter that no
-# document cites goes to the file that -v words names.
+# Prints the rows, then the text of every reference, and of every word that these texts use and that is declared among the theorems; then,
+# for each file, what its texts import: the module, and the words of the texts that come from there. Each such word with a capital letter
+# that no document cites goes to the file that -v words names.
 
 # tokens of a text: names may hold nearly anything but space and brackets
 function tokens(s) { gsub(/[(){}\[\],;]|⌜|⌝/, " ", s); return split(s, token, " ") }
@@ -45,14 +45,22 @@ function reach(ref, text,    n, i, file, at, mine, own) {
     }
 }
 
-# a text with a break before each premise, clause and field
+# whether a premise, a clause or a field begins at the I-th word of a text
+function starts(part, i,    t, fresh) {
+    t = part[i]
+    if (t == "→" || t == ";" || t == "ensures" || t == "requires") return 1
+    fresh = part[i - 1] != ";" && part[i - 1] !~ /^(abbrev|unfoldable)$/
+    return fresh && (t == "pub" || part[i + 1] == ":" && t !~ /^[({]/ && part[i - 1] != "pub")
+}
+
+# a text with a break before each of them
 function show(s,    n, i, part, depth, out, t) {
     n = split(s, part, " ")
     depth = 0
     out = "   "
     for (i = 1; i <= n; i++) {
         t = part[i]
-        if (depth == 0 && i > 1 && (t == "→" || t == ";" || t == "ensures" || t == "requires" || (t == "pub" && part[i - 1] != ";" && part[i - 1] !~ /^(abbrev|unfoldable)$/) || (part[i + 1] == ":" && t !~ /^[({]/ && part[i - 1] !~ /^(pub|;|abbrev|unfoldable)$/))) out = out "\n   "
+        if (depth == 0 && i > 1 && starts(part, i)) out = out "\n   "
         if (t != ";" || depth) out = out " " t
         depth += gsub(/[({\[]/, "", t)
         depth -= gsub(/[)}\]]/, "", t)
@@ -60,7 +68,8 @@ function show(s,    n, i, part, depth, out, t) {
     print out
 }
 
-# the words that a file imports and that its texts use, by the module that they come from; an operator is used where all its parts stand there
+# the words that a file imports and that its texts use, by the module that they come from; an operator is used where all its parts stand
+# there
 function imports(file, text,    n, i, k, part, piece, has, word, at, from, words, line, count) {
     gsub(/[(){}\[\].;,@"]|⌜|⌝|«|»/, " & ", text)
     n = split(text, piece, " ")

@@ -18,5 +18,6 @@ if(NOT SIMMERSTOAT_TARGET)
 endif()
 set(SIMMERSTOAT_FOLDER ${CMAKE_CURRENT_LIST_DIR}/lib/${SIMMERSTOAT_TARGET})
 if(NOT SIMMERSTOAT_TARGET OR NOT EXISTS ${SIMMERSTOAT_FOLDER}/libsimmerstoat.a)
-    message(FATAL_ERROR "simmerstoat: no archive for '${SIMMERSTOAT_TARGET}'; set SIMMERSTOAT_TARGET to a folder of ${CMAKE_CURRENT_LIST_DIR}/lib")
+    message(FATAL_ERROR "simmerstoat: no archive for '${SIMMERSTOAT_TARGET}'; "
+        "set SIMMERSTOAT_TARGET to a folder of ${CMAKE_CURRENT_LIST_DIR}/lib")
 endif()

@@ -1,5 +1,5 @@
-//! The Rust package without an operating system: an inversion, a value and a refusal, a valve, and a curve in whole numbers. `main` answers 0 where
-//! all are as they should be; box/rust links it to a C library's start and runs it on an emulated Cortex-M4F.
+//! The Rust package without an operating system: an inversion, a value and a refusal, a valve, and a curve in whole numbers. `main`
+//! answers 0 where all are as they should be; box/rust links it to a C library's start and runs it on an emulated Cortex-M4F.
 #![no_std]
 
 use simmerstoat::whole::{monotone, turns_back, Turning};
