@@ -1,9 +1,9 @@
 #!/usr/bin/env python3
 """A second reading of what bin/ask prints: verdicts in whole numbers and fractions, depths and places in this language's doubles.
     oracle/ask.py < SHEET           prints what bin/ask is to print
-    oracle/ask.py COUNT [SEED]      holds bin/ask to it on COUNT random sheets, good and bad, with questions; status 1 at the first difference
+    oracle/ask.py COUNT [SEED]      holds bin/ask to it on COUNT random sheets, good and bad, with questions
     oracle/ask.py COUNT SEED fine   the same on sheets that are fine, with 300 questions about each
-ASK is the command that is held to it, where that is not bin/ask."""
+Status 1 at the first difference. ASK is the command that is held to it, where that is not bin/ask."""
 import math, os, random, re, shlex, struct, subprocess, sys
 from fractions import Fraction
 
@@ -404,13 +404,19 @@ def random_sheet(r):
     return name, ['%s\t%s' % (label, text_of(k, r)) for label, k in zip(labels, rows)]
 
 
-BAD_LINES = ['', '\t1', '1h', '1h\t', '1h\t1.', '1h\t.5', '1h\t1.2345', '1h\t1,5', '1h\t1 ', '1h\t+1', '1h\t1\t', '1h\t--1', '1h\t1234567890', '1h\t1\r', 'a label of 17 byte\t1',
-             'sixteen bytes ..\t1', '1h\t' + '0' * 61, '1h\t' + '0' * 62, 'x' * 65, '\u00e9\t1', 'Monotone', '1h 1', ' \t0']
-
-
-BAD_QUESTIONS = ['', 'ask', 'Table', 'table\t', 'table\t1', 'tabl', 'salt', 'x' * 64, 'x' * 65, 'find', 'find\t', 'find\t1.', 'find\t.5', 'find\t1.2345', 'find\t1,5', 'find\t1234567890',
-                 'find\t1\t', 'find 1', 'Find\t1', 'find\t+1', 'find\t--1', 'find\t1\r', 'find\t' + '0' * 59, 'row', 'row\t', 'row\t-1', 'row\t1.0', 'row\t123456', 'row\t000060', 'row\t60\t',
-                 'row\t60\r', 'row\t1h', 'rows\t60', 'at', 'at\t', 'at\t0.5', 'at\t123456', 'at\t-0', 'at\t1 ', 'every', 'every\t', 'every\t59', 'every\t0', 'every\t00059', 'every\t123456', 'every\t60\t1']
+BAD_LINES = [
+    '', '\t1', '1h', '1h\t', '1h\t1.', '1h\t.5', '1h\t1.2345', '1h\t1,5', '1h\t1 ', '1h\t+1', '1h\t1\t', '1h\t--1', '1h\t1234567890',
+    '1h\t1\r', 'a label of 17 byte\t1', 'sixteen bytes ..\t1', '1h\t' + '0' * 61, '1h\t' + '0' * 62, 'x' * 65, '\u00e9\t1',
+    'Monotone', '1h 1', ' \t0',
+]
+BAD_QUESTIONS = [
+    '', 'ask', 'Table', 'table\t', 'table\t1', 'tabl', 'salt', 'x' * 64, 'x' * 65,
+    'find', 'find\t', 'find\t1.', 'find\t.5', 'find\t1.2345', 'find\t1,5', 'find\t1234567890', 'find\t1\t', 'find 1', 'Find\t1',
+    'find\t+1', 'find\t--1', 'find\t1\r', 'find\t' + '0' * 59,
+    'row', 'row\t', 'row\t-1', 'row\t1.0', 'row\t123456', 'row\t000060', 'row\t60\t', 'row\t60\r', 'row\t1h', 'rows\t60',
+    'at', 'at\t', 'at\t0.5', 'at\t123456', 'at\t-0', 'at\t1 ',
+    'every', 'every\t', 'every\t59', 'every\t0', 'every\t00059', 'every\t123456', 'every\t60\t1',
+]
 
 
 def random_question(r, rows, text):
@@ -422,7 +428,8 @@ def random_question(r, rows, text):
         return 'find\t' + text(max(1 - 10**12, min(10**12 - 1, n)))
     if kind == 'row':
         count = max(len(rows), 1)
-        return 'row\t%s' % r.choice([3600, 900, 1, 0, '00060', r.randint(1, 86400 // count + 1), 86400 // count, 86400 // max(count - 1, 1), 86400 // max(count - 2, 1), 86400 // max(count - 3, 1), 86400, 86401, 99999])
+        even = [86400 // max(count - k, 1) for k in range(4)]
+        return 'row\t%s' % r.choice([3600, 900, 1, 0, '00060', r.randint(1, even[0] + 1), *even, 86400, 86401, 99999])
     if kind == 'at':
         return 'at\t%s' % r.choice([r.randint(0, 3600), r.randint(0, 86400), 0, '007', 3600, 7200, 86400, 99999, 3599])
     if kind == 'every':
@@ -473,6 +480,14 @@ def random_fine(r):
     return '\n'.join([name] + lines + ['ask'] + asked).encode() + b'\n'
 
 
+def kind_of(line):
+    """the word of a printed line; with what is wrong with a line, or a refusal's number"""
+    fields = line.split(b'\t')
+    if fields[0].startswith(b'line'):
+        fields = fields[::2]
+    return b' '.join(fields[:2 if line.startswith((b'line', b'refused')) else 1]).decode()
+
+
 def main():
     if len(sys.argv) == 1:
         sys.stdout.buffer.write(printed(sys.stdin.buffer.read()))
@@ -485,10 +500,11 @@ def main():
         want = printed(data)
         got = subprocess.run(command, input=data, stdout=subprocess.PIPE, check=True).stdout
         if got != want:
-            sys.stdout.write('ask: sheet %d: another text\n---- sheet\n%s\n---- wanted\n%s---- printed\n%s' % (i, data.decode('latin1'), want.decode('latin1'), got.decode('latin1')))
+            texts = tuple(text.decode('latin1') for text in (data, want, got))
+            sys.stdout.write('ask: sheet %d: another text\n---- sheet\n%s\n---- wanted\n%s---- printed\n%s' % (i, *texts))
             sys.exit(1)
         for line in want.split(b'\n'):
-            word = b' '.join(line.split(b'\t')[::2 if line.startswith(b'line') else 1][:2 if line.startswith((b'line', b'refused')) else 1]).decode()
+            word = kind_of(line)
             told[word] = told.get(word, 0) + 1
     print('ask: %d sheets, no difference; lines by word: %s' % (count, ', '.join('%s %d' % (w, c) for w, c in sorted(told.items()) if w)))
 

@@ -1,6 +1,6 @@
 #!/usr/bin/env python3
-"""Listings of 4,096 knots with a fault at a known knot, through bin/lines: the knot that refusals 4 and 10 tell is that one. Status 1 at the
-first difference."""
+"""Listings of 4,096 knots with a fault at a known knot, through bin/lines: the knot that refusals 4 and 10 tell is that one. Status 1 at
+the first difference."""
 import os, struct, subprocess, sys
 
 lines = os.path.join(os.path.dirname(os.path.abspath(__file__)), '..', 'bin', 'lines')

@@ -1,5 +1,6 @@
-// A line program as it is written with fgets and sscanf, beside which bin/speed times bin/lines: the table and the values of a CatmullRom listing. It
-// tests the range of the knots and the length, and nothing else; its replies are bin/lines' own, byte for byte, on a listing that is not refused.
+// A line program as it is written with fgets and sscanf, beside which bin/speed times bin/lines: the table and the values of a CatmullRom
+// listing. It tests the range of the knots and the length, and nothing else; its replies are bin/lines' own, byte for byte, on a listing
+// that is not refused.
 #include <inttypes.h>
 #include <math.h>
 #include <stdio.h>

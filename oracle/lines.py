@@ -1,12 +1,12 @@
 #!/usr/bin/env python3
 """oracle/lines.py [TURNS]: bin/lines beside a C program of fgets and sscanf (oracle/lines.c), on 1,000,000 lines.
 
-A listing of a CatmullRom curve of 12 segments and one of 100, each with `at` lines up to a million lines. The two programs take turns, 9 of them
-unless TURNS says otherwise; of each the least processor time counts, the system's share included, so that others at work on the machine
-disturb it little. Both have to print the same bytes. `bin/speed lines` is this.
+A listing of a CatmullRom curve of 12 segments and one of 100, each with `at` lines up to a million lines. The two programs take turns,
+9 of them unless TURNS says otherwise; of each the least processor time counts, the system's share included, so that others at work on the
+machine disturb it little. Both have to print the same bytes. `bin/speed lines` is this.
 
-The line program is for x86-64; on another processor its proved module is compiled for that (oracle/native), and cc makes the C program for it too.
-SIMMERSTOAT_LINES names a line program that is there already.
+The line program is for x86-64; on another processor its proved module is compiled for that (oracle/native), and cc makes the C program for
+it too. SIMMERSTOAT_LINES names a line program that is there already.
 """
 import os
 import platform

@@ -136,12 +136,14 @@ def tables():
             if n == 13:
                 far.append((kind, kept, apart, same, near, segments))
         print(f"| {kind} | " + " | ".join(", ".join(c) for c in cells.values()) + " |")
-    print("\nWhere CatmullRom does not turn back, 13 rows: how far Monotone lies from it, at 16ths of the segments that both have, in thousandths\n")
+    print("\nWhere CatmullRom does not turn back, 13 rows: how far Monotone lies from it, at 16ths of the segments that both have, "
+          "in thousandths\n")
     print("| night | such nights | segments that are CatmullRom's exactly | within ¼ thousandth | farthest of a night: median | largest |")
     print("|---|---:|---:|---:|---:|---:|")
     for kind, kept, apart, same, near, segments in far:
         if kept:
-            print(f"| {kind} | {kept} | {share(same, segments)} | {share(near, segments)} | {float(median(apart)):.3g} | {float(max(apart)):.3g} |")
+            farthest = f"{float(median(apart)):.3g} | {float(max(apart)):.3g}"
+            print(f"| {kind} | {kept} | {share(same, segments)} | {share(near, segments)} | {farthest} |")
         else:
             print(f"| {kind} | 0 | – | – | – | – |")
 
@@ -159,7 +161,8 @@ def picture():
     axes = "".join(f'<path class="a" d="M{point(h, -0.5 * 1000)} V35"/><text x="{60 + 80 * h}" y="378">{h} h</text>' for h in range(8))
     axes += "".join(f'<path class="a" d="M60,{330 - 55 * d} H620"/><text x="30" y="{334 - 55 * d}">{d}</text>' for d in range(6))
     dots = "".join('<circle cx="%s" cy="%s" r="4"/>' % tuple(point(h, d).split(",")) for h, d in enumerate(rows))
-    print(f'''<svg xmlns="http://www.w3.org/2000/svg" viewBox="0 0 640 400" role="img" aria-label="CatmullRom dips and overshoots; Monotone does not">
+    said = 'role="img" aria-label="CatmullRom dips and overshoots; Monotone does not"'
+    print(f'''<svg xmlns="http://www.w3.org/2000/svg" viewBox="0 0 640 400" {said}>
 <style>
 text {{ font: 13px sans-serif; text-anchor: middle; fill: #555 }}
 .a {{ stroke: #999; stroke-width: .5; fill: none }}

@@ -1,6 +1,6 @@
 #!/usr/bin/env python3
-"""bin/picture on the held examples and on random listings: each picture is well-formed XML (xmllint), at most 90,145 bytes, has every coordinate
-in its view box, and is, where the listing asks no find, byte for byte what a second reading of the definition makes of it.
+"""bin/picture on the held examples and on random listings: each picture is well-formed XML (xmllint), at most 90,145 bytes, has every
+coordinate in its view box, and is, where the listing asks no find, byte for byte what a second reading of the definition makes of it.
     oracle/pictures.py [COUNT]          COUNT random listings, 1,000 if none is said
     oracle/pictures.py --look FOLDER    draws the held examples with rsvg-convert on white and on black, to be looked at
 Needs xmllint, and for --look rsvg-convert. Status 1 at a difference."""
@@ -25,7 +25,8 @@ def word(x):
 
 
 def listing(basis, span, knots, after=()):
-    return ''.join(['curve\t%s\n' % basis] + (['span\t%d\n' % span] if span else []) + ['knot\t%s\n' % word(k) for k in knots] + list(after))
+    spans = ['span\t%d\n' % span] if span else []
+    return ''.join(['curve\t%s\n' % basis] + spans + ['knot\t%s\n' % word(k) for k in knots] + list(after))
 
 
 # ---- the second reading
@@ -87,7 +88,9 @@ def body(basis, knots):
     number, at = refusal(basis, knots)
     if number:
         told = '<text class="r" x="1000" y="6000">table refused: %d' % number
-        return told + ('</text>\n' if at is None else ' at knot %d</text>\n<path class="r" d="M%d,400V5400"/>\n' % (at, knot_column(basis, n, at)))
+        if at is None:
+            return told + '</text>\n'
+        return told + ' at knot %d</text>\n<path class="r" d="M%d,400V5400"/>\n' % (at, knot_column(basis, n, at))
     p = min(2048, 256 * ((n - 4) // ROWS[basis][2] + 1))
     heights = [height(value(basis, i / p, knots)) for i in range(p + 1)]
     dots = [(knot_column(basis, n, j), height(knots[j])) for j in range(n) if shown(basis, n, j)]
@@ -133,7 +136,12 @@ def outside(svg):
         x = y = 0
         for c, rest in re.findall(r'([MHVhv])([-0-9,]*)', d):
             n = [int(t) for t in rest.split(',')]
-            x, y = {'M': lambda: (n[0], n[1]), 'H': lambda: (n[0], y), 'V': lambda: (x, n[0]), 'h': lambda: (x + n[0], y), 'v': lambda: (x, y + n[0])}[c]()
+            if c == 'M':
+                x, y = n[0], n[1]
+            elif c in 'Hh':
+                x = n[0] + (x if c == 'h' else 0)
+            else:
+                y = n[0] + (y if c == 'v' else 0)
             see(x, y)
     for p in re.findall(r' points="([^"]*)"', svg):
         for t in p.split():
@@ -200,9 +208,10 @@ def main():
             longest = max(longest, len(svg))
             open(os.path.join(room, name + '.svg'), 'w').write(svg)
             bad = outside(svg)
-            if len(svg) > 90145 or bad or (table and svg != picture(*table)):
+            other = table and svg != picture(*table)
+            if len(svg) > 90145 or bad or other:
                 wrong += 1
-                print('%s: %d bytes, outside: %s%s' % (name, len(svg), bad[:3], '' if not table or svg == picture(*table) else ', another picture'))
+                print('%s: %d bytes, outside: %s%s' % (name, len(svg), bad[:3], ', another picture' if other else ''))
             compared += table is not None
         files = sorted(os.listdir(room))
         for i in range(0, len(files), 200):

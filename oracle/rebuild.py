@@ -1,6 +1,6 @@
 #!/usr/bin/env python3
-"""rebuild.py [PAIRS [SEED]]: random pairs of tables through bin/compare. The second table is rebuilt from the first, its own basis, span and
-length, and the printed list; and the list is held to one made here, line by line. Status 1 at the first difference."""
+"""rebuild.py [PAIRS [SEED]]: random pairs of tables through bin/compare. The second table is rebuilt from the first, its own basis, span
+and length, and the printed list; and the list is held to one made here, line by line. Status 1 at the first difference."""
 import os, random, subprocess, sys
 
 compare = os.path.join(os.path.dirname(os.path.abspath(__file__)), '..', 'bin', 'compare')

@@ -1,6 +1,7 @@
 #!/usr/bin/env python3
 """Random doubles through bin/decimals, held to this language's fractions: the nearest multiple of 10^-3 or 10^-6, ties to even.
-   oracle/rounded.py [DOUBLES]     so many patterns (1,000,000), half with three digits and half with six; status 1 at the first difference"""
+   oracle/rounded.py [DOUBLES]     so many patterns (1,000,000), half with three digits and half with six
+Status 1 at the first difference."""
 import os, random, struct, subprocess, sys
 from fractions import Fraction
 
@@ -23,7 +24,8 @@ def pattern():
     if kind == 2:  # a tie: an odd number of sixteenths of a thousandth's or a millionth's worth
         return bits(draw.choice([1, -1]) * (2 * draw.randrange(1 << draw.randint(1, 40)) + 1) / 2.0 ** draw.choice([4, 5, 6, 7]))
     if kind == 3:  # next to half-way between two thousandths or two millionths
-        return bits((draw.randrange(10 ** draw.randint(1, 12)) + 0.5) / draw.choice([1e3, 1e6])) + draw.randint(-1, 1) + draw.choice([0, sign])
+        half = (draw.randrange(10 ** draw.randint(1, 12)) + 0.5) / draw.choice([1e3, 1e6])
+        return bits(half) + draw.randint(-1, 1) + draw.choice([0, sign])
     if kind == 4:  # a parameter
         return bits(draw.random())
     return draw.randint(980, 1064) << 52 | draw.getrandbits(52) | draw.choice([0, sign])
