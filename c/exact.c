@@ -35,7 +35,7 @@ static int64_t knot(int bits) {
 
 /* 2 · places^3 times the cubic at j/places. */
 static __int128 cubic(int b, const int64_t z[4], int64_t j, int64_t places) {
-    const __int128 power[4] = {(__int128)j * j * j, (__int128)places * j * j, (__int128)places * places * j, (__int128)places * places * places};
+    const __int128 at = j, of = places, power[4] = {at * at * at, of * at * at, of * of * at, of * of * of};
     __int128 sum = 0;
     for (int r = 0; r < 4; r++) {
         __int128 row = 0;

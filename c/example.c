@@ -26,7 +26,8 @@ int main(void) {
     struct simmerstoat_place p;
 
     if (!is_done("0.3", simmerstoat_find(SIMMERSTOAT_CATMULL_ROM, 0.3, hours, 6, simmerstoat_defaults_steady(), &p))) return 1;
-    printf("parameter %.6f, ground %s, segment %u, %u evaluations\n", p.parameter, GROUNDS[p.ground], (unsigned)p.segment, (unsigned)p.count);
+    printf("parameter %.6f, ground %s, segment %u, %u evaluations\n", p.parameter, GROUNDS[p.ground], (unsigned)p.segment,
+           (unsigned)p.count);
 
     if (!is_done("depth", simmerstoat_spline(SIMMERSTOAT_CATMULL_ROM, p.parameter, depths, 6, &depth))) return 1;
     printf("depth %.6f\n", depth);

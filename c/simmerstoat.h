@@ -271,8 +271,9 @@ enum {
 /* How far a job had come that stopped at the depth y. Start and end are the curve's own, as evaluated, and "is" is equality
  * of doubles. Between them it is simmerstoat_table_spline_inverse_by in SIMMERSTOAT_ENDS_CURVE and SIMMERSTOAT_STEADY, limit
  * 64, precision 1e-10: never SIMMERSTOAT_SPENT, and at most 65 evaluations on up to 12 segments and 45 + 2 b above; elsewhere
- * there are 4, of the two ends. With check, knots that turn back are refused; leave it off for Hermite, whose knots are depths and slopes by
- * turns. On a refusal job keeps what it held. Refusals: 255, 1, 2, 3, 14, 5, 4, 10, 11. docs/BOX.md says what a box does. */
+ * there are 4, of the two ends. With check, knots that turn back are refused; leave it off for Hermite, whose knots are
+ * depths and slopes by turns. On a refusal job keeps what it held. Refusals: 255, 1, 2, 3, 14, 5, 4, 10, 11. docs/BOX.md
+ * says what a box does. */
 uint32_t simmerstoat_stopped(uint8_t basis, uint32_t span, double y, const double *knots, uint64_t n, bool check,
                              uint8_t *job, double place[4], uint64_t whole[4]);
 

@@ -61,7 +61,8 @@ static void segment(int b, double y, const double *cv) {
 static void curve(int b, double y, const double *knots, uint64_t n, uint64_t segments, bool check) {
     struct record r = fresh(), by = fresh(), timed = fresh();
     r.reply = simmerstoat_spline_inverse_steady(b, y, knots, n, check, r.place, r.whole);
-    by.reply = simmerstoat_spline_inverse_by(b, y, knots, n, check, 64, 1e-10, SIMMERSTOAT_ENDS_KNOTS, SIMMERSTOAT_STEADY, by.place, by.whole);
+    by.reply = simmerstoat_spline_inverse_by(b, y, knots, n, check, 64, 1e-10, SIMMERSTOAT_ENDS_KNOTS, SIMMERSTOAT_STEADY, by.place,
+                                             by.whole);
     expect("a curve: as with options", same(&r, &by, 3));
     timed.reply = simmerstoat_table_spline_inverse_steady(b, 86400, y, knots, n, check, timed.place, timed.whole);
     expect("a table: as without a span", same(&r, &timed, 3));

@@ -48,7 +48,8 @@ static void steps(void) {
 }
 
 static void knots(void) {
-    const int64_t in[4] = {1000000, -1000000, 0, 999999}, out[6] = {1000001, -1000001, INT64_MIN, INT64_MAX, (int64_t)1 << 32, -((int64_t)1 << 32)};
+    const int64_t in[4] = {1000000, -1000000, 0, 999999};
+    const int64_t out[6] = {1000001, -1000001, INT64_MIN, INT64_MAX, (int64_t)1 << 32, -((int64_t)1 << 32)};
     for (int place = 0; place < 4; place++) {
         for (int k = 0; k < 4; k++) {
             int64_t z[4] = {1, 2, 3, 4};

@@ -31,7 +31,10 @@ fn main() {
         (None, Some((_, folder, command))) => {
             (PathBuf::from(env::var_os("CARGO_MANIFEST_DIR").unwrap()).join("../target").join(folder), *command)
         }
-        (None, None) => fail(format!("there is no archive for {target}: bin/box lists those that there are; SIMMERSTOAT_LIB may name a folder")),
+        (None, None) => {
+            let why = "bin/box lists those that there are; SIMMERSTOAT_LIB may name a folder";
+            fail(format!("there is no archive for {target}: {why}"))
+        }
     };
     println!("cargo:rustc-link-search=native={}", folder.display());
     let valve = env::var_os("CARGO_FEATURE_VALVE").map(|_| "valve");

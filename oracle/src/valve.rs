@@ -1,5 +1,5 @@
-//! The valves: the model is de Boor's recursion over uniform places, in whole numbers and without a matrix or a table of weights; and the crate's
-//! own B-spline, in doubles, to which a sum divided by the whole has to come near.
+//! The valves: the model is de Boor's recursion over uniform places, in whole numbers and without a matrix or a table of weights; and the
+//! crate's own B-spline, in doubles, to which a sum divided by the whole has to come near.
 
 use simmerstoat::valve::{mix, Refusal, WHOLE};
 

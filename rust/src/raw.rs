@@ -1,8 +1,8 @@
 //! The exports as they stand in the archive. `c/simmerstoat.h` says what each one means.
 //!
 //! A reply is 0, or a refusal's number with its place above the lowest eight bits. Each pointer with a length must be good for that many
-//! doubles, and each other pointer for one record; a null pointer is fine where its length is 0. Lengths, whole numbers and counts are 64 bits
-//! wide on every processor.
+//! doubles, and each other pointer for one record; a null pointer is fine where its length is 0. Lengths, whole numbers and counts are 64
+//! bits wide on every processor.
 
 /// The reply to a number that names no basis, no rule of the ends or no method; `simmerstoat_is_len_ok` answers it as a `u8`.
 pub const NO_BASIS: u32 = 255;

@@ -1,6 +1,7 @@
-//! The stored answers of `crates/test_replay`, through this package's functions: every refusal with its place, every bit of every double, every
-//! whole number. README.md of that crate says what a line holds. Lines that the package's types cannot say are left out, and counted: a number that
-//! is no basis, rule or method, a limit of 0, a segment of other than four knots for a conversion, the steady calls without the order check.
+//! The stored answers of `crates/test_replay`, through this package's functions: every refusal with its place, every bit of every double,
+//! every whole number. README.md of that crate says what a line holds. Lines that the package's types cannot say are left out, and
+//! counted: a number that is no basis, rule or method, a limit of 0, a segment of other than four knots for a conversion, the steady
+//! calls without the order check.
 
 use core::num::NonZeroU16;
 use simmerstoat::claim::check_claim;
@@ -61,7 +62,10 @@ fn ground(place: &Place) -> u64 {
 /// The numbers from the reply on, as a line has them: of a refusal the reply alone, of 11 with its count.
 fn of_place(told: Result<Place, Refusal>) -> Vec<u64> {
     match told {
-        Ok(p) => vec![0, p.parameter.to_bits(), p.local.to_bits(), p.lower.to_bits(), p.upper.to_bits(), ground(&p), p.segment as u64, p.count as u64],
+        Ok(p) => {
+            let [parameter, local, lower, upper] = [p.parameter, p.local, p.lower, p.upper].map(f64::to_bits);
+            vec![0, parameter, local, lower, upper, ground(&p), p.segment as u64, p.count as u64]
+        }
         Err(Refusal::OffCurve(count)) => vec![11, count as u64],
         Err(refusal) => vec![reply(refusal)],
     }
@@ -175,7 +179,10 @@ fn conversion(letter: char, w: &[u64], knots: &[f64]) -> Option<bool> {
         'c' => return Some(same_output(over!(w[0], A, over!(w[1], B, convert_spline_into::<A, B, _>(knots, &mut out))?)?, &out, w, 2)),
         'e' => over!(w[0], A, over!(w[1], B, convert_spline_strict_into::<A, B>(knots, allowance, &mut out).map(|n| (n, span)))?)?,
         'f' => over!(w[0], A, over!(w[1], B, Table::<A>::new(span).convert_spline_into::<B>(knots, &mut out).map(|(t, n)| (n, t.span)))?)?,
-        _ => over!(w[0], A, over!(w[1], B, Table::<A>::new(span).convert_spline_strict_into::<B>(knots, allowance, &mut out).map(|(t, n)| (n, t.span)))?)?,
+        _ => over!(w[0], A, {
+            let table = Table::<A>::new(span);
+            over!(w[1], B, table.convert_spline_strict_into::<B>(knots, allowance, &mut out).map(|(t, n)| (n, t.span)))?
+        })?,
     };
     Some(same_output(told.map(|t| t.0), &out, w, 4) && told.map_or(true, |t| t.1 == span))
 }
