@@ -3,6 +3,8 @@
 //! It answers what the port owes on every input, and says where a build of the crate with overflow checks
 //! panics or loops, so that such a call is not sent to it.
 
+use std::ops::Range;
+
 /// A refusal: its number, and where it tells one, the place of the first knot or segment at fault.
 #[derive(Clone, Copy, Debug, PartialEq, Eq)]
 pub struct RefusalNumber {
@@ -297,20 +299,31 @@ enum Trial {
 /// One segment, past the refusals of its arguments: its two ends are evaluated, once, and it is entered where they
 /// enclose the target.
 fn enter(lerp: Lerp, b: usize, y: f64, cv: &[f64], o: &Options, made: &mut Evaluations) -> Trial {
-    let place = |ground, local, lower, upper| Place { parameter: local, ground, segment: 0, local, lower, upper };
     made.count += 2;
     let (v0, v1) = (value(b, 0.0, cv), value(b, 1.0, cv));
-    let rising = v0 < v1;
-    let (least, most) = if rising { (v0, v1) } else { (v1, v0) };
+    let (least, most) = if v0 < v1 { (v0, v1) } else { (v1, v0) };
     if y < least || y > most {
         return Trial::Outside(v0);
     }
     if (y - v0).abs() < 2.0 * o.precision {
-        return Trial::Inside(place(Ground::Edge, 0.0, 0.0, 1.0), Fate::Answers);
+        return Trial::Inside(within(Ground::Edge, 0.0, 0.0, 1.0), Fate::Answers);
     }
     if (y - v1).abs() < 2.0 * o.precision {
-        return Trial::Inside(place(Ground::Edge, 1.0, 0.0, 1.0), Fate::Answers);
+        return Trial::Inside(within(Ground::Edge, 1.0, 0.0, 1.0), Fate::Answers);
     }
+    let (place, fate) = rounds(lerp, b, y, cv, o, (v0, v1), made);
+    Trial::Inside(place, fate)
+}
+
+/// A place of a segment that stands alone.
+fn within(ground: Ground, local: f64, lower: f64, upper: f64) -> Place {
+    Place { parameter: local, ground, segment: 0, local, lower, upper }
+}
+
+/// The rounds in a segment whose ends have these values, which enclose the target.
+fn rounds(lerp: Lerp, b: usize, y: f64, cv: &[f64], o: &Options, ends: (f64, f64), made: &mut Evaluations) -> (Place, Fate) {
+    let (v0, v1) = ends;
+    let rising = v0 < v1;
     let limit = o.limit as u64;
     let mut fate = if 3 * limit > 65_535 { Fate::LimitOverflows } else { Fate::Answers };
     let mut bracket = Bracket { lower: 0.0, upper: 1.0, v0, v1, moved_lower: None, repeats: 0 };
@@ -319,7 +332,7 @@ fn enter(lerp: Lerp, b: usize, y: f64, cv: &[f64], o: &Options, made: &mut Evalu
         let (lower, upper) = (bracket.lower, bracket.upper);
         let width = (upper - lower).abs();
         if width < o.precision.max(width * 1e-12) {
-            return Trial::Inside(place(Ground::Width, lerp.at(lower, upper, 0.5), lower, upper), fate);
+            return (within(Ground::Width, lerp.at(lower, upper, 0.5), lower, upper), fate);
         }
         let x = match o.method {
             Method::Steady => bracket.by_pace(lerp, y, allowed),
@@ -334,11 +347,11 @@ fn enter(lerp: Lerp, b: usize, y: f64, cv: &[f64], o: &Options, made: &mut Evalu
             fate = Fate::SideOverflows;
         }
         if (v - y).abs() < o.precision {
-            return Trial::Inside(place(Ground::Value, x, bracket.lower, bracket.upper), fate);
+            return (within(Ground::Value, x, bracket.lower, bracket.upper), fate);
         }
     }
     let Bracket { lower, upper, .. } = bracket;
-    Trial::Inside(place(Ground::Spent, lerp.at(lower, upper, 0.5), lower, upper), fate)
+    (within(Ground::Spent, lerp.at(lower, upper, 0.5), lower, upper), fate)
 }
 
 fn asked(y: f64, o: &Options) -> Result<(), u8> {
@@ -429,43 +442,47 @@ pub fn spline_inverse_by(lerp: Lerp, b: usize, y: f64, knots: &[f64], o: &Option
     search(lerp, b, y, knots, k, rising, o, made)
 }
 
+/// What halving comes to: the segment that it enters, or those that are left to be tried; and whether the crate would loop.
+enum Halved {
+    Entered(usize, Place, Fate),
+    Left(Range<usize>, bool),
+}
+
+/// Halving the segments of a curve, each tried by the call: left of the middle's start, or right of it.
+fn halve(y: f64, k: usize, rising: bool, mut tried: impl FnMut(usize) -> Trial) -> Halved {
+    let (mut left, mut right) = (0, k - 1);
+    while left <= right {
+        let middle = (left + right) / 2;
+        let start = match tried(middle) {
+            Trial::Inside(place, fate) => return Halved::Entered(middle, place, fate),
+            Trial::Outside(start) => start,
+        };
+        if if rising { y < start } else { y > start } {
+            if middle == 0 {
+                return Halved::Left(0..2.min(k), true);
+            }
+            right = middle - 1;
+        } else {
+            left = middle + 1;
+        }
+    }
+    Halved::Left(left.saturating_sub(1)..(right + 2).min(k), false)
+}
+
 /// The segments of a curve, past the end rule.
 #[allow(clippy::too_many_arguments)]
 fn search(lerp: Lerp, b: usize, y: f64, knots: &[f64], k: usize, rising: bool, o: &Options, made: Evaluations) -> Inversion {
     let mut made = made;
     let mut tried = |s: usize| enter(lerp, b, y, &knots[s * STEP[b]..s * STEP[b] + 4], o, &mut made);
-    let mut loops = false;
-    let mut entered = None;
-    let mut tries = 0..k;
-    if k > 12 {
-        let (mut left, mut right) = (0, k - 1);
-        while left <= right {
-            let middle = (left + right) / 2;
-            let start = match tried(middle) {
-                Trial::Inside(place, fate) => {
-                    entered = Some((middle, place, fate));
-                    break;
-                }
-                Trial::Outside(start) => start,
-            };
-            if if rising { y < start } else { y > start } {
-                if middle == 0 {
-                    (left, right, loops) = (0, 0, true);
-                    break;
-                }
-                right = middle - 1;
-            } else {
-                left = middle + 1;
-            }
-        }
-        tries = left.saturating_sub(1)..(right + 2).min(k);
-    }
-    if entered.is_none() {
-        entered = tries.into_iter().find_map(|s| match tried(s) {
+    let halved = if k > 12 { halve(y, k, rising, &mut tried) } else { Halved::Left(0..k, false) };
+    let loops = matches!(halved, Halved::Left(_, true));
+    let entered = match halved {
+        Halved::Entered(s, place, fate) => Some((s, place, fate)),
+        Halved::Left(mut tries, _) => tries.find_map(|s| match tried(s) {
             Trial::Inside(place, fate) => Some((s, place, fate)),
             Trial::Outside(_) => None,
-        });
-    }
+        }),
+    };
     let (answer, fate) = match entered {
         None => (Err(11.into()), Fate::Answers),
         Some((s, place, fate)) => {

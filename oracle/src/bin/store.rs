@@ -28,6 +28,30 @@ const OTHERS: [(Ends, Method); 5] = [
 ];
 
 fn main() {
+    base();
+    // a generator of its own, so that the list above stays as it is
+    let mut r = Rng(2027);
+    modes(&mut r);
+    for i in 0..FURTHER {
+        further(&mut r, i % 6, i / 6);
+    }
+    off_curve();
+    unknown();
+    // a generator of its own again
+    let mut r = Rng(2028);
+    for i in 0..FURTHER {
+        stopped_jobs(&mut r, i % 6, i / 6);
+    }
+    night();
+}
+
+/// The knots that the lines below are about.
+fn about(knots: &[f64]) {
+    words('k', &knots.iter().map(|d| d.to_bits()).collect::<Vec<_>>());
+}
+
+/// The calls of the base, on curves and on their first segments.
+fn base() {
     let mut r = Rng(2026);
     for i in 0..CURVES {
         let b = i % 6;
@@ -40,18 +64,20 @@ fn main() {
         if knots.iter().any(|d| d.abs() > 1e12) {
             continue;
         }
-        words('k', &knots.iter().map(|d| d.to_bits()).collect::<Vec<_>>());
+        about(&knots);
         curve(&mut r, b, k, &knots);
-        words('k', &knots[..4].iter().map(|d| d.to_bits()).collect::<Vec<_>>());
+        about(&knots[..4]);
         segment(&mut r, b, &knots[..4]);
     }
-    // a generator of its own, so that the list above stays as it is
-    let mut r = Rng(2027);
+}
+
+/// Inversions by the rules of the ends and the methods that the base has not, some of them of bad knots.
+fn modes(r: &mut Rng) {
     for i in 0..CURVES {
         let b = i % 6;
         let k = 1 + r.below(15.min((59 - 4) / STEP[b] + 1));
         let mut knots = Vec::new();
-        inputs::fill(&mut r, 4 + (k - 1) * STEP[b], &mut knots);
+        inputs::fill(r, 4 + (k - 1) * STEP[b], &mut knots);
         if knots.iter().any(|d| d.abs() > 1e12) {
             continue;
         }
@@ -59,22 +85,11 @@ fn main() {
             let at = r.below(knots.len());
             knots[at] = r.one_of(&[f64::INFINITY, -2e12, 1_099_511_627_777.0]);
         }
-        words('k', &knots.iter().map(|d| d.to_bits()).collect::<Vec<_>>());
-        others(&mut r, b, &knots);
-        words('k', &knots[..4].iter().map(|d| d.to_bits()).collect::<Vec<_>>());
-        others_of_segment(&mut r, b, &knots[..4]);
+        about(&knots);
+        others(r, b, &knots);
+        about(&knots[..4]);
+        others_of_segment(r, b, &knots[..4]);
     }
-    for i in 0..FURTHER {
-        further(&mut r, i % 6, i / 6);
-    }
-    off_curve();
-    unknown();
-    // a generator of its own again
-    let mut r = Rng(2028);
-    for i in 0..FURTHER {
-        stopped_jobs(&mut r, i % 6, i / 6);
-    }
-    night();
 }
 
 /// An inversion by every other rule of the ends and method.
