@@ -50,7 +50,7 @@ def column(i, m):
 
 
 def row(extent, h):
-    return 5400 - min(5000, max(h - extent[0], 0) * 5000 // (extent[1] - extent[0]))
+    return 6400 - min(6000, max(h - extent[0], 0) * 6000 // (extent[1] - extent[0]))
 
 
 def step(r):
@@ -72,7 +72,13 @@ def knot_column(basis, n, j):
 
 
 def label(h):
-    return '%s%d.%03d' % ('-' if h < LEVEL else '', abs(h - LEVEL) // 1000, abs(h - LEVEL) % 1000)
+    text = '%d.%03d' % (abs(h - LEVEL) // 1000, abs(h - LEVEL) % 1000)
+    return ('-' if h < LEVEL else '') + text.rstrip('0').rstrip('.')
+
+
+def ticks(first, s, end):
+    """multiples of the step from the first on that lie half a step below the end or more, seven at most; and the end"""
+    return [v for v in range(first, first + 7 * s, s) if v <= max(end - (s + 1) // 2, 0)] + [end]
 
 
 def refusal(basis, knots):
@@ -87,23 +93,23 @@ def body(basis, knots):
     n = len(knots)
     number, at = refusal(basis, knots)
     if number:
-        told = '<text class="r" x="1000" y="6000">table refused: %d' % number
+        told = '<text class="r" x="1100" y="600">table refused: %d' % number
         if at is None:
             return told + '</text>\n'
-        return told + ' at knot %d</text>\n<path class="r" d="M%d,400V5400"/>\n' % (at, knot_column(basis, n, at))
+        return told + ' at knot %d</text>\n<path class="r" d="M%d,400V6400"/>\n' % (at, knot_column(basis, n, at))
     p = min(2048, 256 * ((n - 4) // ROWS[basis][2] + 1))
     heights = [height(value(basis, i / p, knots)) for i in range(p + 1)]
     dots = [(knot_column(basis, n, j), height(knots[j])) for j in range(n) if shown(basis, n, j)]
     every = heights + [h for _, h in dots]
     extent = (min(every) - 1, max(every) + 1)
     s = step(extent[1] - extent[0])
-    text, first = '', extent[0] + s - extent[0] % s
-    for h in range(first, first + 7 * s, s):
-        if h <= extent[1]:
-            y = row(extent, h)
-            text += '<path class="g" d="M950,%dH9600"/><text class="e" x="900" y="%d" dy="50">%s</text>\n' % (y, y, label(h))
-    text += '<path class="k" d="' + ''.join('M%d,%dh0' % (x, row(extent, h)) for x, h in dots)
-    text += '"/>\n<polyline class="c" points="' + ''.join(' %d,%d' % (column(i, p), row(extent, h)) for i, h in enumerate(heights))
+    text = ''
+    for h in ticks(extent[0] + s - extent[0] % s, s, extent[1] - 1):
+        y, u = row(extent, h), abs(h - LEVEL)
+        size = ' s' if u >= (10**6 if u % 1000 else 10**10) else ''
+        text += '<path class="g" d="M950,%dH9600"/><text class="e%s" x="900" y="%d" dy="50">%s</text>\n' % (y, size, y, label(h))
+    text += '<polyline class="c" points="' + ''.join(' %d,%d' % (column(i, p), row(extent, h)) for i, h in enumerate(heights))
+    text += '"/>\n<path class="k" d="' + ''.join('M%d,%dh0' % (x, row(extent, h)) for x, h in dots)
     return text + '"/>\n'
 
 
@@ -116,10 +122,9 @@ def picture(basis, span, knots):
     text = HEAD + ('hours from dusk' if span else 'parameter') + '</text>\n'
     stretch = span * 10 // 36 if span else 1000
     s = step(stretch)
-    for v in range(0, 7 * s, s):
-        if v <= stretch:
-            x = column(v * 36, span * 10) if span else column(v, 1000)
-            text += '<path class="g" d="M%d,400V5450"/><text class="t" x="%d" y="5650">%s</text>\n' % (x, x, label(LEVEL + v))
+    for v in ticks(0, s, stretch):
+        x = column(v * 36, span * 10) if span else column(v, 1000)
+        text += '<path class="g" d="M%d,400V6450"/><text class="t" x="%d" y="6630">%s</text>\n' % (x, x, label(LEVEL + v))
     return text + body(basis, knots) + '</svg>\n'
 
 

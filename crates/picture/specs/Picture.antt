@@ -1,7 +1,7 @@
 -- The picture of a table and of the finds asked of it, as the bytes of an SVG. Definitions only.
 use mathlib.Core.Bool.{cond}
 use mathlib.Core.List.{List, [], _++_}
-use Prim.Native.Nat.{ℕ, zero, suc, _+_, _-_}
+use Prim.Native.Nat.{ℕ, zero, suc, _+_}
 use lib.ListN.{length, getD}
 use lib.Ieee.{Float, nan}
 use Rattle.basis.specs.declared.Basis.{Basis}
@@ -13,9 +13,9 @@ use Rattle.spline.specs.declared.Evaluation.the-variants as E
 use Rattle.table_span.specs.declared.Table.{Table}
 use Rattle.text.specs.Text.{bytes}
 use Rattle.picture_scale.specs.declared.Extent.{Extent}
-use Rattle.picture_scale.specs.Scale.{heightOf, curveHeight, columnOf, piecesOf, shown, knotColumn, extentOf, stepOf, aboveOf}
+use Rattle.picture_scale.specs.Scale.{heightOf, curveHeight, columnOf, piecesOf, shown, knotColumn, extentOf}
 use Rattle.picture_scale.specs.Words.{pointText, dotText}
-use Rattle.picture_axes.specs.Axes.{depthsText, stretchOf, timesText, timeName}
+use Rattle.picture_axes.specs.Axes.{depthAxis, timeAxis, timeName}
 use Rattle.picture_notes.specs.declared.Fault.{Fault}
 use Rattle.picture_notes.specs.Notes.{noteText, faultText}
 use Rattle.picture_finds.specs.Finds.{findsText}
@@ -40,10 +40,10 @@ knotsText b ks e (suc j) = knotsText b ks e j ++ knotText b (length ks) e j (get
 
 unfoldable pub curveText : EndsBy → Basis → List Float → List Float → List ℕ
 curveText m b ks l =
-    let n = length ks in let e = extentOf b ks in let s = stepOf 16 (e .hi - e .lo) in
-    depthsText e s (aboveOf (e .lo) s)
-    ++ bytes "<path class=\"k\" d=\"" ++ knotsText b ks e n
-    ++ bytes "\"/>\n<polyline class=\"c\" points=\"" ++ pointsText b ks e (piecesOf b n) (piecesOf b n + 1) ++ bytes "\"/>\n"
+    let n = length ks in let e = extentOf b ks in
+    depthAxis e
+    ++ bytes "<polyline class=\"c\" points=\"" ++ pointsText b ks e (piecesOf b n) (piecesOf b n + 1)
+    ++ bytes "\"/>\n<path class=\"k\" d=\"" ++ knotsText b ks e n ++ bytes "\"/>\n"
     ++ findsText m b ks e l (length l)
 
 -- the curve, unless the table is refused
@@ -53,15 +53,15 @@ bodyIn m b ks l (E.Refused r) = noteText b (length ks) 0 (bytes "table") r
 
 unfoldable pub headText : List ℕ
 headText =
-    bytes "<svg xmlns=\"http://www.w3.org/2000/svg\" viewBox=\"0 0 10000 7000\" font-family=\"sans-serif\" font-size=\"160\">\n"
+    bytes "<svg xmlns=\"http://www.w3.org/2000/svg\" width=\"1000\" height=\"700\" viewBox=\"0 0 10000 7000\">\n"
+    ++ bytes "<style>svg{font-family:sans-serif;font-size:160px}text{fill:#7a7a7a}path,polyline{fill:none;stroke:#7a7a7a;stroke-width:15}"
     ++ bytes
-    "<style>text{fill:#7a7a7a}path,polyline{fill:none;stroke:#7a7a7a;stroke-width:15}.g{opacity:.3}.e{text-anchor:end}.t{text-anchor:middle}"
-    ++ bytes ".c{stroke:#3b82d6;stroke-width:25}.k{stroke:#d9730d;stroke-width:100;stroke-linecap:round}.f{stroke:#2e9e5b;stroke-width:20}"
+    ".g{opacity:.3}.e{text-anchor:end}.s{font-size:70px}.t{text-anchor:middle}.c{stroke:#3b82d6;stroke-width:25}.f{stroke:#2e9e5b;stroke-width:20}"
     ++ bytes
-    ".p{stroke:#2e9e5b;stroke-width:120;stroke-linecap:round}.r{stroke:#e5484d;stroke-dasharray:60 40}text.r{fill:#e5484d;stroke:none}</style>\n"
-    ++ bytes "<path d=\"M1000,400V5400H9600\"/><text x=\"1000\" y=\"300\">depth</text><text class=\"e\" x=\"9600\" y=\"5850\">"
+    ".k{stroke:#d9730d;stroke-width:100;stroke-linecap:round}.p{stroke:#2e9e5b;stroke-width:120;stroke-linecap:round}.r{stroke:#e5484d;stroke-dasharray:60 40}text.r{fill:#e5484d;stroke:none}</style>\n"
+    ++ bytes "<path d=\"M1000,400V6400H9600\"/><text x=\"1000\" y=\"300\">depth</text><text class=\"e\" x=\"9600\" y=\"6850\">"
 
 unfoldable pub pictureText : Table → EndsBy → List Float → List Float → Fault → List ℕ
 pictureText t m ks l fault =
-    headText ++ timeName (t .span) ++ timesText (t .span) (stepOf 16 (stretchOf (t .span)))
+    headText ++ timeName (t .span) ++ timeAxis (t .span)
     ++ bodyIn m (t .basis) ks l (splineOf (t .basis) nought ks) ++ faultText (t .basis) (length ks) fault ++ bytes "</svg>\n"

@@ -68,7 +68,7 @@ fn put_knots(out: &mut [u8], at: usize, b: Basis, knots: &[f64], e: Extent) -> u
     a
 }
 
-// What is drawn of a table that is not refused: the labels of the depths, the knots, the curve and the finds.
+// What is drawn of a table that is not refused: the depth axis, the curve, the knots above it, and the finds.
 fn put_curve(out: &mut [u8], at: usize, m: EndsBy, b: Basis, knots: &[f64], f: Finds) -> usize
     requires most { ⌜ length (now knots) ≤ mostKnots ⌝ }
     requires room { ⌜ at + 75000 ≤ length (now out) ⌝ }
@@ -76,21 +76,18 @@ fn put_curve(out: &mut [u8], at: usize, m: EndsBy, b: Basis, knots: &[f64], f: F
     ensures short { λ r. ⌜ r ≤ at + 75000 ⌝ }
 {
     let e = picture_scale::extent_of(b, knots);
-    let lo = e.lo;
-    let hi = e.hi;
-    let s = picture_scale::step(16, hi - lo);
-    let a = picture_axes::put_depths(&mut *out, at, e, s, picture_scale::multiple_above(lo, s));
-    let c = text::put_word(&mut *out, a, b"<path class=\"k\" d=\"");
-    let d = put_knots(&mut *out, c, b, knots, e);
-    let g = text::put_word(&mut *out, d, b"\"/>\n<polyline class=\"c\" points=\"");
-    let h = put_points(
+    let a = picture_axes::put_depth_axis(&mut *out, at, e);
+    let c = text::put_word(&mut *out, a, b"<polyline class=\"c\" points=\"");
+    let d = put_points(
         &mut *out,
-        g,
+        c,
         b,
         knots,
         e,
         picture_scale::pieces(b, knots.len()),
     );
+    let g = text::put_word(&mut *out, d, b"\"/>\n<path class=\"k\" d=\"");
+    let h = put_knots(&mut *out, g, b, knots, e);
     let i = text::put_word(&mut *out, h, b"\"/>\n");
     picture_finds::put_finds(out, i, m, b, knots, e, f)
 }
@@ -133,27 +130,27 @@ fn put_head(out: &mut [u8], at: usize) -> usize
     let a = text::put_word(
         &mut *out,
         at,
-        b"<svg xmlns=\"http://www.w3.org/2000/svg\" viewBox=\"0 0 10000 7000\" font-family=\"sans-serif\" font-size=\"160\">\n",
+        b"<svg xmlns=\"http://www.w3.org/2000/svg\" width=\"1000\" height=\"700\" viewBox=\"0 0 10000 7000\">\n",
     );
     let b = text::put_word(
         &mut *out,
         a,
-        b"<style>text{fill:#7a7a7a}path,polyline{fill:none;stroke:#7a7a7a;stroke-width:15}.g{opacity:.3}.e{text-anchor:end}.t{text-anchor:middle}",
+        b"<style>svg{font-family:sans-serif;font-size:160px}text{fill:#7a7a7a}path,polyline{fill:none;stroke:#7a7a7a;stroke-width:15}",
     );
     let c = text::put_word(
         &mut *out,
         b,
-        b".c{stroke:#3b82d6;stroke-width:25}.k{stroke:#d9730d;stroke-width:100;stroke-linecap:round}.f{stroke:#2e9e5b;stroke-width:20}",
+        b".g{opacity:.3}.e{text-anchor:end}.s{font-size:70px}.t{text-anchor:middle}.c{stroke:#3b82d6;stroke-width:25}.f{stroke:#2e9e5b;stroke-width:20}",
     );
     let d = text::put_word(
         &mut *out,
         c,
-        b".p{stroke:#2e9e5b;stroke-width:120;stroke-linecap:round}.r{stroke:#e5484d;stroke-dasharray:60 40}text.r{fill:#e5484d;stroke:none}</style>\n",
+        b".k{stroke:#d9730d;stroke-width:100;stroke-linecap:round}.p{stroke:#2e9e5b;stroke-width:120;stroke-linecap:round}.r{stroke:#e5484d;stroke-dasharray:60 40}text.r{fill:#e5484d;stroke:none}</style>\n",
     );
     text::put_word(
         out,
         d,
-        b"<path d=\"M1000,400V5400H9600\"/><text x=\"1000\" y=\"300\">depth</text><text class=\"e\" x=\"9600\" y=\"5850\">",
+        b"<path d=\"M1000,400V6400H9600\"/><text x=\"1000\" y=\"300\">depth</text><text class=\"e\" x=\"9600\" y=\"6850\">",
     )
 }
 
@@ -176,8 +173,7 @@ pub fn put_picture(
     let span = t.span;
     let a = put_head(&mut *out, at);
     let c = picture_axes::put_time_name(&mut *out, a, span);
-    let s = picture_scale::step(16, picture_axes::stretch(span));
-    let d = picture_axes::put_times(&mut *out, c, span, s);
+    let d = picture_axes::put_time_axis(&mut *out, c, span);
     let e = put_body(&mut *out, d, m, b, knots, f, spline::spline(b, 0.0, knots));
     let g = picture_notes::put_fault(&mut *out, e, b, knots.len() as u64, fault);
     text::put_word(out, g, b"</svg>\n")

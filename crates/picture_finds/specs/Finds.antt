@@ -35,7 +35,7 @@ placeColumn x = 1000 + secondOf 8600 x
 -- from the depth axis to the place and down to the time axis, and a dot
 abbrev pub markText : ℕ → ℕ → List ℕ
 markText x y =
-    numbered (bytes "<path class=\"f\" d=\"M1000,") y ++ numbered (bytes "H") x ++ numbered (bytes "V5400\"/><path class=\"p\" d=\"M") x
+    numbered (bytes "<path class=\"f\" d=\"M1000,") y ++ numbered (bytes "H") x ++ numbered (bytes "V6400\"/><path class=\"p\" d=\"M") x
     ++ numbered (bytes ",") y ++ bytes "h0\"/>\n"
 
 -- a place on the curve

@@ -75,7 +75,7 @@ fn put_mark(out: &mut [u8], at: usize, x: u64, y: u64) -> usize
 {
     let a = put_number(&mut *out, at, b"<path class=\"f\" d=\"M1000,", y);
     let b = put_number(&mut *out, a, b"H", x);
-    let c = put_number(&mut *out, b, b"V5400\"/><path class=\"p\" d=\"M", x);
+    let c = put_number(&mut *out, b, b"V6400\"/><path class=\"p\" d=\"M", x);
     let d = put_number(&mut *out, c, b",", y);
     text::put_word(out, d, b"h0\"/>\n")
 }

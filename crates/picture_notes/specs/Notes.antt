@@ -1,6 +1,7 @@
--- Refusals, as bytes: a line of text below the axes, in one of ten slots, and a line through the knot that is told. Definitions only.
+-- Refusals, as bytes: a line of text in the frame, at its upper left, in one of ten slots, and a line through the knot that is told.
+-- Definitions only.
 use mathlib.Core.List.{List, [], _++_}
-use Prim.Native.Nat.{ℕ, _+_, _*_, _/_, _%_}
+use Prim.Native.Nat.{ℕ, _+_, _*_}
 use Rattle.basis.specs.declared.Basis.{Basis}
 use Rattle.error.specs.declared.Refusal.{Refusal}
 use Rattle.error.specs.declared.Where.{Where}
@@ -14,7 +15,7 @@ use Rattle.picture_notes.specs.declared.Fault.the-variants as F
 
 abbrev pub knotTail : Basis → ℕ → ℕ → List ℕ
 knotTail b n i =
-    numbered (bytes " at knot ") i ++ numbered (bytes "</text>\n<path class=\"r\" d=\"M") (knotColumn b n i) ++ bytes ",400V5400\"/>\n"
+    numbered (bytes " at knot ") i ++ numbered (bytes "</text>\n<path class=\"r\" d=\"M") (knotColumn b n i) ++ bytes ",400V6400\"/>\n"
 
 -- a knot that is told is marked
 abbrev pub tailText : Basis → ℕ → Where → List ℕ
@@ -24,8 +25,8 @@ tailText b n (Segment i) = bytes "</text>\n"
 
 abbrev pub noteText : Basis → ℕ → ℕ → List ℕ → Refusal → List ℕ
 noteText b n slot who r =
-    numbered (bytes "<text class=\"r\" x=\"") (1000 + 4400 * (slot % 2)) ++ numbered (bytes "\" y=\"") (6000 + 180 * (slot / 2))
-    ++ bytes "\">" ++ who ++ numbered (bytes " refused: ") (numberOf r) ++ tailText b n (whereOf r)
+    numbered (bytes "<text class=\"r\" x=\"1100\" y=\"") (600 + 180 * slot) ++ bytes "\">" ++ who
+    ++ numbered (bytes " refused: ") (numberOf r) ++ tailText b n (whereOf r)
 
 abbrev pub faultText : Basis → ℕ → Fault → List ℕ
 faultText b n F.Nothing = []

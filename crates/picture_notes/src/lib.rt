@@ -1,4 +1,4 @@
-// The refusals in the picture, each a line of text below the axes, and a line through the knot that is told.
+// The refusals in the picture, each a line of text at the upper left, and a line through the knot that is told.
 ghost use Prim.Native.Nat.{_≤_, _+_};
 ghost use lib.ListN.{length};
 ghost use Rattle.error.specs.Refusals.{whereOf};
@@ -25,7 +25,7 @@ fn put_knot_tail(out: &mut [u8], at: usize, b: Basis, n: u64, i: u64) -> usize
     let x = picture_scale::knot_column(b, n, i);
     let a = put_number(&mut *out, at, b" at knot ", i);
     let c = put_number(&mut *out, a, b"</text>\n<path class=\"r\" d=\"M", x);
-    text::put_word(out, c, b",400V5400\"/>\n")
+    text::put_word(out, c, b",400V6400\"/>\n")
 }
 
 // A knot that is told is marked.
@@ -41,7 +41,7 @@ fn put_tail(out: &mut [u8], at: usize, b: Basis, n: u64, r: Refusal) -> usize
     }
 }
 
-// The line of text that `who` was refused, in one of ten slots below the axes.
+// The line of text that `who` was refused, in one of ten slots, from above.
 pub fn put_note(
     out: &mut [u8],
     at: usize,
@@ -60,11 +60,10 @@ pub fn put_note(
     let a = put_number(
         &mut *out,
         at,
-        b"<text class=\"r\" x=\"",
-        1000 + 4400 * (slot % 2),
+        b"<text class=\"r\" x=\"1100\" y=\"",
+        600 + 180 * slot,
     );
-    let c = put_number(&mut *out, a, b"\" y=\"", 6000 + 180 * (slot / 2));
-    let d = text::put_word(&mut *out, c, b"\">");
+    let d = text::put_word(&mut *out, a, b"\">");
     let e = text::put_word(&mut *out, d, who);
     let f = put_number(&mut *out, e, b" refused: ", error::number(r) as u64);
     put_tail(out, f, b, n, r)

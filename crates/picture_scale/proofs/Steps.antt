@@ -57,6 +57,6 @@ pub column-within : (i m : ℕ) → (1000 ≤ columnOf i m) × (columnOf i m ≤
 unfolding columnOf
 column-within i m = (omega arith, omega arith)
 
-pub row-within : (e : Extent) (h : ℕ) → rowOf e h ≤ 5400
+pub row-within : (e : Extent) (h : ℕ) → (400 ≤ rowOf e h) × (rowOf e h ≤ 6400)
 unfolding rowOf
-row-within e h = omega arith
+row-within e h = (omega arith, omega arith)

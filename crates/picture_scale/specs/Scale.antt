@@ -1,5 +1,5 @@
 -- Where things stand in the picture, in whole units of its view box, 10,000 wide and 7,000 high. The frame goes from 1,000 to 9,600 and
--- from 400 down to 5,400. Definitions only.
+-- from 400 down to 6,400. Definitions only.
 use mathlib.Core.Bool.{Bool, true, cond, _&&_}
 use mathlib.Core.List.{List}
 use Prim.Native.Nat.{ℕ, zero, suc, _+_, _*_, _-_, _/_, _%_, min, max}
@@ -45,7 +45,7 @@ columnOf i m = 1000 + min 8600 (cond (eqb m 0) 0 (i * 8600 / m))
 
 -- a height between the least and the greatest that are shown
 unfoldable pub rowOf : Extent → ℕ → ℕ
-rowOf e h = 5400 - min 5000 ((h - e .lo) * 5000 / (e .hi - e .lo))
+rowOf e h = 6400 - min 6000 ((h - e .lo) * 6000 / (e .hi - e .lo))
 
 -- ---- points of the curve, and knots
 

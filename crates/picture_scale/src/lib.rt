@@ -48,7 +48,7 @@ fn greater(a: u64, b: u64) -> u64
 }
 
 // a - b, or 0 where b is the greater.
-fn above(a: u64, b: u64) -> u64
+pub fn above(a: u64, b: u64) -> u64
     ensures { λ r. ⌜ r ≡ a - b ⌝ }
 {
     if b < a { a - b } else { 0 }
@@ -100,11 +100,11 @@ pub fn row(e: Extent, h: u64) -> u64
     requires open { ⌜ Open e ⌝ }
     requires height { ⌜ h ≤ highest ⌝ }
     ensures answer { λ r. ⌜ r ≡ rowOf e h ⌝ }
-    ensures most { λ r. ⌜ r ≤ 5400 ⌝ }
+    ensures most { λ r. ⌜ r ≤ 6400 ⌝ }
 {
     let lo = e.lo;
     let hi = e.hi;
-    5400 - lesser(5000, above(h, lo) * 5000 / (hi - lo))
+    6400 - lesser(6000, above(h, lo) * 6000 / (hi - lo))
 }
 
 // How many segments n knots make; one where they are too few.

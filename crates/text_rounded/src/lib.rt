@@ -91,8 +91,8 @@ pub fn units(a: u64, d: usize) -> u64
     nearest(high, low % 2048, power(2, (s - 12) as usize))
 }
 
-// A whole number below 10^13.
-fn put_whole(out: &mut [u8], at: usize, n: u64, k: usize) -> usize
+// A whole number of at most k + 1 digits.
+pub fn put_whole(out: &mut [u8], at: usize, n: u64, k: usize) -> usize
     requires digits { ⌜ n < 10 ^ (k + 1) ⌝ }
     requires room { ⌜ at + k < length (now out) ⌝ }
     ensures text { λ r. ⌜ Wrote (now (out .entry)) at (decText k n) (now (out .exit)) r ⌝ }

@@ -1,4 +1,4 @@
--- A label within the stretch, and none beyond it.
+-- A label up to the last, and none beyond it.
 use borrow.Author.Needs.{needs}
 use native.Mathlib.Omega.{arith}
 use borrow.Author.Tests.{le-leb, lt-leb}
@@ -7,21 +7,26 @@ use Rattle.picture_axes.proofs.put_time_label.Statement.{statement}
 use Rattle.picture_axes.proofs.put_time_label.Tie as tie
 
 put-time-requires : tie.Need-put-time-requires
-put-time-requires c κs = (omega (arith, c .before .before .stretch .ensures .1), omega arith)
+put-time-requires c κs = search needs
+
+same-length : tie.Need-same-length
+same-length c = search needs
 
 returns : tie.Need-returns
-returns c =
-    let at-stretch = c .before .before .before .before .before in (
-      rw (← at-stretch .stretch .ensures .0, le-leb (at-stretch .before .before .args .v) (at-stretch .stretch .result) (omega arith))
-          (c .before .before .put-time .ensures .0),
-      c .before .before .put-time .ensures .1,
-    )
-
-returns-2 : tie.Need-returns-2
-returns-2 c = (
-  rw (← c .before .stretch .ensures .0, lt-leb (c .before .before .before .args .v) (c .before .stretch .result) (omega arith)) (nothing _ _),
-  omega arith,
+returns c = (
+  rw (le-leb (c .before .before .before .before .before .before .args .v) (c .before .before .before .before .before .before .args .last) (omega arith))
+      (c .before .before .put-time .ensures .0),
+  c .before .before .put-time .ensures .1,
 )
 
+returns-2 : tie.Need-returns-2
+returns-2 c = (rw (lt-leb (c .before .before .args .v) (c .before .before .args .last) (omega arith)) (nothing _ _), omega arith)
+
 pub put-time-label-spec : {M : Type 1} → statement M
-put-time-label-spec = tie.close (tie.spec (λ c κs. search needs) put-time-requires (λ c. search needs) returns returns-2)
+put-time-label-spec =
+    tie.close
+    (tie.spec
+    put-time-requires
+    same-length
+    returns
+    returns-2)

@@ -8,60 +8,106 @@ use lib.ListN.{length}
 use Rattle.picture_notes.proofs.put_note.Statement.{statement}
 use Rattle.picture_notes.proofs.put_note.Tie as tie
 
+slice-aggregate-put-number : tie.Need-slice-aggregate-put-number
+slice-aggregate-put-number c = search needs
+
+mul-put-number : tie.Need-mul-put-number
+mul-put-number c = search needs
+
+add-put-number : tie.Need-add-put-number
+add-put-number c = search needs
+
+put-number-requires : tie.Need-put-number-requires
+put-number-requires c κs = search needs
+
+slice-aggregate-put-word : tie.Need-slice-aggregate-put-word
+slice-aggregate-put-word c = search needs
+
+put-word-requires : tie.Need-put-word-requires
+put-word-requires c κs = search needs
+
+put-word-requires-2 : tie.Need-put-word-requires-2
+put-word-requires-2 c κs = search needs
+
+slice-aggregate-put-number-2 : tie.Need-slice-aggregate-put-number-2
+slice-aggregate-put-number-2 c = search needs
+
+number-requires : tie.Need-number-requires
+number-requires c κs = search needs
+
+cast-put-number : tie.Need-cast-put-number
+cast-put-number c = search needs
+
+put-number-requires-2 : tie.Need-put-number-requires-2
+put-number-requires-2 c κs = search needs
+
 put-tail-requires : tie.Need-put-tail-requires
 put-tail-requires c κs =
-    let at-put-number3 = c .before .before .before in
-    let at-put-word2 = at-put-number3 .before .before .before .before .before .before in
+    let at-put-number2 = c .before .before .before in
+    let at-put-word2 = at-put-number2 .before .before .before .before .before .before in
     let at-put-word = at-put-word2 .before .before .before .before in
-    let at-put-number2 = at-put-word .before .before .before .before .before in
-    let at-put-number = at-put-number2 .before .before .before .before .before in
+    let at-put-number = at-put-word .before .before .before .before .before in
     let start = at-put-number .before .before .before .before .before in
-    let w : at-put-word2 .put-word2 .result ≡ at-put-word .put-word .result + length (start .args .who .now) =
-    at-put-word2 .put-word2 .ensures .next in
+    let w : at-put-word2 .put-word2 .result ≡ at-put-word .put-word .result
+    + length (start .args .who .now) = at-put-word2 .put-word2 .ensures .next in
     omega (
       arith,
       start .pre .1 .0,
       start .pre .1 .1,
       at-put-number .put-number .ensures .1,
-      at-put-number2 .put-number2 .ensures .1,
       at-put-word .put-word .ensures .next,
       w,
-      at-put-number3 .put-number3 .ensures .1,
+      at-put-number2 .put-number2 .ensures .1,
       at-put-number .put-number .ensures .0 .long,
-      at-put-number2 .put-number2 .ensures .0 .long,
       at-put-word .put-word .ensures .long,
       at-put-word2 .put-word2 .ensures .long,
-      at-put-number3 .put-number3 .ensures .0 .long,
+      at-put-number2 .put-number2 .ensures .0 .long,
     )
+
+same-length : tie.Need-same-length
+same-length c = search needs
 
 returns : tie.Need-returns
 returns c =
-    let at-put-number3 = c .before .before .before .before .before .before in
-    let at-put-word2 = at-put-number3 .before .before .before .before .before .before in
+    let at-put-number2 = c .before .before .before .before .before .before in
+    let at-number = at-put-number2 .before in
+    let at-put-word2 = at-number .before .before .before .before .before in
     let at-put-word = at-put-word2 .before .before .before .before in
-    let at-put-number2 = at-put-word .before .before .before .before .before in
-    let at-put-number = at-put-number2 .before .before .before .before .before in
+    let at-put-number = at-put-word .before .before .before .before .before in
     let start = at-put-number .before .before .before .before .before in
-    let w : at-put-word2 .put-word2 .result ≡ at-put-word .put-word .result + length (start .args .who .now) =
-    at-put-word2 .put-word2 .ensures .next in (
-      (then (then (then
-          (then (then (at-put-number .put-number .ensures .0) (at-put-number2 .put-number2 .ensures .0)) (at-put-word .put-word .ensures))
-          (at-put-word2 .put-word2 .ensures)) (rw (at-put-number3 .before .number .ensures) at (at-put-number3 .put-number3 .ensures .0)))
+    let w : at-put-word2 .put-word2 .result ≡ at-put-word .put-word .result
+    + length (start .args .who .now) = at-put-word2 .put-word2 .ensures .next in (
+      (then (then (then (then (at-put-number .put-number .ensures .0)
+          (at-put-word .put-word .ensures))
+          (at-put-word2 .put-word2 .ensures))
+          (rw (at-number .number .ensures) at (at-put-number2 .put-number2 .ensures .0)))
           (c .before .before .put-tail .ensures .0)),
       omega (
         arith,
         start .pre .1 .0,
         at-put-number .put-number .ensures .1,
-        at-put-number2 .put-number2 .ensures .1,
         at-put-word .put-word .ensures .next,
         w,
-        at-put-number3 .put-number3 .ensures .1,
+        at-put-number2 .put-number2 .ensures .1,
         c .before .before .put-tail .ensures .1,
       ),
     )
 
 pub put-note-spec : {M : Type 1} → statement M
 put-note-spec =
-    tie.close (tie.spec (λ c. search needs) (λ c. search needs) (λ c. search needs) (λ c κs. search needs) (λ c. search needs) (λ c. search needs)
-    (λ c. search needs) (λ c κs. search needs) (λ c. search needs) (λ c κs. search needs) (λ c κs. search needs) (λ c. search needs)
-    (λ c κs. search needs) (λ c. search needs) (λ c κs. search needs) put-tail-requires (λ c. search needs) returns)
+    tie.close
+    (tie.spec
+    slice-aggregate-put-number
+    mul-put-number
+    add-put-number
+    put-number-requires
+    slice-aggregate-put-word
+    put-word-requires
+    put-word-requires-2
+    slice-aggregate-put-number-2
+    number-requires
+    cast-put-number
+    put-number-requires-2
+    put-tail-requires
+    same-length
+    returns)

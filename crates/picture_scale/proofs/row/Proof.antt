@@ -9,7 +9,7 @@ use Rattle.picture_scale.proofs.row.Tie as tie
 
 returns : tie.Need-returns
 unfolding rowOf
-returns c = (ap (λ x. 5400 - x) (rw (c .before .above .ensures) at (c .lesser .ensures)), omega arith)
+returns c = (ap (λ x. 6400 - x) (rw (c .before .above .ensures) at (c .lesser .ensures)), omega arith)
 
 pub row-spec : {M : Type 1} → statement M
 row-spec =
