@@ -5,36 +5,6 @@ use Rattle.text.proofs.Writing.{then}
 use Rattle.picture_axes.proofs.put_depth.Statement.{statement}
 use Rattle.picture_axes.proofs.put_depth.Tie as tie
 
-row-requires : tie.Need-row-requires
-row-requires c κs = search needs
-
-slice-aggregate-put-number : tie.Need-slice-aggregate-put-number
-slice-aggregate-put-number c = search needs
-
-put-number-requires : tie.Need-put-number-requires
-put-number-requires c κs = search needs
-
-slice-aggregate-put-word : tie.Need-slice-aggregate-put-word
-slice-aggregate-put-word c = search needs
-
-put-word-requires : tie.Need-put-word-requires
-put-word-requires c κs = search needs
-
-put-size-requires : tie.Need-put-size-requires
-put-size-requires c κs = search needs
-
-slice-aggregate-put-number-2 : tie.Need-slice-aggregate-put-number-2
-slice-aggregate-put-number-2 c = search needs
-
-put-number-requires-2 : tie.Need-put-number-requires-2
-put-number-requires-2 c κs = search needs
-
-slice-aggregate-put-word-2 : tie.Need-slice-aggregate-put-word-2
-slice-aggregate-put-word-2 c = search needs
-
-put-word-requires-2 : tie.Need-put-word-requires-2
-put-word-requires-2 c κs = search needs
-
 put-label-requires : tie.Need-put-label-requires
 put-label-requires c κs =
     let at-put-word2 = c .before .before .before in
@@ -59,9 +29,6 @@ put-label-requires c κs =
         at-put-word2 .put-word2 .ensures .long,
       ),
     )
-
-slice-aggregate-put-word-3 : tie.Need-slice-aggregate-put-word-3
-slice-aggregate-put-word-3 c = search needs
 
 put-word-requires-3 : tie.Need-put-word-requires-3
 put-word-requires-3 c κs =
@@ -89,9 +56,6 @@ put-word-requires-3 c κs =
       at-put-label .put-label .ensures .0 .long,
     )
 
-same-length : tie.Need-same-length
-same-length c = search needs
-
 returns : tie.Need-returns
 returns c =
     let at-put-label = c .before .before .before .before .before .before .before in
@@ -101,13 +65,9 @@ returns c =
     let at-put-word = at-put-size .before .before .before .before in
     let at-put-number = at-put-word .before .before .before .before .before in
     let at-row = at-put-number .before .before .before in (
-      (then (then (then (then (then (then (rw (at-row .row .ensures .0) at (at-put-number .put-number .ensures .0))
-          (at-put-word .put-word .ensures))
-          (at-put-size .put-size .ensures .0))
-          (rw (at-row .row .ensures .0) at (at-put-number2 .put-number2 .ensures .0)))
-          (at-put-word2 .put-word2 .ensures))
-          (at-put-label .put-label .ensures .0))
-          (c .before .before .put-word3 .ensures)),
+      (then (then (then (then (then (then (rw (at-row .row .ensures .0) at (at-put-number .put-number .ensures .0)) (at-put-word .put-word .ensures))
+          (at-put-size .put-size .ensures .0)) (rw (at-row .row .ensures .0) at (at-put-number2 .put-number2 .ensures .0)))
+          (at-put-word2 .put-word2 .ensures)) (at-put-label .put-label .ensures .0)) (c .before .before .put-word3 .ensures)),
       omega (
         arith,
         at-put-number .put-number .ensures .1,
@@ -122,20 +82,6 @@ returns c =
 
 pub put-depth-spec : {M : Type 1} → statement M
 put-depth-spec =
-    tie.close
-    (tie.spec
-    row-requires
-    slice-aggregate-put-number
-    put-number-requires
-    slice-aggregate-put-word
-    put-word-requires
-    put-size-requires
-    slice-aggregate-put-number-2
-    put-number-requires-2
-    slice-aggregate-put-word-2
-    put-word-requires-2
-    put-label-requires
-    slice-aggregate-put-word-3
-    put-word-requires-3
-    same-length
-    returns)
+    tie.close (tie.spec (λ c κs. search needs) (λ c. search needs) (λ c κs. search needs) (λ c. search needs) (λ c κs. search needs)
+    (λ c κs. search needs) (λ c. search needs) (λ c κs. search needs) (λ c. search needs) (λ c κs. search needs) put-label-requires
+    (λ c. search needs) put-word-requires-3 (λ c. search needs) returns)

@@ -6,36 +6,6 @@ use Rattle.picture_axes.specs.Axes.{depthAxis}
 use Rattle.picture_axes.proofs.put_depth_axis.Statement.{statement}
 use Rattle.picture_axes.proofs.put_depth_axis.Tie as tie
 
-sub-step : tie.Need-sub-step
-sub-step c = search needs
-
-step-requires : tie.Need-step-requires
-step-requires c κs = search needs
-
-multiple-above-requires : tie.Need-multiple-above-requires
-multiple-above-requires c κs = search needs
-
-sub-put-depths : tie.Need-sub-put-depths
-sub-put-depths c = search needs
-
-add-put-depths : tie.Need-add-put-depths
-add-put-depths c = search needs
-
-sub-put-depths-2 : tie.Need-sub-put-depths-2
-sub-put-depths-2 c = search needs
-
-put-depths-requires : tie.Need-put-depths-requires
-put-depths-requires c κs = search needs
-
-sub-put-depth : tie.Need-sub-put-depth
-sub-put-depth c = search needs
-
-put-depth-requires : tie.Need-put-depth-requires
-put-depth-requires c κs = search needs
-
-same-length : tie.Need-same-length
-same-length c = search needs
-
 returns : tie.Need-returns
 unfolding depthAxis
 returns c =
@@ -49,16 +19,5 @@ returns c =
 
 pub put-depth-axis-spec : {M : Type 1} → statement M
 put-depth-axis-spec =
-    tie.close
-    (tie.spec
-    sub-step
-    step-requires
-    multiple-above-requires
-    sub-put-depths
-    add-put-depths
-    sub-put-depths-2
-    put-depths-requires
-    sub-put-depth
-    put-depth-requires
-    same-length
-    returns)
+    tie.close (tie.spec (λ c. search needs) (λ c κs. search needs) (λ c κs. search needs) (λ c. search needs) (λ c. search needs) (λ c. search needs)
+    (λ c κs. search needs) (λ c. search needs) (λ c κs. search needs) (λ c. search needs) returns)

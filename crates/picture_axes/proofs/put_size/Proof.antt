@@ -5,18 +5,6 @@ use Rattle.text.proofs.Writing.{nothing}
 use Rattle.picture_axes.proofs.put_size.Statement.{statement}
 use Rattle.picture_axes.proofs.put_size.Tie as tie
 
-is-long-requires : tie.Need-is-long-requires
-is-long-requires c κs = search needs
-
-slice-aggregate-put-word : tie.Need-slice-aggregate-put-word
-slice-aggregate-put-word c = search needs
-
-put-word-requires : tie.Need-put-word-requires
-put-word-requires c κs = search needs
-
-same-length : tie.Need-same-length
-same-length c = search needs
-
 returns : tie.Need-returns
 returns c =
     let at-if1 = c .before .before .before .before .before in
@@ -29,12 +17,4 @@ returns-2 : tie.Need-returns-2
 returns-2 c = (rw (← c .before .is-long .ensures, c .if1 .left) (nothing _ _), omega arith)
 
 pub put-size-spec : {M : Type 1} → statement M
-put-size-spec =
-    tie.close
-    (tie.spec
-    is-long-requires
-    slice-aggregate-put-word
-    put-word-requires
-    same-length
-    returns
-    returns-2)
+put-size-spec = tie.close (tie.spec (λ c κs. search needs) (λ c. search needs) (λ c κs. search needs) (λ c. search needs) returns returns-2)

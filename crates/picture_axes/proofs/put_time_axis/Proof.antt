@@ -6,27 +6,6 @@ use Rattle.picture_axes.specs.Axes.{timeAxis}
 use Rattle.picture_axes.proofs.put_time_axis.Statement.{statement}
 use Rattle.picture_axes.proofs.put_time_axis.Tie as tie
 
-stretch-requires : tie.Need-stretch-requires
-stretch-requires c κs = search needs
-
-step-requires : tie.Need-step-requires
-step-requires c κs = search needs
-
-add-above : tie.Need-add-above
-add-above c = search needs
-
-above-requires : tie.Need-above-requires
-above-requires c κs = search needs
-
-put-times-requires : tie.Need-put-times-requires
-put-times-requires c κs = search needs
-
-put-time-requires : tie.Need-put-time-requires
-put-time-requires c κs = search needs
-
-same-length : tie.Need-same-length
-same-length c = search needs
-
 returns : tie.Need-returns
 unfolding timeAxis
 returns c =
@@ -41,13 +20,5 @@ returns c =
 
 pub put-time-axis-spec : {M : Type 1} → statement M
 put-time-axis-spec =
-    tie.close
-    (tie.spec
-    stretch-requires
-    step-requires
-    add-above
-    above-requires
-    put-times-requires
-    put-time-requires
-    same-length
-    returns)
+    tie.close (tie.spec (λ c κs. search needs) (λ c κs. search needs) (λ c. search needs) (λ c κs. search needs) (λ c κs. search needs)
+    (λ c κs. search needs) (λ c. search needs) returns)

@@ -8,39 +8,6 @@ use lib.ListN.{length}
 use Rattle.picture_notes.proofs.put_note.Statement.{statement}
 use Rattle.picture_notes.proofs.put_note.Tie as tie
 
-slice-aggregate-put-number : tie.Need-slice-aggregate-put-number
-slice-aggregate-put-number c = search needs
-
-mul-put-number : tie.Need-mul-put-number
-mul-put-number c = search needs
-
-add-put-number : tie.Need-add-put-number
-add-put-number c = search needs
-
-put-number-requires : tie.Need-put-number-requires
-put-number-requires c κs = search needs
-
-slice-aggregate-put-word : tie.Need-slice-aggregate-put-word
-slice-aggregate-put-word c = search needs
-
-put-word-requires : tie.Need-put-word-requires
-put-word-requires c κs = search needs
-
-put-word-requires-2 : tie.Need-put-word-requires-2
-put-word-requires-2 c κs = search needs
-
-slice-aggregate-put-number-2 : tie.Need-slice-aggregate-put-number-2
-slice-aggregate-put-number-2 c = search needs
-
-number-requires : tie.Need-number-requires
-number-requires c κs = search needs
-
-cast-put-number : tie.Need-cast-put-number
-cast-put-number c = search needs
-
-put-number-requires-2 : tie.Need-put-number-requires-2
-put-number-requires-2 c κs = search needs
-
 put-tail-requires : tie.Need-put-tail-requires
 put-tail-requires c κs =
     let at-put-number2 = c .before .before .before in
@@ -64,9 +31,6 @@ put-tail-requires c κs =
       at-put-number2 .put-number2 .ensures .0 .long,
     )
 
-same-length : tie.Need-same-length
-same-length c = search needs
-
 returns : tie.Need-returns
 returns c =
     let at-put-number2 = c .before .before .before .before .before .before in
@@ -75,13 +39,10 @@ returns c =
     let at-put-word = at-put-word2 .before .before .before .before in
     let at-put-number = at-put-word .before .before .before .before .before in
     let start = at-put-number .before .before .before .before .before in
-    let w : at-put-word2 .put-word2 .result ≡ at-put-word .put-word .result
-    + length (start .args .who .now) = at-put-word2 .put-word2 .ensures .next in (
-      (then (then (then (then (at-put-number .put-number .ensures .0)
-          (at-put-word .put-word .ensures))
-          (at-put-word2 .put-word2 .ensures))
-          (rw (at-number .number .ensures) at (at-put-number2 .put-number2 .ensures .0)))
-          (c .before .before .put-tail .ensures .0)),
+    let w : at-put-word2 .put-word2 .result ≡ at-put-word .put-word .result + length (start .args .who .now) =
+    at-put-word2 .put-word2 .ensures .next in (
+      (then (then (then (then (at-put-number .put-number .ensures .0) (at-put-word .put-word .ensures)) (at-put-word2 .put-word2 .ensures))
+          (rw (at-number .number .ensures) at (at-put-number2 .put-number2 .ensures .0))) (c .before .before .put-tail .ensures .0)),
       omega (
         arith,
         start .pre .1 .0,
@@ -95,19 +56,6 @@ returns c =
 
 pub put-note-spec : {M : Type 1} → statement M
 put-note-spec =
-    tie.close
-    (tie.spec
-    slice-aggregate-put-number
-    mul-put-number
-    add-put-number
-    put-number-requires
-    slice-aggregate-put-word
-    put-word-requires
-    put-word-requires-2
-    slice-aggregate-put-number-2
-    number-requires
-    cast-put-number
-    put-number-requires-2
-    put-tail-requires
-    same-length
+    tie.close (tie.spec (λ c. search needs) (λ c. search needs) (λ c. search needs) (λ c κs. search needs) (λ c. search needs) (λ c κs. search needs)
+    (λ c κs. search needs) (λ c. search needs) (λ c κs. search needs) (λ c. search needs) (λ c κs. search needs) put-tail-requires (λ c. search needs)
     returns)

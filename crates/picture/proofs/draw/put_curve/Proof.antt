@@ -7,27 +7,8 @@ use Rattle.picture.specs.Picture.{curveText}
 use Rattle.picture.proofs.draw.put_curve.Statement.{statement}
 use Rattle.picture.proofs.draw.put_curve.Tie as tie
 
-extent-of-requires : tie.Need-extent-of-requires
-extent-of-requires c κs = search needs
-
 put-depth-axis-requires : tie.Need-put-depth-axis-requires
-put-depth-axis-requires c κs =
-    let start = c .before .before .before .before in (
-      c .before .extent-of .ensures .1,
-      omega (
-        arith,
-        start .pre .1,
-      ),
-    )
-
-slice-aggregate-put-word : tie.Need-slice-aggregate-put-word
-slice-aggregate-put-word c = search needs
-
-put-word-requires : tie.Need-put-word-requires
-put-word-requires c κs = search needs
-
-pieces-requires : tie.Need-pieces-requires
-pieces-requires c κs = search needs
+put-depth-axis-requires c κs = let start = c .before .before .before .before in (c .before .extent-of .ensures .1, omega (arith, start .pre .1))
 
 put-points-requires : tie.Need-put-points-requires
 put-points-requires c κs =
@@ -48,9 +29,6 @@ put-points-requires c κs =
         ),
       ),
     )
-
-slice-aggregate-put-word-2 : tie.Need-slice-aggregate-put-word-2
-slice-aggregate-put-word-2 c = search needs
 
 put-word-requires-2 : tie.Need-put-word-requires-2
 put-word-requires-2 c κs =
@@ -94,9 +72,6 @@ put-knots-requires c κs =
         ),
       ),
     )
-
-slice-aggregate-put-word-3 : tie.Need-slice-aggregate-put-word-3
-slice-aggregate-put-word-3 c = search needs
 
 put-word-requires-3 : tie.Need-put-word-requires-3
 put-word-requires-3 c κs =
@@ -161,12 +136,8 @@ same-length c =
     let at-put-points = at-put-word2 .before .before .before .before .before in
     let at-put-word = at-put-points .before .before .before .before .before in
     let at-put-depth-axis = at-put-word .before .before .before .before .before in
-    c .before .before .put-finds .ensures .0 .long
-    ∙ at-put-word3 .put-word3 .ensures .long
-    ∙ at-put-knots .put-knots .ensures .0 .long
-    ∙ at-put-word2 .put-word2 .ensures .long
-    ∙ at-put-points .put-points .ensures .0 .long
-    ∙ at-put-word .put-word .ensures .long
+    c .before .before .put-finds .ensures .0 .long ∙ at-put-word3 .put-word3 .ensures .long ∙ at-put-knots .put-knots .ensures .0 .long
+    ∙ at-put-word2 .put-word2 .ensures .long ∙ at-put-points .put-points .ensures .0 .long ∙ at-put-word .put-word .ensures .long
     ∙ at-put-depth-axis .put-depth-axis .ensures .0 .long
 
 returns : tie.Need-returns
@@ -180,13 +151,9 @@ returns c =
     let at-put-word = at-pieces .before .before .before .before in
     let at-put-depth-axis = at-put-word .before .before .before .before .before in
     let at-extent-of = at-put-depth-axis .before .before in (
-      rw (← at-extent-of .extent-of .ensures .0, ← at-pieces .pieces .ensures .0)
-          (then (then (then (then (then (then (at-put-depth-axis .put-depth-axis .ensures .0)
-          (at-put-word .put-word .ensures))
-          (at-put-points .put-points .ensures .0))
-          (at-put-word2 .put-word2 .ensures))
-          (at-put-knots .put-knots .ensures .0))
-          (at-put-word3 .put-word3 .ensures))
+      rw (← at-extent-of .extent-of .ensures .0, ← at-pieces .pieces .ensures .0) (then (then (then (then
+          (then (then (at-put-depth-axis .put-depth-axis .ensures .0) (at-put-word .put-word .ensures)) (at-put-points .put-points .ensures .0))
+          (at-put-word2 .put-word2 .ensures)) (at-put-knots .put-knots .ensures .0)) (at-put-word3 .put-word3 .ensures))
           (c .before .before .put-finds .ensures .0)),
       omega (
         arith,
@@ -202,19 +169,6 @@ returns c =
 
 pub put-curve-spec : {M : Type 1} → statement M
 put-curve-spec =
-    tie.close
-    (tie.spec
-    extent-of-requires
-    put-depth-axis-requires
-    slice-aggregate-put-word
-    put-word-requires
-    pieces-requires
-    put-points-requires
-    slice-aggregate-put-word-2
-    put-word-requires-2
-    put-knots-requires
-    slice-aggregate-put-word-3
-    put-word-requires-3
-    put-finds-requires
-    same-length
-    returns)
+    tie.close (tie.spec (λ c κs. search needs) put-depth-axis-requires (λ c. search needs) (λ c κs. search needs) (λ c κs. search needs)
+    put-points-requires (λ c. search needs) put-word-requires-2 put-knots-requires (λ c. search needs) put-word-requires-3 put-finds-requires
+    same-length returns)

@@ -8,12 +8,6 @@ use lib.Ieee.{ofBits}
 use Rattle.picture.proofs.draw.put_picture.Statement.{statement}
 use Rattle.picture.proofs.draw.put_picture.Tie as tie
 
-put-head-requires : tie.Need-put-head-requires
-put-head-requires c κs = search needs
-
-put-time-name-requires : tie.Need-put-time-name-requires
-put-time-name-requires c κs = search needs
-
 put-time-axis-requires : tie.Need-put-time-axis-requires
 put-time-axis-requires c κs =
     let at-put-time-name = c .before .before .before in
@@ -27,9 +21,6 @@ put-time-axis-requires c κs =
       at-put-head .put-head .ensures .0 .long,
       at-put-time-name .put-time-name .ensures .0 .long,
     )
-
-spline-requires : tie.Need-spline-requires
-spline-requires c κs = search needs
 
 put-body-requires : tie.Need-put-body-requires
 put-body-requires c κs =
@@ -70,9 +61,6 @@ put-fault-requires c κs =
       at-put-body .put-body .ensures .0 .long,
     )
 
-slice-aggregate-put-word : tie.Need-slice-aggregate-put-word
-slice-aggregate-put-word c = search needs
-
 put-word-requires : tie.Need-put-word-requires
 put-word-requires c κs =
     let at-put-fault = c .before .before .before .before in
@@ -103,12 +91,8 @@ same-length c =
     let at-put-time-axis = at-put-body .before .before .before .before .before in
     let at-put-time-name = at-put-time-axis .before .before .before .before in
     let at-put-head = at-put-time-name .before .before .before .before in
-    c .before .before .put-word .ensures .long
-    ∙ at-put-fault .put-fault .ensures .0 .long
-    ∙ at-put-body .put-body .ensures .0 .long
-    ∙ at-put-time-axis .put-time-axis .ensures .0 .long
-    ∙ at-put-time-name .put-time-name .ensures .0 .long
-    ∙ at-put-head .put-head .ensures .0 .long
+    c .before .before .put-word .ensures .long ∙ at-put-fault .put-fault .ensures .0 .long ∙ at-put-body .put-body .ensures .0 .long
+    ∙ at-put-time-axis .put-time-axis .ensures .0 .long ∙ at-put-time-name .put-time-name .ensures .0 .long ∙ at-put-head .put-head .ensures .0 .long
 
 returns : tie.Need-returns
 unfolding pictureText ofBits
@@ -119,12 +103,9 @@ returns c =
     let at-put-time-axis = at-spline .before .before .before .before in
     let at-put-time-name = at-put-time-axis .before .before .before .before in
     let at-put-head = at-put-time-name .before .before .before .before in (
-      (then (then (then (then (then (at-put-head .put-head .ensures .0)
-          (at-put-time-name .put-time-name .ensures .0))
-          (at-put-time-axis .put-time-axis .ensures .0))
-          (rw (at-spline .spline .ensures) at (at-put-body .put-body .ensures .0)))
-          (at-put-fault .put-fault .ensures .0))
-          (c .before .before .put-word .ensures)),
+      (then (then (then (then (then (at-put-head .put-head .ensures .0) (at-put-time-name .put-time-name .ensures .0))
+          (at-put-time-axis .put-time-axis .ensures .0)) (rw (at-spline .spline .ensures) at (at-put-body .put-body .ensures .0)))
+          (at-put-fault .put-fault .ensures .0)) (c .before .before .put-word .ensures)),
       omega (
         arith,
         at-put-head .put-head .ensures .1,
@@ -138,15 +119,5 @@ returns c =
 
 pub put-picture-spec : {M : Type 1} → statement M
 put-picture-spec =
-    tie.close
-    (tie.spec
-    put-head-requires
-    put-time-name-requires
-    put-time-axis-requires
-    spline-requires
-    put-body-requires
-    put-fault-requires
-    slice-aggregate-put-word
-    put-word-requires
-    same-length
-    returns)
+    tie.close (tie.spec (λ c κs. search needs) (λ c κs. search needs) put-time-axis-requires (λ c κs. search needs) put-body-requires
+    put-fault-requires (λ c. search needs) put-word-requires same-length returns)

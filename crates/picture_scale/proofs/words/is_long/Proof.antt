@@ -6,15 +6,6 @@ use Rattle.picture_scale.specs.Words.{isLong}
 use Rattle.picture_scale.proofs.words.is_long.Statement.{statement}
 use Rattle.picture_scale.proofs.words.is_long.Tie as tie
 
-above-requires : tie.Need-above-requires
-above-requires c κs = search needs
-
-above-requires-2 : tie.Need-above-requires-2
-above-requires-2 c κs = search needs
-
-add-u : tie.Need-add-u
-add-u c = search needs
-
 returns : tie.Need-returns
 unfolding isLong
 returns c = rw (← c .before .before .above .ensures, ← c .before .above2 .ensures, eq-eqb _ _ (c .if1 .taken)) refl
@@ -24,4 +15,4 @@ unfolding isLong
 returns-2 c = rw (← c .before .before .above .ensures, ← c .before .above2 .ensures, ne-eqb _ _ (c .if1 .left)) refl
 
 pub is-long-spec : {M : Type 1} → statement M
-is-long-spec = tie.close (tie.spec above-requires above-requires-2 add-u returns returns-2)
+is-long-spec = tie.close (tie.spec (λ c κs. search needs) (λ c κs. search needs) (λ c. search needs) returns returns-2)

@@ -6,25 +6,11 @@ use Rattle.picture_scale.specs.Words.{trimmedText}
 use Rattle.picture_scale.proofs.words.put_trimmed.Statement.{statement}
 use Rattle.picture_scale.proofs.words.put_trimmed.Tie as tie
 
-put-whole-requires : tie.Need-put-whole-requires
-put-whole-requires c κs = search needs
-
-same-length : tie.Need-same-length
-same-length c = search needs
-
 returns : tie.Need-returns
 unfolding trimmedText
 returns c =
-    let at-if1 = c .before .before .before .before in (
-      rw (eq-eqb _ _ (at-if1 .if1 .taken)) (c .before .before .put-whole .ensures .0),
-      omega (arith, c .before .before .put-whole .ensures .1),
-    )
-
-put-fixed-requires : tie.Need-put-fixed-requires
-put-fixed-requires c κs = search needs
-
-same-length-2 : tie.Need-same-length-2
-same-length-2 c = search needs
+    let at-if1 = c .before .before .before .before in
+    (rw (eq-eqb _ _ (at-if1 .if1 .taken)) (c .before .before .put-whole .ensures .0), omega (arith, c .before .before .put-whole .ensures .1))
 
 returns-2 : tie.Need-returns-2
 unfolding trimmedText
@@ -35,12 +21,6 @@ returns-2 c =
       omega (arith, c .before .before .put-fixed .ensures .1),
     )
 
-put-fixed-requires-2 : tie.Need-put-fixed-requires-2
-put-fixed-requires-2 c κs = search needs
-
-same-length-3 : tie.Need-same-length-3
-same-length-3 c = search needs
-
 returns-3 : tie.Need-returns-3
 unfolding trimmedText
 returns-3 c =
@@ -50,12 +30,6 @@ returns-3 c =
       rw (ne-eqb _ _ (at-if1 .if1 .left), ne-eqb _ _ (at-if2 .if2 .left), eq-eqb _ _ (at-if3 .if3 .taken)) (c .before .before .put-fixed2 .ensures .0),
       omega (arith, c .before .before .put-fixed2 .ensures .1),
     )
-
-put-fixed-requires-3 : tie.Need-put-fixed-requires-3
-put-fixed-requires-3 c κs = search needs
-
-same-length-4 : tie.Need-same-length-4
-same-length-4 c = search needs
 
 returns-4 : tie.Need-returns-4
 unfolding trimmedText
@@ -69,17 +43,5 @@ returns-4 c =
 
 pub put-trimmed-spec : {M : Type 1} → statement M
 put-trimmed-spec =
-    tie.close
-    (tie.spec
-    put-whole-requires
-    same-length
-    returns
-    put-fixed-requires
-    same-length-2
-    returns-2
-    put-fixed-requires-2
-    same-length-3
-    returns-3
-    put-fixed-requires-3
-    same-length-4
-    returns-4)
+    tie.close (tie.spec (λ c κs. search needs) (λ c. search needs) returns (λ c κs. search needs) (λ c. search needs) returns-2 (λ c κs. search needs)
+    (λ c. search needs) returns-3 (λ c κs. search needs) (λ c. search needs) returns-4)
