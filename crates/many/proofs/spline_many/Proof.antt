@@ -7,24 +7,11 @@ use borrow.Author.Needs.{needs}
 use Rattle.many.proofs.spline_many.Statement.{statement}
 use Rattle.many.proofs.spline_many.Tie as tie
 
-verdict-requires : tie.Need-verdict-requires
-verdict-requires c κs = search needs
-
-enum-known-v : tie.Need-enum-known-v
-enum-known-v c = search needs
-
-told-requires : tie.Need-told-requires
-told-requires c κs = search needs
-
-enum-told : tie.Need-enum-told
-enum-told c = search needs
-
 put-values-requires : tie.Need-put-values-requires
 put-values-requires c κs =
     let a = c .before .before .before .before .before .before .before .args in
-    let h =
-    many-sound (a .b) (a .xs .now) (a .knots .now) (length (a .out .now)) (sym
-    (c .before .before .before .verdict .ensures) ∙ c .before .enum-told .given .1) in
+    let h = many-sound (a .b) (a .xs .now) (a .knots .now) (length (a .out .now))
+    (sym (c .before .before .before .verdict .ensures) ∙ c .before .enum-told .given .1) in
     (h .enough, (h .most, (h .numbers, h .fits)))
 
 returns : tie.Need-returns
@@ -33,9 +20,6 @@ returns c =
     let t = refused (a .b) (a .xs .now) (a .knots .now) (a .out .now) _ (sym
     (c .before .before .before .before .verdict .ensures) ∙ c .before .before .v .given .1) (c .told .ensures) in
     (t .answer, t .left)
-
-same-length : tie.Need-same-length
-same-length c = search needs
 
 returns-2 : tie.Need-returns-2
 returns-2 c =
@@ -47,13 +31,5 @@ returns-2 c =
 
 pub spline-many-spec : {M : Type 1} → statement M
 spline-many-spec =
-    tie.close
-    (tie.spec
-    verdict-requires
-    enum-known-v
-    told-requires
-    enum-told
-    put-values-requires
-    returns
-    same-length
-    returns-2)
+    tie.close (tie.spec (λ c κs. search needs) (λ c. search needs) (λ c κs. search needs) (λ c. search needs) put-values-requires returns
+    (λ c. search needs) returns-2)

@@ -4,25 +4,13 @@ use borrow.Author.Needs.{needs}
 use Rattle.many.proofs.told.Statement.{statement}
 use Rattle.many.proofs.told.Tie as tie
 
-number-requires : tie.Need-number-requires
-number-requires c κs = search needs
-
-first-nan-requires : tie.Need-first-nan-requires
-first-nan-requires c κs = search needs
-
 returns : tie.Need-returns
 returns c =
     let a = c .before .before .before .before .args in
     told-which (a .r) (a .xs .now) (c .before .before .number .ensures) (c .before .if1 .taken) (c .first-nan .ensures)
 
 returns-2 : tie.Need-returns-2
-returns-2 c = told-same (c .before .before .before .args .r) (c .before .before .before .args .xs .now) (c .before .number .ensures) (c .if1 .left)
+returns-2 c = let start = c .before .before .before in told-same (start .args .r) (start .args .xs .now) (c .before .number .ensures) (c .if1 .left)
 
 pub told-spec : {M : Type 1} → statement M
-told-spec =
-    tie.close
-    (tie.spec
-    number-requires
-    first-nan-requires
-    returns
-    returns-2)
+told-spec = tie.close (tie.spec (λ c κs. search needs) (λ c κs. search needs) returns returns-2)

@@ -8,22 +8,10 @@ use borrow.Author.Needs.{needs}
 use Rattle.many.proofs.refusals.verdict.Statement.{statement}
 use Rattle.many.proofs.refusals.verdict.Tie as tie
 
-curve-length-requires : tie.Need-curve-length-requires
-curve-length-requires c κs = search needs
-
-enum-told : tie.Need-enum-told
-enum-told c = search needs
-
-enum-told-2 : tie.Need-enum-told-2
-enum-told-2 c = search needs
-
 returns : tie.Need-returns
 returns c =
     let a = c .before .before .before .before .before .args in
     many-stops (a .b) (a .xs .now) (a .knots .now) (a .room) (c .before .before .curve-length .ensures) (c .enum-told2 .given .1)
-
-some-nan-requires : tie.Need-some-nan-requires
-some-nan-requires c κs = search needs
 
 returns-2 : tie.Need-returns-2
 returns-2 c =
@@ -52,14 +40,5 @@ returns-4 c =
 
 pub verdict-spec : {M : Type 1} → statement M
 verdict-spec =
-    tie.close
-    (tie.spec
-    curve-length-requires
-    enum-told
-    enum-told-2
-    returns
-    some-nan-requires
-    returns-2
-    returns-3
-    knots-requires
-    returns-4)
+    tie.close (tie.spec (λ c κs. search needs) (λ c. search needs) (λ c. search needs) returns (λ c κs. search needs) returns-2 returns-3
+    knots-requires returns-4)

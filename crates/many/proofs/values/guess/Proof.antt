@@ -9,16 +9,5 @@ float-to-bits-wrapping-sub-u64 : tie.Need-float-to-bits-wrapping-sub-u64
 unfolding le neg ofBits
 float-to-bits-wrapping-sub-u64 c = guess-number (c .args .k) (c .args .p) _ _ (c .pre .0) (c .pre .1) tt tt tt tt
 
-wrapping-sub-u64-requires : tie.Need-wrapping-sub-u64-requires
-wrapping-sub-u64-requires c κs = search needs
-
-returns : tie.Need-returns
-returns c = search needs
-
 pub guess-spec : {M : Type 1} → statement M
-guess-spec =
-    tie.close
-    (tie.spec
-    float-to-bits-wrapping-sub-u64
-    wrapping-sub-u64-requires
-    returns)
+guess-spec = tie.close (tie.spec float-to-bits-wrapping-sub-u64 (λ c κs. search needs) (λ c. search needs))

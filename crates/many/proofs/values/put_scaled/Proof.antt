@@ -25,26 +25,8 @@ loop-holds : tie.Need-loop-holds Inv-loop μ-loop
 unfolding laid
 loop-holds c = (omega arith, refl, refl)
 
-mul-clamped : tie.Need-mul-clamped Inv-loop μ-loop
-mul-clamped c = search needs
-
-shared-slice-read-clamped : tie.Need-shared-slice-read-clamped Inv-loop μ-loop
-shared-slice-read-clamped c = search needs
-
-clamped-requires : tie.Need-clamped-requires Inv-loop μ-loop
-clamped-requires c κs = search needs
-
-mul-out : tie.Need-mul-out Inv-loop μ-loop
-mul-out c = search needs
-
 slice-write-out : tie.Need-slice-write-out Inv-loop μ-loop
 slice-write-out c = omega (arith, c .before .before .before .loop .inv .1, c .before .before .before .before .before .before .before .pre .1)
-
-add-i : tie.Need-add-i Inv-loop μ-loop
-add-i c = search needs
-
-loop-less : tie.Need-loop-less Inv-loop μ-loop
-loop-less c = search needs
 
 loop-again : tie.Need-loop-again Inv-loop μ-loop
 loop-again c =
@@ -70,19 +52,5 @@ returns c =
 
 pub put-scaled-spec : {M : Type 1} → statement M
 put-scaled-spec =
-    tie.close
-    (tie.spec
-    Inv-loop
-    μ-loop
-    double-of-requires
-    loop-holds
-    mul-clamped
-    shared-slice-read-clamped
-    clamped-requires
-    mul-out
-    slice-write-out
-    add-i
-    loop-less
-    loop-again
-    same-length
-    returns)
+    tie.close (tie.spec Inv-loop μ-loop double-of-requires loop-holds (λ c. search needs) (λ c. search needs) (λ c κs. search needs)
+    (λ c. search needs) slice-write-out (λ c. search needs) (λ c. search needs) loop-again same-length returns)

@@ -10,17 +10,11 @@ use borrow.Author.Needs.{needs}
 use Rattle.many.proofs.values.put_values.Statement.{statement}
 use Rattle.many.proofs.values.put_values.Tie as tie
 
-segments-requires : tie.Need-segments-requires
-segments-requires c κs = search needs
-
 put-scaled-requires : tie.Need-put-scaled-requires
 put-scaled-requires c κs =
     let a = c .before .before .before .before .before .args in
     let p = c .before .before .before .before .before .pre in
     (few-segments (a .b) (length (a .knots .now)) (p .1 .0) (c .before .segments .ensures), p .1 .1 .1)
-
-enum-told : tie.Need-enum-told
-enum-told c = search needs
 
 bspline-values-requires : tie.Need-bspline-values-requires
 bspline-values-requires c κs =
@@ -41,9 +35,6 @@ bspline-values-requires c κs =
       ),
     )
 
-enum-told-2 : tie.Need-enum-told-2
-enum-told-2 c = search needs
-
 bezier-values-requires : tie.Need-bezier-values-requires
 bezier-values-requires c κs =
     let a = c .before .before .before .before .before .before .before .before .before .before .before .args in
@@ -62,9 +53,6 @@ bezier-values-requires c κs =
         ),
       ),
     )
-
-enum-told-3 : tie.Need-enum-told-3
-enum-told-3 c = search needs
 
 catmull-rom-values-requires : tie.Need-catmull-rom-values-requires
 catmull-rom-values-requires c κs =
@@ -85,9 +73,6 @@ catmull-rom-values-requires c κs =
       ),
     )
 
-enum-told-4 : tie.Need-enum-told-4
-enum-told-4 c = search needs
-
 hermite-values-requires : tie.Need-hermite-values-requires
 hermite-values-requires c κs =
     let a = c .before .before .before .before .before .before .before .before .before .before .before .args in
@@ -107,9 +92,6 @@ hermite-values-requires c κs =
       ),
     )
 
-enum-told-5 : tie.Need-enum-told-5
-enum-told-5 c = search needs
-
 linear-values-requires : tie.Need-linear-values-requires
 linear-values-requires c κs =
     let a = c .before .before .before .before .before .before .before .before .before .before .before .args in
@@ -128,9 +110,6 @@ linear-values-requires c κs =
         ),
       ),
     )
-
-enum-told-6 : tie.Need-enum-told-6
-enum-told-6 c = search needs
 
 power-values-requires : tie.Need-power-values-requires
 power-values-requires c κs =
@@ -225,31 +204,7 @@ returns-6 c =
 
 pub put-values-spec : {M : Type 1} → statement M
 put-values-spec =
-    tie.close
-    (tie.spec
-    segments-requires
-    put-scaled-requires
-    enum-told
-    bspline-values-requires
-    enum-told-2
-    bezier-values-requires
-    enum-told-3
-    catmull-rom-values-requires
-    enum-told-4
-    hermite-values-requires
-    enum-told-5
-    linear-values-requires
-    enum-told-6
-    power-values-requires
-    same-length
-    returns
-    same-length-2
-    returns-2
-    same-length-3
-    returns-3
-    same-length-4
-    returns-4
-    same-length-5
-    returns-5
-    same-length-6
-    returns-6)
+    tie.close (tie.spec (λ c κs. search needs) put-scaled-requires (λ c. search needs) bspline-values-requires (λ c. search needs)
+    bezier-values-requires (λ c. search needs) catmull-rom-values-requires (λ c. search needs) hermite-values-requires (λ c. search needs)
+    linear-values-requires (λ c. search needs) power-values-requires same-length returns same-length-2 returns-2 same-length-3 returns-3 same-length-4
+    returns-4 same-length-5 returns-5 same-length-6 returns-6)
