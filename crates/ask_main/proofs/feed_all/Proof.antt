@@ -54,18 +54,20 @@ loop-less c =
 
 loop-again : tie.Need-loop-again Inv-loop μ-loop
 loop-again c =
-    let at-feed = c .before .before .before .before .before .before .before .before .before .before .before .before .before in
-    let start = at-feed .before .before .before .before .before .before .before .before .before .before .before .before .before in
-    let l = at-feed .before .before .before .before .before .before .before .loop in
-    let f = at-feed .feed in (
+    let l = c .before .before .before .before .before .before .before .before .before .before .before .before .before .before .before .before .before
+    .before .before .before .loop in let f = c .before .before .before .before .before .before .before .before .before .before .before .before .before
+    .feed in (
       f .ensures .1 .1 .1 .0,
       search needs,
       search needs,
-      ran-on askProgram _ (start .args .chunk .now) (l .«from») (f .result .next) (l .inv .0) (f .ensures .1 .1 .0) (l .inv .3) (f .ensures .0),
+      ran-on askProgram _ (c .before .before .before .before .before .before .before .before
+          .before .before .before .before .before .before .before .before .before .before .before .before .before .before .before .before .before .before .args
+          .chunk .now) (l .«from») (f .result .next) (l .inv .0) (f .ensures .1 .1 .0) (l .inv .3) (f .ensures .0),
       search needs,
       search needs,
       search needs,
-      f .ensures .1 .0,
+      f
+          .ensures .1 .0,
     )
 
 returns : tie.Need-returns Inv-loop μ-loop
