@@ -31,7 +31,7 @@ fn is_line(len: usize, line: &[u8], w: &[u8]) -> bool
     requires { ⌜ length (now line) ≡ widest ⌝ }
     ensures { λ r. ⌜ r ≡ isWord (now (w .entry)) (openOf len (now (line .entry))) ⌝ }
 {
-    if len <= 64 {
+    if len <= lines_machine::WIDEST {
         return text::is_word(&line[0..len], w);
     }
     false

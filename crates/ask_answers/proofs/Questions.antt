@@ -11,7 +11,7 @@ use lib.ListN.{length, take, drop, length-drop}
 use lib.Seq.{take-all}
 use Rattle.text.specs.declared.HexNumber.{HexNumber}
 use Rattle.text.specs.declared.HexNumber.the-variants as H
-use Rattle.text.specs.Text.{bytes, same, tabOf, TAB}
+use Rattle.text.specs.Text.{bytes, same, placeOf, tabOf, TAB}
 use Rattle.text_decimals.specs.Decimals.{numberIn}
 use Rattle.sheet.specs.declared.Depth.{Depth}
 use Rattle.sheet.specs.declared.Depth.the-variants as D
@@ -46,7 +46,7 @@ module _ (w : List ℕ) (n : ℕ) {a : Bool} (is : a ≡ same w (bytes "row")) w
 
 -- ---- a depth: that of a sheet's line behind some label
 pub depth-few : (s : List ℕ) (b : Bool) (n : ℕ) {d : Depth} → d ≡ depthIn s → d ≡ D.Is b n → n ≤ 999999999999
-unfolding depthLine tabOf
+unfolding depthLine placeOf
 depth-few s b n p q = depth-small (120 ∷ TAB ∷ s) b n (behind ∙ sym p ∙ q)
   where
     behind : depthLine (120 ∷ TAB ∷ s) ≡ depthIn s

@@ -105,7 +105,7 @@ fn by_line(l: &[u8]) -> Question
     if text::is_word(l, b"table") {
         return Question::Table;
     }
-    let t = text::tab_at(l);
+    let t = text::place_of(l, b'\t');
     if t < l.len() {
         let from = t + 1;
         return by_word(&l[0..t], &l[from..]);
@@ -118,7 +118,7 @@ fn asked(len: usize, line: &[u8]) -> Question
     requires { ⌜ length (now line) ≡ widest ⌝ }
     ensures { λ r. ⌜ r ≡ question.questionOf (openOf len (now (line .entry))) ⌝ }
 {
-    if len <= 64 {
+    if len <= lines_machine::WIDEST {
         return by_line(&line[0..len]);
     }
     Question::Nothing

@@ -9,10 +9,11 @@ use Rattle.text.specs.Text.{bytes, same, tabOf}
 use Rattle.lines_record.specs.declared.BasisName.{BasisName}
 use Rattle.lines_record.specs.declared.BasisName.the-variants as N
 use Rattle.lines_record.specs.Record.{namedOf}
+use Rattle.keeper.specs.Table.{hasRoom}
 use Rattle.lines_machine.specs.Program.{Line, so, over}
 use Rattle.sheet.specs.declared.Depth.{Depth}
 use Rattle.sheet.specs.declared.Depth.the-variants as D
-use Rattle.sheet.specs.Sheet.{most, depthLine}
+use Rattle.sheet.specs.Sheet.{depthLine}
 use Rattle.turns_back.specs.Call as turns
 use Rattle.monotone.specs.Table as monotone
 use Rattle.ask_sheet.specs.declared.Kind.{Kind}
@@ -54,7 +55,7 @@ mostIn Monotone = monotone.most
 abbrev pub added : Kind → List ℤ → List (List ℕ) → List ℕ → Depth → Sheet
 added k z ls label (D.Is minus n) =
     cond (ltb (mostIn k) n) (faulty (length z + 2) NoDepth)
-    (cond (ltb (length z) most) (on k (z ++ (wholeOf minus n ∷ [])) (ls ++ (label ∷ []))) (faulty (length z + 2) Many))
+    (cond (hasRoom z) (on k (z ++ (wholeOf minus n ∷ [])) (ls ++ (label ∷ []))) (faulty (length z + 2) Many))
 added k z ls label D.Nothing = faulty (length z + 2) NoDepth
 
 -- a label of 1 to 16 bytes, the first field, and what a depth line of bin/sheet says

@@ -120,7 +120,7 @@ fn add(k: Kind, n: usize, l: &[u8], rows: &mut [i64], labels: &mut [u8]) -> Shee
         grown k (heldAll (take n (now (rows .entry)))) (labelsTo (now (labels .entry)) n) (now (l .entry)) ⌝ }
     ensures line_after { λ r. ⌜ lineIn r ≤ lastLine ⌝ }
 {
-    let t = text::tab_at(l);
+    let t = text::place_of(l, b'\t');
     if t < 1 {
         return SheetHeld::Faulty(n + 2, Reason::NoLabel);
     }
@@ -154,13 +154,13 @@ pub fn line(h: SheetHeld, len: usize, line: &[u8], rows: &mut [i64], labels: &mu
 {
     match h {
         SheetHeld::Unbegun => {
-            if len <= 64 {
+            if len <= lines_machine::WIDEST {
                 return first(&line[0..len]);
             }
             SheetHeld::Faulty(1, Reason::Long)
         }
         SheetHeld::On(k, n) => {
-            if len <= 64 {
+            if len <= lines_machine::WIDEST {
                 return add(k, n, &line[0..len], rows, labels);
             }
             SheetHeld::Faulty(n + 2, Reason::Long)

@@ -1,20 +1,17 @@
--- A line by its fields, taken off one after another at its tabs; and what it gets. Assumes nothing.
+-- A line by its fields, and what it gets. Assumes nothing.
 use mathlib.Core.Path.{_≡_, refl, sym, ap, subst, _∙_}
 use mathlib.Core.Bool.{Bool, true, false, cond}
 use mathlib.Core.List.{List, [], _∷_}
-use Prim.Native.Nat.{ℕ, _+_, _-_, _≤_, _<_}
-use native.Mathlib.Numerals.{add-one}
+use Prim.Native.Nat.{ℕ, _-_, _≤_, _<_}
 use native.Mathlib.Omega.{arith}
-use borrow.Author.Tests.{ltb-true, ltb-false, le-leb, lt-leb}
-use lib.Dec.{ltb}
-use lib.ListN.{length, take, drop, length-drop}
-use lib.Seq.{take-all}
+use borrow.Author.Tests.{le-leb, lt-leb}
+use lib.ListN.{length, take, drop, getD}
 use lib.Ieee.{Float}
 use Rattle.claim.specs.declared.ClaimAnswer.{ClaimAnswer}
 use Rattle.claim.specs.Claim.{claimOf}
-use Rattle.text.specs.Text.{bytes, same, fieldsOf, tabOf, hexOf}
+use Rattle.text.specs.Text.{bytes, same, fieldsOf, hexOf}
 use Rattle.text.specs.Wrote.{Wrote}
-use Rattle.text.proofs.Fields.{fields-one, fields-more}
+use Rattle.text.proofs.Fields.{some}
 use Rattle.text_decimals.specs.Decimals.{numberIn}
 use Rattle.lines_record.specs.declared.Record.{Record}
 use Rattle.lines_record.specs.declared.Record.the-variants.{Bad}
@@ -29,59 +26,50 @@ use Rattle.claims.specs.declared.ClaimRecord.{ClaimRecord}
 use Rattle.claims.specs.declared.ClaimRecord.the-variants.{Listed, Claim}
 use Rattle.claims.specs.Claims.{ofTable, claimWith, claimIn, saidIn, says, claimText, checkText, tellsOf, leavesOf, claimsProgram}
 
--- the field before the first tab, at t, and those after it
-pub parted : (t : ℕ) (l : List ℕ) → t ≡ tabOf l → t < length l → fieldsOf l ≡ take (t - 0) l ∷ fieldsOf (take (length l - (t + 1)) (drop (t + 1) l))
-parted t l e h =
-    let k : tabOf l < length l = omega arith in
-    let z : t - 0 ≡ t = omega arith in
-    rw (z, take-all (length l - (t + 1)) (drop (t + 1) l) (rw length-drop (omega arith)), add-one t, e, fields-more l k) refl
-
--- ---- the fields after the word: too few, four, or more
-pub one-field : (l : List ℕ) → length l ≤ tabOf l → Listed Bad ≡ claimIn (fieldsOf l)
+-- ---- the fields after the word: four, or not four
+pub four-fields : (l : List ℕ) → length (fieldsOf l) ≡ 5
+    → claimWith (hexOf (getD (fieldsOf l) 1 [])) (numberIn 4 (getD (fieldsOf l) 2 [])) (hexOf (getD (fieldsOf l) 3 [])) (hexOf (getD (fieldsOf l) 4 []))
+    ≡ claimIn (drop 1 (fieldsOf l))
 unfolding claimIn
-one-field l h = rw (fields-one l h) refl
-
-pub two-fields : (y l : List ℕ) → length l ≤ tabOf l → Listed Bad ≡ claimIn (y ∷ fieldsOf l)
-unfolding claimIn
-two-fields y l h = rw (fields-one l h) refl
-
-pub three-fields : (y s l : List ℕ) → length l ≤ tabOf l → Listed Bad ≡ claimIn (y ∷ s ∷ fieldsOf l)
-unfolding claimIn
-three-fields y s l h = rw (fields-one l h) refl
-
-pub four-fields : (y s x l : List ℕ) → length l ≤ tabOf l → claimWith (hexOf y) (numberIn 4 s) (hexOf x) (hexOf l) ≡ claimIn (y ∷ s ∷ x ∷ fieldsOf l)
-unfolding claimIn
-four-fields y s x l h = rw (fields-one l h) refl
-
-fifth : (y s x e l : List ℕ) → Listed Bad ≡ claimIn (y ∷ s ∷ x ∷ e ∷ fieldsOf l)
-unfolding claimIn
-fifth y s x e l = go (ltb (tabOf l) (length l)) refl
+four-fields l h = go (fieldsOf l) h
   where
-    go : (t : Bool) → ltb (tabOf l) (length l) ≡ t → Listed Bad ≡ claimIn (y ∷ s ∷ x ∷ e ∷ fieldsOf l)
-    go true f = rw (fields-more l (ltb-true (tabOf l) (length l) f)) refl
-    go false f = rw (fields-one l (ltb-false (tabOf l) (length l) f)) refl
+    go : (fs : List (List ℕ)) → length fs ≡ 5
+        → claimWith (hexOf (getD fs 1 [])) (numberIn 4 (getD fs 2 [])) (hexOf (getD fs 3 [])) (hexOf (getD fs 4 [])) ≡ claimIn (drop 1 fs)
+    go [] h = absurd (omega arith)
+    go (w ∷ []) h = absurd (omega arith)
+    go (w ∷ y ∷ []) h = absurd (omega arith)
+    go (w ∷ y ∷ s ∷ []) h = absurd (omega arith)
+    go (w ∷ y ∷ s ∷ x ∷ []) h = absurd (omega arith)
+    go (w ∷ y ∷ s ∷ x ∷ e ∷ []) h = refl
+    go (w ∷ y ∷ s ∷ x ∷ e ∷ f ∷ fs) h = absurd (omega arith)
 
-pub five-fields : (y s x l : List ℕ) → tabOf l < length l → Listed Bad ≡ claimIn (y ∷ s ∷ x ∷ fieldsOf l)
-five-fields y s x l h = rw (fields-more l h) (fifth y s x (take (tabOf l) l) _)
+pub no-claim : (l : List ℕ) → (length (fieldsOf l) ≡ 5 → ⊥) → claimIn (drop 1 (fieldsOf l)) ≡ Listed Bad
+unfolding claimIn
+no-claim l h = go (fieldsOf l) h
+  where
+    go : (fs : List (List ℕ)) → (length fs ≡ 5 → ⊥) → claimIn (drop 1 fs) ≡ Listed Bad
+    go [] h = refl
+    go (w ∷ []) h = refl
+    go (w ∷ y ∷ []) h = refl
+    go (w ∷ y ∷ s ∷ []) h = refl
+    go (w ∷ y ∷ s ∷ x ∷ []) h = refl
+    go (w ∷ y ∷ s ∷ x ∷ e ∷ []) h = absurd (h refl)
+    go (w ∷ y ∷ s ∷ x ∷ e ∷ f ∷ fs) h = refl
 
--- ---- a line: the word `claim` before its first tab, another, or no tab
-module _ (t : ℕ) (l : List ℕ) (e : t ≡ tabOf l) (h : t < length l) where
-  pub with-word : same (take (t - 0) l) (bytes "claim") ≡ true → {r : ClaimRecord} → r ≡ claimIn (fieldsOf (take (length l - (t + 1)) (drop (t + 1) l)))
-      → r ≡ saidIn (fieldsOf l)
-  unfolding saidIn
-  with-word w f = f ∙ rw (parted t l e h, w) refl
-
-  pub without-word : same (take (t - 0) l) (bytes "claim") ≡ false → {q s : Record} → q ≡ recordOf l → s ≡ ofTable q → Listed s ≡ saidIn (fieldsOf l)
-  unfolding saidIn recordOf
-  without-word w f g = ap Listed (g ∙ ap ofTable f) ∙ rw (parted t l e h, w) refl
-
-pub no-tab : (l : List ℕ) → length l ≤ tabOf l → Listed Bad ≡ saidIn (fieldsOf l)
+-- ---- a line: its first field is the word `claim`, or it is a record
+by-word : (fs : List (List ℕ)) → 1 ≤ length fs
+    → saidIn fs ≡ cond (same (getD fs 0 []) (bytes "claim")) (claimIn (drop 1 fs)) (Listed (ofTable (ofFields fs)))
 unfolding saidIn
-no-tab l h = rw (fields-one l h) (go (same l (bytes "claim")))
-  where
-    go : (w : Bool) → Listed Bad ≡ cond w (claimIn []) (Listed (ofTable (ofFields (l ∷ []))))
-    go true = unfold claimIn in refl
-    go false = unfold ofFields in refl
+by-word [] h = absurd (omega arith)
+by-word (w ∷ fs) h = refl
+
+module _ (l : List ℕ) {b : Bool} (is : b ≡ same (getD (fieldsOf l) 0 []) (bytes "claim")) where
+  pub with-word : b ≡ true → {r : ClaimRecord} → r ≡ claimIn (drop 1 (fieldsOf l)) → r ≡ saidIn (fieldsOf l)
+  with-word w f = f ∙ rw (by-word (fieldsOf l) (some l), sym is ∙ w) refl
+
+  pub without-word : b ≡ false → {q s : Record} → q ≡ recordOf l → s ≡ ofTable q → Listed s ≡ saidIn (fieldsOf l)
+  unfolding recordOf
+  without-word w f g = ap Listed (g ∙ ap ofTable f) ∙ rw (by-word (fieldsOf l) (some l), sym is ∙ w) refl
 
 pub said-so : (n : ℕ) (line : List ℕ) → n ≤ widest → saidIn (fieldsOf (take (n - 0) line)) ≡ says (openOf n line)
 unfolding says

@@ -1,8 +1,7 @@
 // What the checker of claims replies to a line, and the table after it.
 ghost use mathlib.Core.Path.{_≡_};
-ghost use mathlib.Core.List.{_∷_};
 ghost use Prim.Native.Nat.{_+_, _≤_, _<_};
-ghost use lib.ListN.{length};
+ghost use lib.ListN.{length, drop};
 ghost use lib.Seq.{slice};
 ghost use Rattle.lines_answer.specs.Answer.{places};
 ghost use Rattle.lines_answer.specs.Contract.{curveOf, countOf};
@@ -71,65 +70,29 @@ fn claim_with(y: &[u8], s: &[u8], x: &[u8], e: &[u8]) -> ClaimRecord
     )
 }
 
-// The claim of three fields and of what stands after their tab: one field more, and no fifth.
-fn after_place(y: &[u8], s: &[u8], x: &[u8], rest: &[u8]) -> ClaimRecord
-    ensures { λ r. ⌜ r ≡ claimIn (now (y .entry) ∷ now (s .entry) ∷ now (x .entry) ∷ fieldsOf (now (rest .entry))) ⌝ }
+// The claim of a line that begins with the word: four fields follow it, no more and no fewer.
+fn claim_in(line: &[u8]) -> ClaimRecord
+    ensures { λ r. ⌜ r ≡ claimIn (drop 1 (fieldsOf (now (line .entry)))) ⌝ }
 {
-    if text::tab_at(rest) < rest.len() {
+    if text::fields_in(line) != 5 {
         return ClaimRecord::Listed(Record::Bad);
     }
-    claim_with(y, s, x, rest)
-}
-
-// The claim of two fields and of what stands after their tab.
-fn after_segment(y: &[u8], s: &[u8], rest: &[u8]) -> ClaimRecord
-    ensures { λ r. ⌜ r ≡ claimIn (now (y .entry) ∷ now (s .entry) ∷ fieldsOf (now (rest .entry))) ⌝ }
-{
-    let t = text::tab_at(rest);
-    if t < rest.len() {
-        let from = t + 1;
-        return after_place(y, s, &rest[0..t], &rest[from..]);
-    }
-    ClaimRecord::Listed(Record::Bad)
-}
-
-// The claim of one field and of what stands after its tab.
-fn after_target(y: &[u8], rest: &[u8]) -> ClaimRecord
-    ensures { λ r. ⌜ r ≡ claimIn (now (y .entry) ∷ fieldsOf (now (rest .entry))) ⌝ }
-{
-    let t = text::tab_at(rest);
-    if t < rest.len() {
-        let from = t + 1;
-        return after_segment(y, &rest[0..t], &rest[from..]);
-    }
-    ClaimRecord::Listed(Record::Bad)
-}
-
-// What stands after the word `claim` and its tab.
-fn after_word(rest: &[u8]) -> ClaimRecord
-    ensures { λ r. ⌜ r ≡ claimIn (fieldsOf (now (rest .entry))) ⌝ }
-{
-    let t = text::tab_at(rest);
-    if t < rest.len() {
-        let from = t + 1;
-        return after_target(&rest[0..t], &rest[from..]);
-    }
-    ClaimRecord::Listed(Record::Bad)
+    claim_with(
+        text::field(line, 1),
+        text::field(line, 2),
+        text::field(line, 3),
+        text::field(line, 4),
+    )
 }
 
 // What a line says that is not too long.
 fn said_in(line: &[u8]) -> ClaimRecord
     ensures { λ r. ⌜ r ≡ saidIn (fieldsOf (now (line .entry))) ⌝ }
 {
-    let t = text::tab_at(line);
-    if t < line.len() {
-        if text::is_word(&line[0..t], b"claim") {
-            let from = t + 1;
-            return after_word(&line[from..]);
-        }
-        return ClaimRecord::Listed(of_table(lines_record::record_of(line)));
+    if text::is_word(text::field(line, 0), b"claim") {
+        return claim_in(line);
     }
-    ClaimRecord::Listed(Record::Bad)
+    ClaimRecord::Listed(of_table(lines_record::record_of(line)))
 }
 
 // What the line of len bytes says.
@@ -137,7 +100,7 @@ fn said_of(len: usize, line: &[u8]) -> ClaimRecord
     requires { ⌜ length (now line) ≡ widest ⌝ }
     ensures { λ r. ⌜ r ≡ says (openOf len (now (line .entry))) ⌝ }
 {
-    if len <= 64 {
+    if len <= lines_machine::WIDEST {
         return said_in(&line[0..len]);
     }
     ClaimRecord::Listed(Record::Bad)

@@ -1,19 +1,17 @@
 -- A knot, a span and a whole line, as the listing takes them. Assumes nothing.
-use mathlib.Core.Path.{_≡_, refl, ap, subst, _∙_}
+use mathlib.Core.Path.{_≡_, refl, sym, ap, subst, _∙_}
 use mathlib.Core.Bool.{true, false}
 use mathlib.Core.List.{List}
-use Prim.Native.Nat.{ℕ, _+_, _≤_, _<_}
-use native.Mathlib.Numerals.{add-one}
-use native.Mathlib.Omega.{arith}
-use borrow.Author.Tests.{lt-ltb, le-ltb}
-use lib.ListN.{length, take, set}
-use lib.Seq.{length-take-le, take-suc-set}
+use Prim.Native.Nat.{ℕ}
+use lib.ListN.{take}
 use Rattle.error.specs.declared.Refusal.the-variants.{TooMany, BadSpan}
 use Rattle.error.specs.declared.Verdict.{Verdict}
 use Rattle.error.specs.declared.Verdict.the-variants.{Passed, Failed}
 use Rattle.table_span.specs.declared.Table.{Table}
 use Rattle.table_span.specs.Second.{goodSpan}
 use Rattle.text.specs.Wrote.{Wrote}
+use Rattle.keeper.specs.declared.Kept.{Kept}
+use Rattle.keeper.specs.Contract.{Keeps}
 use Rattle.lines_machine.specs.Program.{Line}
 use Rattle.compare_lines.specs.declared.CompareRecord.{CompareRecord}
 use Rattle.compare_lines.specs.declared.CompareRecord.the-variants.{Span, Knot}
@@ -23,7 +21,6 @@ use Rattle.compare_lines.specs.Listings.{
   Listing,
   none,
   on,
-  places,
   heard,
   entered,
   Both,
@@ -37,23 +34,20 @@ use Rattle.compare_lines.specs.Listings.{
 }
 use Rattle.compare_lines.specs.Contract.{bothOf, Takes}
 
+module _ (t : Table) (n x : ℕ) (knots : List ℕ) {k : Kept} {knots′ : List ℕ} (h : Keeps x n knots k knots′) where
+  pub knot-held : on t (take (k .count) knots′) ≡ entered (on t (take n knots)) (Knot x)
+  unfolding entered
+  knot-held = ap (on t) (h .numbers)
+
+  pub knot-taken : k .taken ≡ true → Passed ≡ heard (on t (take n knots)) (Knot x)
+  unfolding heard
+  knot-taken e = rw (sym (h .taken) ∙ e) refl
+
+  pub knot-dropped : k .taken ≡ false → Failed TooMany ≡ heard (on t (take n knots)) (Knot x)
+  unfolding heard
+  knot-dropped e = rw (sym (h .taken) ∙ e) refl
+
 module _ (t : Table) (n x : ℕ) (knots : List ℕ) where
-  -- a place is left
-  pub knot-taken : n < places → length knots ≡ places
-      → (on t (take (n + 1) (set knots n x)) ≡ entered (on t (take n knots)) (Knot x)) × (Passed ≡ heard (on t (take n knots)) (Knot x))
-  unfolding entered heard
-  knot-taken h e =
-      let l : length (take n knots) ≡ n = length-take-le n knots (omega arith) in
-      (rw (l, lt-ltb n places h, add-one, take-suc-set knots n x (omega arith)) refl, rw (l, lt-ltb n places h) refl)
-
-  -- the last place is taken
-  pub knot-dropped : n ≤ places → places ≤ n → length knots ≡ places
-      → (on t (take n knots) ≡ entered (on t (take n knots)) (Knot x)) × (Failed TooMany ≡ heard (on t (take n knots)) (Knot x))
-  unfolding entered heard
-  knot-dropped g h e =
-      let l : length (take n knots) ≡ n = length-take-le n knots (omega arith) in
-      (rw (l, le-ltb n places h) refl, rw (l, le-ltb n places h) refl)
-
   pub span-taken : goodSpan x ≡ true
       → (on (record { basis = t .basis; span = x }) (take n knots) ≡ entered (on t (take n knots)) (Span x)) × (Passed ≡ heard (on t (take n knots)) (Span x))
   unfolding entered heard

@@ -1,52 +1,47 @@
--- A line's fields, as the functions that part it find them; and a line that stands in the lent 64. Assumes nothing.
-use mathlib.Core.Path.{_≡_, refl}
-use mathlib.Core.Bool.{Bool, true, false, cond}
-use mathlib.Core.List.{List, _∷_}
-use Prim.Native.Nat.{ℕ, suc, _+_, _-_, _≤_, _<_}
-use native.Mathlib.Numerals.{add-one}
+-- A line of one field or of two is read, and no other; and a line that stands in the lent 64. Assumes nothing.
+use mathlib.Core.Path.{_≡_, refl, _∙_}
+use mathlib.Core.Bool.{Bool, cond}
+use mathlib.Core.List.{List, [], _∷_}
+use Prim.Native.Nat.{ℕ, _-_, _≤_, _<_}
 use native.Mathlib.Omega.{arith}
-use borrow.Author.Tests.{ltb-true, ltb-false, le-leb, lt-leb}
-use lib.Dec.{ltb}
-use lib.ListN.{length, take, drop, length-drop}
-use lib.Seq.{take-all}
-use Rattle.text.specs.Text.{bytes, same, fieldsOf, tabOf}
-use Rattle.text.proofs.Fields.{fields-one, fields-more}
+use borrow.Author.Tests.{le-leb, lt-leb}
+use lib.ListN.{length, take, getD}
+use Rattle.text.specs.Text.{bytes, same, fieldsOf}
 use Rattle.lines_machine.specs.Program.{widest}
 use Rattle.lines_machine.specs.Contract.{openOf}
 use Rattle.compare_lines.specs.declared.CompareRecord.the-variants.{Other, Bad}
 use Rattle.compare_lines.specs.CompareRecord.{meaningOf, ofFields, saidOf}
 use Rattle.compare_lines.specs.Listings.{says}
 
--- a line without a tab is one field
-pub no-tab : (l : List ℕ) → length l ≤ tabOf l → saidOf l ≡ cond (same l (bytes "other")) Other Bad
+pub one-field : (l : List ℕ) → length (fieldsOf l) ≡ 1 → {w : List ℕ} {b : Bool} → w ≡ getD (fieldsOf l) 0 [] → b ≡ same w (bytes "other")
+    → saidOf l ≡ cond b Other Bad
 unfolding saidOf ofFields
-no-tab l h = rw (fields-one l h) refl
-
--- a line with a tab: what stands before the first, and the fields after it
-pub after-tab : (t : ℕ) (l : List ℕ) → t ≡ tabOf l → t < length l
-    → ofFields (take (t - 0) l ∷ fieldsOf (take (length l - (t + 1)) (drop (t + 1) l))) ≡ saidOf l
-unfolding saidOf
-after-tab t l e h =
-    let k : tabOf l < length l = omega arith in
-    let z : t - 0 ≡ t = omega arith in
-    rw (z, take-all (length l - (t + 1)) (drop (t + 1) l) (rw length-drop (omega arith)), add-one t, e, fields-more l k) refl
-
--- a second field without a tab
-pub two-fields : (w s : List ℕ) → length s ≤ tabOf s → ofFields (w ∷ fieldsOf s) ≡ meaningOf w s
-unfolding ofFields
-two-fields w s h = rw (fields-one s h) refl
-
-third : (w f s : List ℕ) → ofFields (w ∷ f ∷ fieldsOf s) ≡ Bad
-unfolding ofFields
-third w f s = go (ltb (tabOf s) (length s)) refl
+one-field l h e f = go (fieldsOf l) h ∙ rw (f, e) refl
   where
-    go : (t : Bool) → ltb (tabOf s) (length s) ≡ t → ofFields (w ∷ f ∷ fieldsOf s) ≡ Bad
-    go true e = rw (fields-more s (ltb-true (tabOf s) (length s) e)) refl
-    go false e = rw (fields-one s (ltb-false (tabOf s) (length s) e)) refl
+    go : (fs : List (List ℕ)) → length fs ≡ 1 → ofFields fs ≡ cond (same (getD fs 0 []) (bytes "other")) Other Bad
+    go [] h = absurd (omega arith)
+    go (w ∷ []) h = refl
+    go (w ∷ s ∷ ts) h = absurd (omega arith)
 
--- a second tab makes a line bad
-pub three-fields : (w s : List ℕ) → tabOf s < length s → ofFields (w ∷ fieldsOf s) ≡ Bad
-three-fields w s h = rw (fields-more s h) (third w (take (tabOf s) s) (drop (suc (tabOf s)) s))
+pub two-fields : (l : List ℕ) → length (fieldsOf l) ≡ 2 → meaningOf (getD (fieldsOf l) 0 []) (getD (fieldsOf l) 1 []) ≡ saidOf l
+unfolding saidOf ofFields
+two-fields l h = go (fieldsOf l) h
+  where
+    go : (fs : List (List ℕ)) → length fs ≡ 2 → meaningOf (getD fs 0 []) (getD fs 1 []) ≡ ofFields fs
+    go [] h = absurd (omega arith)
+    go (w ∷ []) h = absurd (omega arith)
+    go (w ∷ s ∷ []) h = refl
+    go (w ∷ s ∷ t ∷ ts) h = absurd (omega arith)
+
+pub no-record : (l : List ℕ) → (length (fieldsOf l) ≡ 1 → ⊥) → (length (fieldsOf l) ≡ 2 → ⊥) → saidOf l ≡ Bad
+unfolding saidOf ofFields
+no-record l h k = go (fieldsOf l) h k
+  where
+    go : (fs : List (List ℕ)) → (length fs ≡ 1 → ⊥) → (length fs ≡ 2 → ⊥) → ofFields fs ≡ Bad
+    go [] h k = refl
+    go (w ∷ []) h k = absurd (h refl)
+    go (w ∷ s ∷ []) h k = absurd (k refl)
+    go (w ∷ s ∷ t ∷ ts) h k = refl
 
 -- ---- the lent 64
 pub said-so : (n : ℕ) (line : List ℕ) → n ≤ widest → saidOf (take (n - 0) line) ≡ says (openOf n line)

@@ -187,7 +187,7 @@ entered-held (on t ks) (Span n) h z = go (goodSpan n) refl
     go false e = h
 entered-held (on t ks) (Knot n) h z = go (ltb (length ks) places) refl
   where
-    go : (p : Bool) → ltb (length ks) places ≡ p → HeldIn (cond p (on t (ks ++ (n ∷ []))) (on t ks))
+    go : (p : Bool) → ltb (length ks) places ≡ p → HeldIn (on t (cond p (ks ++ (n ∷ [])) ks))
     go true e = record { span = h .span; few = simp length-append (omega (arith, ltb-true (length ks) places e)); bits = small-append ks n (h .bits) z }
     go false e = h
 entered-held (on t ks) Other h z = h

@@ -1,14 +1,13 @@
 -- Two listings on one input, parted by `other`, and what they print. Definitions only.
 use mathlib.Core.Bool.{cond}
-use mathlib.Core.List.{List, [], _∷_, _++_}
+use mathlib.Core.List.{List, []}
 use Prim.Native.Nat.{ℕ}
-use lib.Dec.{ltb}
-use lib.ListN.{length}
-use Rattle.basis.specs.Basis.{mostKnots}
 use Rattle.basis.specs.declared.Basis.{Basis}
 use Rattle.error.specs.declared.Refusal.the-variants.{TooMany, BadSpan, BadLine, NoComparison}
 use Rattle.error.specs.declared.Verdict.{Verdict}
 use Rattle.error.specs.declared.Verdict.the-variants.{Passed, Failed}
+use Rattle.keeper.specs.Table as table
+use Rattle.keeper.specs.Table.{hasRoom, kept}
 use Rattle.table_span.specs.declared.Table.{Table}
 use Rattle.table_span.specs.Second.{goodSpan}
 use Rattle.lines_reply.specs.Reply.{refusedText}
@@ -24,7 +23,7 @@ pub data Listing : Type 0 where
   on : Table → List ℕ → Listing
 
 abbrev pub places : ℕ
-places = mostKnots
+places = table.places
 
 -- a basis without a span
 abbrev pub bare : Basis → Table
@@ -39,7 +38,7 @@ heard none Other = Failed BadLine
 heard none Bad = Failed BadLine
 heard (on t ks) (Curve b) = Passed
 heard (on t ks) (Span s) = cond (goodSpan s) Passed (Failed BadSpan)
-heard (on t ks) (Knot n) = cond (ltb (length ks) places) Passed (Failed TooMany)
+heard (on t ks) (Knot n) = cond (hasRoom ks) Passed (Failed TooMany)
 heard (on t ks) Other = Failed BadLine
 heard (on t ks) Bad = Failed BadLine
 
@@ -52,7 +51,7 @@ entered none Other = none
 entered none Bad = none
 entered (on t ks) (Curve b) = on (bare b) []
 entered (on t ks) (Span s) = cond (goodSpan s) (on (record { basis = t .basis; span = s }) ks) (on t ks)
-entered (on t ks) (Knot n) = cond (ltb (length ks) places) (on t (ks ++ (n ∷ []))) (on t ks)
+entered (on t ks) (Knot n) = on t (kept ks n)
 entered (on t ks) Other = on t ks
 entered (on t ks) Bad = on t ks
 

@@ -1,10 +1,10 @@
 // Two listings on one input, parted by `other`: what a line gets, and at the end what differs.
 ghost use mathlib.Core.Path.{_≡_};
-ghost use mathlib.Core.List.{List, _∷_};
+ghost use mathlib.Core.List.{List};
 ghost use Prim.Native.Nat.{ℕ, _+_, _≤_, _<_};
 ghost use lib.ListN.{length, take};
 ghost use lib.Seq.{slice};
-ghost use Rattle.text.specs.Text.{fieldsOf, hexOf};
+ghost use Rattle.text.specs.Text.{hexOf};
 ghost use Rattle.text.specs.Wrote.{Wrote};
 ghost use Rattle.text_decimals.specs.Decimals.{numberIn};
 ghost use Rattle.lines_record.specs.Record.{namedOf};
@@ -13,7 +13,7 @@ ghost use Rattle.lines_machine.specs.Bytes.{start, endOf};
 ghost use Rattle.lines_machine.specs.Contract.{openOf, Fed};
 ghost use Rattle.compare.specs.Contract.{longest};
 ghost use Rattle.compare_lines.specs.declared.CompareRecord.the-variants.{Span, Knot};
-ghost use Rattle.compare_lines.specs.CompareRecord.{curveSaid, spanSaid, knotSaid, meaningOf, ofFields, saidOf, isOther};
+ghost use Rattle.compare_lines.specs.CompareRecord.{curveSaid, spanSaid, knotSaid, meaningOf, saidOf, isOther};
 ghost use Rattle.compare_lines.specs.Listings.{none, on, before, places, parted, verdictText, endsOf, says, compareProgram};
 ghost use Rattle.compare_lines.specs.Contract.{listingOf, knotsOf, bothOf, countOf, stateOf, Enters, Takes};
 use basis::Basis;
@@ -108,29 +108,21 @@ fn meaning(w: &[u8], s: &[u8]) -> CompareRecord
     CompareRecord::Bad
 }
 
-// What a first field and what stands after its tab say: one field more, and no third.
-fn said_after(w: &[u8], s: &[u8]) -> CompareRecord
-    ensures { λ r. ⌜ r ≡ ofFields (now (w .entry) ∷ fieldsOf (now (s .entry))) ⌝ }
-{
-    if text::tab_at(s) < s.len() {
-        return CompareRecord::Bad;
-    }
-    meaning(w, s)
-}
-
-// The record that a line is.
+// One field may say `other`, two a record.
 fn said_of(line: &[u8]) -> CompareRecord
     ensures { λ r. ⌜ r ≡ saidOf (now (line .entry)) ⌝ }
 {
-    let t = text::tab_at(line);
-    if t < line.len() {
-        let from = t + 1;
-        return said_after(&line[0..t], &line[from..]);
+    let n = text::fields_in(line);
+    if n == 1 {
+        if text::is_word(text::field(line, 0), b"other") {
+            return CompareRecord::Other;
+        }
+        return CompareRecord::Bad;
     }
-    if text::is_word(line, b"other") {
-        return CompareRecord::Other;
+    if n != 2 {
+        return CompareRecord::Bad;
     }
-    CompareRecord::Bad
+    meaning(text::field(line, 0), text::field(line, 1))
 }
 
 // What the line of len bytes says; 65 stands for one that is too long.
@@ -138,7 +130,7 @@ fn said_by(len: usize, line: &[u8]) -> CompareRecord
     requires { ⌜ length (now line) ≡ widest ⌝ }
     ensures { λ r. ⌜ r ≡ says (openOf len (now (line .entry))) ⌝ }
 {
-    if len <= 64 {
+    if len <= lines_machine::WIDEST {
         return said_of(&line[0..len]);
     }
     CompareRecord::Bad
@@ -201,16 +193,17 @@ fn add(t: Table, n: usize, x: u64, knots: &mut [u64]) -> EntryResult
     requires knots { ⌜ length (now knots) ≡ places ⌝ }
     ensures { λ e. ⌜ Enters (on t (take n (now (knots .entry)))) (Knot x) e (now (knots .exit)) ⌝ }
 {
-    if n < basis::MOST_KNOTS {
-        knots[n] = x;
-        let next = n + 1;
+    let k = keeper::keep_bits(x, n, knots);
+    let count = k.count;
+    let after = Listing::On(t, count);
+    if k.taken {
         return EntryResult {
-            listing: Listing::On(t, next),
+            listing: after,
             verdict: Verdict::Passed,
         };
     }
     EntryResult {
-        listing: Listing::On(t, n),
+        listing: after,
         verdict: Verdict::Failed(Refusal::TooMany),
     }
 }

@@ -9,8 +9,8 @@ use lib.Dec.{ltb, eqb}
 use lib.ListN.{length, take, drop, length-append}
 use Rattle.sheet_depth.specs.Depth.{greatest}
 use Rattle.text.specs.declared.HexNumber.the-variants.{Is}
-use Rattle.text.specs.Text.{decText}
-use Rattle.text_decimals.specs.Decimals.{POINT, digitIn, digitsOf, numberIn, placeOf, scaled, behindOf, thousandthsOf}
+use Rattle.text.specs.Text.{placeOf, decText}
+use Rattle.text_decimals.specs.Decimals.{POINT, digitIn, digitsOf, numberIn, scaled, behindOf, thousandthsOf}
 use Rattle.text_decimals.proofs.Digits.{digit-is}
 use Rattle.text_decimals.proofs.ReadBack.{number-back}
 use Rattle.text_rounded.specs.Rounded.{fixedText}

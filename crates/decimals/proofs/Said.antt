@@ -11,8 +11,8 @@ use lib.Dec.{leb, ltb, eqb}
 use lib.ListN.{length, take, drop, length-append}
 use Rattle.text.specs.declared.HexNumber.{HexNumber}
 use Rattle.text.specs.declared.HexNumber.the-variants.{Is, Nothing}
-use Rattle.text.specs.Text.{decText}
-use Rattle.text_decimals.specs.Decimals.{MINUS, POINT, digitIn, digitsOf, numberIn, placeOf}
+use Rattle.text.specs.Text.{placeOf, decText}
+use Rattle.text_decimals.specs.Decimals.{MINUS, POINT, digitIn, digitsOf, numberIn}
 use Rattle.text_decimals.proofs.Digits.{digit-is}
 use Rattle.text_decimals.proofs.ReadBack.{number-back}
 use Rattle.text_rounded.specs.Rounded.{minusIn, sizeIn, largest, significandOf, shiftOf, unitsOf, fixedText, unitsText, roundedText}

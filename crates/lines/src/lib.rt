@@ -29,7 +29,7 @@ pub fn said(len: usize, line: &[u8]) -> Record
     requires { ⌜ length (now line) ≡ widest ⌝ }
     ensures { λ r. ⌜ r ≡ says (openOf len (now (line .entry))) ⌝ }
 {
-    if len <= 64 {
+    if len <= lines_machine::WIDEST {
         return lines_record::record_of(&line[0..len]);
     }
     Record::Bad

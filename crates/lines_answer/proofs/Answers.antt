@@ -1,11 +1,11 @@
 -- What a conversion leaves in the lent places, and a knot that finds a place or none. Assumes nothing.
-use mathlib.Core.Path.{_≡_, sym, ap, _∙_}
+use mathlib.Core.Path.{_≡_, refl, sym, ap, _∙_}
+use mathlib.Core.Bool.{true, false}
 use mathlib.Core.List.{List}
-use Prim.Native.Nat.{ℕ, _+_, _≤_, _<_}
-use native.Mathlib.Numerals.{add-one}
+use Prim.Native.Nat.{ℕ, _+_, _≤_}
 use native.Mathlib.Omega.{arith}
-use lib.ListN.{length, take, drop, set, length-append}
-use lib.Seq.{take-append-seam, take-suc-set, length-take-le}
+use lib.ListN.{length, take, drop, length-append}
+use lib.Seq.{take-append-seam}
 use lib.Ieee.{Float}
 use Rattle.basis.specs.declared.Basis.{Basis}
 use Rattle.convert.specs.declared.ConversionAnswer.the-variants.{Written, Refused}
@@ -14,13 +14,14 @@ use Rattle.convert.specs.Buffer.{answerOf, bufferOf}
 use Rattle.error.specs.declared.Refusal.{Refusal}
 use Rattle.error.specs.declared.Refusal.the-variants.{TooMany}
 use Rattle.error.proofs.First.{never}
+use Rattle.keeper.specs.declared.Kept.{Kept}
+use Rattle.keeper.specs.Contract.{Keeps}
 use Rattle.lines_record.specs.declared.Record.the-variants.{Knot}
 use Rattle.inverse_order.specs.declared.EndsBy.{EndsBy}
 use Rattle.lines_reply.specs.Reply.{silence, refused, curve}
 use Rattle.table_span.specs.declared.Table.{Table}
 use Rattle.table_span.specs.Second.{spansOf}
 use Rattle.lines_answer.specs.Answer.{places, on, curveReply, replyTo, afterOf}
-use Rattle.lines_answer.proofs.Records.{knot-silent, knot-refused}
 
 -- ---- a conversion into o, which became o′
 -- it wrote n knots
@@ -39,15 +40,15 @@ turn-refused s c (gives l) r e = never (cc)
 turn-refused s c (refuses q) r e = let k : r ≡ q = cc in ap refused k
 
 -- ---- a knot, where n stand in the table
-module _ (t : Table) (m : EndsBy) (n : ℕ) (x : Float) (table : List Float) (full : length table ≡ places) where
-  pub knot-taken : n < places
-      → (on t m (take (n + 1) (set table n x)) ≡ afterOf (on t m (take n table)) (Knot x)) × (silence ≡ replyTo (on t m (take n table)) (Knot x))
-  knot-taken h =
-      let k = knot-silent t m (take n table) x (rw (length-take-le n table (omega arith)) h) in
-      (rw (k .1, add-one n) (ap (on t m) (take-suc-set table n x (omega arith))), sym (k .0))
+module _ (t : Table) (m : EndsBy) (n : ℕ) (x : Float) (table : List Float) {k : Kept} {table′ : List Float} (h : Keeps x n table k table′) where
+  pub knot-held : on t m (take (k .count) table′) ≡ afterOf (on t m (take n table)) (Knot x)
+  unfolding afterOf
+  knot-held = ap (on t m) (h .numbers)
 
-  pub knot-dropped : places ≤ n → n ≤ places
-      → (on t m (take n table) ≡ afterOf (on t m (take n table)) (Knot x)) × (refused TooMany ≡ replyTo (on t m (take n table)) (Knot x))
-  knot-dropped h l =
-      let k = knot-refused t m (take n table) x (rw (length-take-le n table (omega arith)) h) in
-      (sym (k .1), sym (k .0))
+  pub knot-taken : k .taken ≡ true → silence ≡ replyTo (on t m (take n table)) (Knot x)
+  unfolding replyTo
+  knot-taken e = rw (sym (h .taken) ∙ e) refl
+
+  pub knot-dropped : k .taken ≡ false → refused TooMany ≡ replyTo (on t m (take n table)) (Knot x)
+  unfolding replyTo
+  knot-dropped e = rw (sym (h .taken) ∙ e) refl

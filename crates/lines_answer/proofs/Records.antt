@@ -49,7 +49,7 @@ refused-changes-nothing (on t m ks) (Span s) e h = go (goodSpan s) h
     go false h = refl
 refused-changes-nothing (on t m ks) (Knot x) e h = go (ltb (length ks) places) h
   where
-    go : (g : Bool) → cond g silence (refused TooMany) ≡ refused e → cond g (on t m (ks ++ (x ∷ []))) (on t m ks) ≡ on t m ks
+    go : (g : Bool) → cond g silence (refused TooMany) ≡ refused e → on t m (cond g (ks ++ (x ∷ [])) ks) ≡ on t m ks
     go true h = never (cc)
     go false h = refl
 refused-changes-nothing (on t m ks) (Ends k) e h = never (cc)
@@ -126,11 +126,7 @@ held-after (on t m ks) (Span s) h = go (goodSpan s) refl
     go : (g : Bool) → goodSpan s ≡ g → SpanHeld (cond g (on (record { basis = t .basis; span = s }) m ks) (on t m ks))
     go true e = good-least s e .1
     go false e = h
-held-after (on t m ks) (Knot x) h = go (ltb (length ks) places)
-  where
-    go : (g : Bool) → SpanHeld (cond g (on t m (ks ++ (x ∷ []))) (on t m ks))
-    go true = h
-    go false = h
+held-after (on t m ks) (Knot x) h = h
 held-after (on t m ks) (Ends k) h = h
 held-after (on t m ks) (At x) h = h
 held-after (on t m ks) (Find y) h = h

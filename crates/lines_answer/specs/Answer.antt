@@ -1,11 +1,8 @@
 -- What a record gets, and the curve after it. Definitions only.
 use mathlib.Core.Bool.{true, cond}
-use mathlib.Core.List.{List, [], _∷_, _++_}
+use mathlib.Core.List.{List, []}
 use Prim.Native.Nat.{ℕ}
-use lib.Dec.{ltb}
-use lib.ListN.{length}
 use lib.Ieee.{Float}
-use Rattle.basis.specs.Basis.{mostKnots}
 use Rattle.basis.specs.declared.Basis.{Basis}
 use Rattle.convert.specs.Conversion.{Conversion, gives, refuses, convertedOf}
 use Rattle.error.specs.declared.Refusal.the-variants.{TooMany, BadSpan, OffCurve, BadLine}
@@ -16,6 +13,8 @@ use Rattle.inverse_segment.specs.Answer.{defaultLimit, defaultPrecision}
 use Rattle.inverse_segment.specs.declared.Inversion.{Inversion}
 use Rattle.inverse_segment.specs.declared.Inversion.the-variants as I
 use Rattle.inverse_segment.specs.declared.Method.the-variants.{AsCrate}
+use Rattle.keeper.specs.Table as table
+use Rattle.keeper.specs.Table.{hasRoom, kept}
 use Rattle.lines_record.specs.declared.Record.{Record}
 use Rattle.lines_record.specs.declared.Record.the-variants.{Curve as CurveOf, Span, Knot, Ends, At, Find, Turn, Bad}
 use Rattle.lines_reply.specs.Reply.{Reply, silence, refused, value, place, curve}
@@ -27,7 +26,7 @@ use Rattle.table_span.specs.Second.{goodSpan, spansOf, secondsOf}
 
 -- the places of the table, and those that `turn` lends
 abbrev pub places : ℕ
-places = mostKnots
+places = table.places
 
 -- the curve: none before the first `curve`, then a table with its span, by which ends it is inverted, and its knots
 pub data Curve : Type 0 where
@@ -73,7 +72,7 @@ replyTo none (Turn c) = refused BadLine
 replyTo none Bad = refused BadLine
 replyTo (on t m ks) (CurveOf c) = silence
 replyTo (on t m ks) (Span s) = cond (goodSpan s) silence (refused BadSpan)
-replyTo (on t m ks) (Knot x) = cond (ltb (length ks) places) silence (refused TooMany)
+replyTo (on t m ks) (Knot x) = cond (hasRoom ks) silence (refused TooMany)
 replyTo (on t m ks) (Ends k) = silence
 replyTo (on t m ks) (At x) = valueReply (splineOf (t .basis) x ks)
 replyTo (on t m ks) (Find y) = placeReply (t .span) (foundOf m (t .basis) y ks)
@@ -93,7 +92,7 @@ afterOf none (Turn c) = none
 afterOf none Bad = none
 afterOf (on t m ks) (CurveOf c) = on (bare c) m []
 afterOf (on t m ks) (Span s) = cond (goodSpan s) (on (record { basis = t .basis; span = s }) m ks) (on t m ks)
-afterOf (on t m ks) (Knot x) = cond (ltb (length ks) places) (on t m (ks ++ (x ∷ []))) (on t m ks)
+afterOf (on t m ks) (Knot x) = on t m (kept ks x)
 afterOf (on t m ks) (Ends k) = on t k ks
 afterOf (on t m ks) (At x) = on t m ks
 afterOf (on t m ks) (Find y) = on t m ks

@@ -131,17 +131,17 @@ pub fn add(t: Table, m: EndsBy, n: usize, x: f64, table: &mut [f64]) -> SessionR
     requires table { ⌜ length (now table) ≡ places ⌝ }
     ensures { λ a. ⌜ ((l : List Float) → Answers (on t m (take n (now (table .entry)))) (Knot x) a (now (table .exit)) l) ⌝ }
 {
-    if n < basis::MOST_KNOTS {
-        table[n] = x;
-        let next = n + 1;
+    let k = keeper::keep(x, n, table);
+    let count = k.count;
+    let after = Session::Curve(t, m, count);
+    if k.taken {
         return SessionReply {
-            held: Session::Curve(t, m, next),
+            held: after,
             told: LineReply::Nothing,
         };
     }
-    let full = Session::Curve(t, m, n);
     SessionReply {
-        held: full,
+        held: after,
         told: LineReply::Refused(Refusal::TooMany),
     }
 }

@@ -6,12 +6,15 @@ ghost use Rattle.lines_machine.specs.Program.{widest};
 ghost use Rattle.lines_machine.specs.Bytes.{push};
 ghost use Rattle.lines_machine.specs.Contract.{openOf, Stretch};
 
+// The most bytes of a line, without LF.
+pub const WIDEST: usize = 64;
+
 // A byte of a line, of which `len` bytes stand in the lent 64. The answer is how many stand there now; 65 means that the line is too long.
 pub fn pushed(len: usize, byte: u8, line: &mut [u8]) -> usize
     requires { ⌜ length (now line) ≡ widest ⌝ }
     ensures { λ r. ⌜ openOf r (now (line .exit)) ≡ push (openOf len (now (line .entry))) byte ⌝ }
 {
-    if len < 64 {
+    if len < WIDEST {
         line[len] = byte;
         return len + 1;
     }

@@ -1,10 +1,8 @@
 // What a line of a listing says, which is its record.
 ghost use mathlib.Core.Path.{_≡_};
-ghost use mathlib.Core.List.{_∷_};
-ghost use Rattle.text.specs.Text.{fieldsOf};
 ghost use Rattle.text_decimals.specs.Decimals.{numberIn};
 ghost use Rattle.lines_record.specs.declared.Record.the-variants.{Span, Ends};
-ghost use Rattle.lines_record.specs.Record.{wordOf, namedOf, endsOf, withNumber, withEnds, meaningOf, ofFields, recordOf};
+ghost use Rattle.lines_record.specs.Record.{wordOf, namedOf, endsOf, withNumber, withEnds, meaningOf, recordOf};
 use basis::Basis;
 use inverse_order::EndsBy;
 use text::HexNumber;
@@ -170,24 +168,12 @@ fn meaning(w: Word, s: &[u8]) -> Record
     }
 }
 
-// The record of a first field and of what stands after its tab: one field more, and no third.
-fn record_after(w: &[u8], s: &[u8]) -> Record
-    ensures { λ r. ⌜ r ≡ ofFields (now (w .entry) ∷ fieldsOf (now (s .entry))) ⌝ }
-{
-    if text::tab_at(s) < s.len() {
-        return Record::Bad;
-    }
-    meaning(word_of(w), s)
-}
-
-// The record that a line is. A line without a tab is none.
+// A record has two fields, no more and no fewer.
 pub fn record_of(line: &[u8]) -> Record
     ensures { λ r. ⌜ r ≡ recordOf (now (line .entry)) ⌝ }
 {
-    let t = text::tab_at(line);
-    if t < line.len() {
-        let from = t + 1;
-        return record_after(&line[0..t], &line[from..]);
+    if text::fields_in(line) != 2 {
+        return Record::Bad;
     }
-    Record::Bad
+    meaning(word_of(text::field(line, 0)), text::field(line, 1))
 }

@@ -147,12 +147,12 @@ entered-alike (listing.on t ks) (curve.on u m ls) (C.Span n) a = go (goodSpan n)
     go false = a
 entered-alike (listing.on t ks) (curve.on u m ls) (C.Knot n) a =
     subst
-    (λ (k : ℕ). Alike (cond (ltb (length ks) listing.places) (listing.on t (ks ++ (n ∷ []))) (listing.on t ks))
-    (cond (ltb k curve.places) (curve.on u m (ls ++ (doubleOf n ∷ []))) (curve.on u m ls))) (sym (as-long ks) ∙ ap length (a .1))
+    (λ (k : ℕ). Alike (listing.on t (cond (ltb (length ks) listing.places) (ks ++ (n ∷ [])) ks))
+    (curve.on u m (cond (ltb k curve.places) (ls ++ (doubleOf n ∷ [])) ls))) (sym (as-long ks) ∙ ap length (a .1))
     (go (ltb (length ks) listing.places))
   where
     go : (g : Bool)
-        → Alike (cond g (listing.on t (ks ++ (n ∷ []))) (listing.on t ks)) (cond g (curve.on u m (ls ++ (doubleOf n ∷ []))) (curve.on u m ls))
+        → Alike (listing.on t (cond g (ks ++ (n ∷ [])) ks)) (curve.on u m (cond g (ls ++ (doubleOf n ∷ [])) ls))
     go true = (a .0, one-more ks n ∙ ap (λ (l : List Float). l ++ (doubleOf n ∷ [])) (a .1))
     go false = a
 entered-alike (listing.on t ks) (curve.on u m ls) C.Other a = a

@@ -1,14 +1,14 @@
 -- A sheet's lines, case by case. Assumes nothing.
 use mathlib.Core.Path.{_≡_, refl, sym, ap, _∙_}
 use mathlib.Core.Bool.{Bool, true, false, cond, _&&_, true≢false}
-use mathlib.Core.List.{List, [], _∷_}
+use mathlib.Core.List.{List, [], _∷_, _++_}
 use Prim.Native.Nat.{ℕ, suc, _+_, _-_, _≤_, _<_}
 use native.Mathlib.Numerals.{add-one}
 use native.Mathlib.Omega.{arith}
 use borrow.Author.Tests.{le-leb, lt-leb, lt-ltb, le-ltb}
 use lib.Dec.{eqb, leb, ltb}
-use lib.ListN.{length, take, drop, getD, set, length-drop}
-use lib.Seq.{take-all, take-suc-set, length-take-le}
+use lib.ListN.{length, take, drop, getD, length-drop}
+use lib.Seq.{take-all}
 use lib.Ieee.{Float}
 use Rattle.basis.specs.declared.Basis.{Basis}
 use Rattle.text.specs.declared.HexNumber.{HexNumber}
@@ -21,11 +21,13 @@ use Rattle.sheet.specs.declared.Depth.{Depth}
 use Rattle.sheet.specs.declared.Depth.the-variants.{Is, Nothing}
 use Rattle.error.specs.declared.Refusal.{Refusal}
 use Rattle.error.specs.declared.Refusal.the-variants.{TooMany}
+use Rattle.keeper.specs.declared.Kept.{Kept}
+use Rattle.keeper.specs.Contract.{Keeps}
 use Rattle.lines_machine.specs.Program.{widest, Line, so, over}
 use Rattle.lines_machine.specs.Contract.{openOf}
 use Rattle.lines_record.specs.Record.{namedOf}
 use Rattle.error.specs.declared.Refusal.the-variants.{BadSheet}
-use Rattle.sheet.specs.Sheet.{Sheet, unbegun, on, faulty, most, signed, depthIn, depthLine, named, added, afterOf}
+use Rattle.sheet.specs.Sheet.{Sheet, unbegun, on, faulty, signed, depthIn, depthLine, named, added, afterOf}
 
 -- ---- a sign
 pub minus-some : (s : List ℕ) → eqb (getD s 0 0) MINUS ≡ true → 0 < length s
@@ -97,19 +99,17 @@ depth-small l b n e = go (ltb (tabOf l) (length l) && leb 1 (tabOf l) && leb (ta
     go false h = never h
 
 -- ---- a knot more
-module _ (b : Basis) (n : ℕ) (table : List Float) (few : n ≤ most) (full : length table ≡ most) where
-  pub room : (minus : Bool) (k : ℕ) {x : Float} {d : Depth} {e : Depth} → d ≡ e → d ≡ Is minus k → n < most → x ≡ depthOf minus k
-      → on b (take (n + 1) (set table n x)) ≡ added b (take n table) e
-  room minus k {x} {d} {e} p q h r =
-      let z : length (take n table) < most = rw (length-take-le n table (omega arith)) h in
-      let w : e ≡ Is minus k = sym p ∙ q in
-      rw (w, lt-ltb (length (take n table)) most z, r, add-one n) (ap (on b) (take-suc-set table n (depthOf minus k) (omega arith)))
+module _ (b : Basis) (n : ℕ) (table : List Float) (minus : Bool) (d : ℕ) {e f : Depth} (p : e ≡ f) (q : e ≡ Is minus d) {x : Float} (r : x ≡ depthOf minus d)
+    {k : Kept} {table′ : List Float} (h : Keeps x n table k table′) where
+  said : f ≡ Is minus d
+  said = sym p ∙ q
 
-  pub no-room : (minus : Bool) (k : ℕ) {d : Depth} {e : Depth} → d ≡ e → d ≡ Is minus k → most ≤ n → faulty TooMany ≡ added b (take n table) e
-  no-room minus k {d} {e} p q h =
-      let z : most ≤ length (take n table) = rw (length-take-le n table (omega arith)) h in
-      let w : e ≡ Is minus k = sym p ∙ q in
-      rw (w, le-ltb (length (take n table)) most z) refl
+  pub room : k .taken ≡ true → on b (take (k .count) table′) ≡ added b (take n table) f
+  room g =
+      rw (said, sym (h .taken) ∙ g) (ap (on b) (h .numbers ∙ rw (sym (h .taken) ∙ g) (ap (λ (y : Float). take n table ++ (y ∷ [])) r)))
+
+  pub no-room : k .taken ≡ false → faulty TooMany ≡ added b (take n table) f
+  no-room g = rw (said, sym (h .taken) ∙ g) refl
 
 pub no-depth : (b : Basis) (ks : List Float) {d e : Depth} → d ≡ e → d ≡ Nothing → faulty BadSheet ≡ added b ks e
 no-depth b ks {d} {e} p q = let w : e ≡ Nothing = sym p ∙ q in rw w refl

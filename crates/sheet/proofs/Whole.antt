@@ -23,6 +23,7 @@ use Rattle.lines_record.specs.Record.{namedOf}
 use Rattle.lines_machine.specs.Program.{linesOf, Line, so, over, lineOf, printsOf, outputOf}
 use Rattle.sheet.specs.declared.Depth.{Depth}
 use Rattle.sheet.specs.declared.Depth.the-variants.{Is, Nothing}
+use Rattle.keeper.specs.Table.{kept}
 use Rattle.sheet.specs.Sheet.{Sheet, unbegun, on, faulty, most, depthLine, named, added, afterOf, endsOf, sheetProgram}
 use Rattle.sheet.proofs.Lines.{depth-small}
 
@@ -148,7 +149,7 @@ behind b ks (l ∷ ls) c ns h e =
     Next = (x : Float) → length (ks ++ (x ∷ [])) ≤ most → sheetAfter (on b (ks ++ (x ∷ []))) ls ≡ on c ns → Behind b (ks ++ (x ∷ [])) ls c ns
 
     room : Next → (minus : Bool) (n : ℕ) → depthSaid (lineOf l) ≡ Is minus n → (t : Bool) → ltb (length ks) most ≡ t
-        → sheetAfter (cond t (on b (ks ++ (depthOf minus n ∷ []))) (faulty TooMany)) ls ≡ on c ns → Behind b ks (l ∷ ls) c ns
+        → sheetAfter (cond t (on b (cond t (ks ++ (depthOf minus n ∷ [])) ks)) (faulty TooMany)) ls ≡ on c ns → Behind b ks (l ∷ ls) c ns
     room next minus n d true f g =
         let z : length ks < most = ltb-true (length ks) most f in
         let q : Behind b (ks ++ (depthOf minus n ∷ [])) ls c ns = next (depthOf minus n) (simp length-append (omega arith)) g in
@@ -199,7 +200,7 @@ fine-after (on b ks) o f = rw (later-line b ks o) (go (depthSaid o))
     room false l = tooMany
 
     go : (d : Depth) → Fine (added b ks d)
-    go (Is minus n) = room (ltb (length ks) most) (ks ++ (depthOf minus n ∷ []))
+    go (Is minus n) = room (ltb (length ks) most) (kept ks (depthOf minus n))
     go Nothing = malformed
 fine-after (faulty r) o f = rw (faulty-line r o) f
 

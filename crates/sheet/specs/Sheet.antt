@@ -1,11 +1,10 @@
 -- A sheet of decimals: a basis, then a depth a line. What it prints. Definitions only.
 use mathlib.Core.Bool.{Bool, true, false, cond, _&&_}
-use mathlib.Core.List.{List, [], _∷_, _++_}
+use mathlib.Core.List.{List, []}
 use Prim.Native.Nat.{ℕ, suc}
 use lib.Dec.{leb, ltb, eqb}
 use lib.ListN.{length, drop, getD}
 use lib.Ieee.{Float}
-use Rattle.basis.specs.Basis.{mostKnots}
 use Rattle.basis.specs.declared.Basis.{Basis}
 use Rattle.error.specs.declared.Refusal.{Refusal}
 use Rattle.error.specs.declared.Refusal.the-variants.{TooMany, BadSheet}
@@ -14,6 +13,7 @@ use Rattle.text.specs.declared.HexNumber.the-variants as H
 use Rattle.text.specs.Text.{tabOf}
 use Rattle.text_decimals.specs.Decimals.{MINUS, thousandthsOf}
 use Rattle.sheet_depth.specs.Depth.{depthOf}
+use Rattle.keeper.specs.Table.{places, hasRoom, kept}
 use Rattle.lines_record.specs.declared.BasisName.{BasisName}
 use Rattle.lines_record.specs.declared.BasisName.the-variants as N
 use Rattle.lines_record.specs.Record.{namedOf}
@@ -43,7 +43,7 @@ pub data Sheet : Type 0 where
   faulty : Refusal → Sheet
 
 abbrev pub most : ℕ
-most = mostKnots
+most = places
 
 abbrev pub named : BasisName → Sheet
 named (N.Is b) = on b []
@@ -51,7 +51,7 @@ named N.Nothing = faulty BadSheet
 
 -- one knot for each depth line; 3 at the 4,097th
 abbrev pub added : Basis → List Float → Depth → Sheet
-added b ks (Is minus n) = cond (ltb (length ks) most) (on b (ks ++ (depthOf minus n ∷ []))) (faulty TooMany)
+added b ks (Is minus n) = cond (hasRoom ks) (on b (kept ks (depthOf minus n))) (faulty TooMany)
 added b ks Nothing = faulty BadSheet
 
 -- the first line is the name of a basis, each other a depth; after a fault nothing counts

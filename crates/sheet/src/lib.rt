@@ -64,7 +64,7 @@ pub fn depth_in(s: &[u8]) -> Depth
 pub fn depth_line(l: &[u8]) -> Depth
     ensures { λ r. ⌜ r ≡ depthLine (now (l .entry)) ⌝ }
 {
-    let t = text::tab_at(l);
+    let t = text::place_of(l, b'\t');
     if l.len() <= t {
         return Depth::Nothing;
     }
@@ -96,13 +96,13 @@ fn add(b: Basis, n: usize, l: &[u8], table: &mut [f64]) -> SheetState
     ensures sheet { λ r. ⌜ sheetOf r (now (table .exit)) ≡ added b (take n (now (table .entry))) (depthLine (now (l .entry))) ⌝ }
     ensures count_after { λ r. ⌜ countOf r ≤ most ⌝ }
 {
-    let Depth::Is(minus, k) = depth_line(l) else {
+    let Depth::Is(minus, d) = depth_line(l) else {
         return SheetState::Faulty(Refusal::BadSheet);
     };
-    if n < basis::MOST_KNOTS {
-        table[n] = sheet_depth::depth(minus, k);
-        let next = n + 1;
-        return SheetState::On(b, next);
+    let k = keeper::keep(sheet_depth::depth(minus, d), n, table);
+    let count = k.count;
+    if k.taken {
+        return SheetState::On(b, count);
     }
     SheetState::Faulty(Refusal::TooMany)
 }
@@ -117,13 +117,13 @@ pub fn line(h: SheetState, len: usize, line: &[u8], table: &mut [f64]) -> SheetS
 {
     match h {
         SheetState::Unbegun => {
-            if len <= 64 {
+            if len <= lines_machine::WIDEST {
                 return first(&line[0..len]);
             }
             SheetState::Faulty(Refusal::BadSheet)
         }
         SheetState::On(b, n) => {
-            if len <= 64 {
+            if len <= lines_machine::WIDEST {
                 return add(b, n, &line[0..len], table);
             }
             SheetState::Faulty(Refusal::BadSheet)

@@ -11,7 +11,7 @@ use lib.Dec.{eqb}
 use lib.ListN.{length, drop, getD}
 use lib.Seq.{drop-cons, drop-length}
 use Rattle.text.specs.declared.HexNumber.the-variants.{Is, Nothing}
-use Rattle.text.specs.Text.{same, digitOf, valueOf, hexOf, tabOf}
+use Rattle.text.specs.Text.{same, digitOf, valueOf, hexOf, placeOf}
 
 pub same-long : (s w : List ℕ) → (length s ≡ length w → ⊥) → same s w ≡ false
 unfolding same
@@ -70,22 +70,22 @@ pub hex-not : (s : List ℕ) → (length s ≡ 16 → ⊥) → hexOf s ≡ Nothi
 unfolding hexOf
 hex-not s h = simp (ne-eqb (length s) 16 h)
 
--- ---- the tab
-tab-at : (s : List ℕ) (i : ℕ) → i < length s → tabOf (drop i s) ≡ cond (eqb (getD s i 0) 9) 0 (suc (tabOf (drop (i + 1) s)))
-unfolding tabOf
-tab-at s i h = rw (add-one i, drop-cons s i 0 h) refl
+-- ---- a place
+place-at : (b : ℕ) (s : List ℕ) (i : ℕ) → i < length s → placeOf b (drop i s) ≡ cond (eqb (getD s i 0) b) 0 (suc (placeOf b (drop (i + 1) s)))
+unfolding placeOf
+place-at b s i h = rw (add-one i, drop-cons s i 0 h) refl
 
-pub tab-step : (s : List ℕ) (i : ℕ) → i < length s → (getD s i 0 ≡ 9 → ⊥) → i + 1 + tabOf (drop (i + 1) s) ≡ i + tabOf (drop i s)
-tab-step s i h k = let e : tabOf (drop i s) ≡ suc (tabOf (drop (i + 1) s)) = tab-at s i h ∙ simp (ne-eqb _ _ k) in omega arith
+pub place-step : (b : ℕ) (s : List ℕ) (i : ℕ) → i < length s → (getD s i 0 ≡ b → ⊥) → i + 1 + placeOf b (drop (i + 1) s) ≡ i + placeOf b (drop i s)
+place-step b s i h k = let e : placeOf b (drop i s) ≡ suc (placeOf b (drop (i + 1) s)) = place-at b s i h ∙ simp (ne-eqb _ _ k) in omega arith
 
-pub tab-stop : (s : List ℕ) (i : ℕ) → i < length s → getD s i 0 ≡ 9 → i ≡ i + tabOf (drop i s)
-tab-stop s i h k = let e : tabOf (drop i s) ≡ 0 = tab-at s i h ∙ simp (eq-eqb _ _ k) in omega arith
+pub place-stop : (b : ℕ) (s : List ℕ) (i : ℕ) → i < length s → getD s i 0 ≡ b → i ≡ i + placeOf b (drop i s)
+place-stop b s i h k = let e : placeOf b (drop i s) ≡ 0 = place-at b s i h ∙ simp (eq-eqb _ _ k) in omega arith
 
-pub tab-done : (s : List ℕ) (i : ℕ) → i ≤ length s → length s ≤ i → i ≡ i + tabOf (drop i s)
-unfolding tabOf
-tab-done s i h k =
+pub place-done : (b : ℕ) (s : List ℕ) (i : ℕ) → i ≤ length s → length s ≤ i → i ≡ i + placeOf b (drop i s)
+unfolding placeOf
+place-done b s i h k =
     let p : i ≡ length s = omega arith in
-    let e : tabOf (drop i s) ≡ 0 = ap tabOf (ap (λ (j : ℕ). drop j s) p ∙ drop-length s) in omega arith
+    let e : placeOf b (drop i s) ≡ 0 = ap (placeOf b) (ap (λ (j : ℕ). drop j s) p ∙ drop-length s) in omega arith
 
 -- ---- a digit
 pub digit-below : (b : ℕ) → b < 48 → 16 ≡ digitOf b

@@ -42,10 +42,14 @@ unfoldable pub fieldsOf : List ℕ → List (List ℕ)
 fieldsOf [] = [] ∷ []
 fieldsOf (b ∷ s) = cond (eqb b TAB) ([] ∷ fieldsOf s) (onto b (fieldsOf s))
 
--- the place of the first tab; the length where there is none
-unfoldable pub tabOf : List ℕ → ℕ
-tabOf [] = 0
-tabOf (b ∷ s) = cond (eqb b TAB) 0 (suc (tabOf s))
+-- the place of the first b; the length where there is none
+unfoldable pub placeOf : ℕ → List ℕ → ℕ
+placeOf b [] = 0
+placeOf b (a ∷ s) = cond (eqb a b) 0 (suc (placeOf b s))
+
+-- the place of the first tab
+abbrev pub tabOf : List ℕ → ℕ
+tabOf s = placeOf TAB s
 
 -- ---- hexadecimal digits
 

@@ -2,9 +2,9 @@
 ghost use mathlib.Core.Path.{_≡_};
 ghost use mathlib.Core.List.{[], _∷_};
 ghost use Prim.Native.Nat.{_+_, _≤_, _<_, _^_};
-ghost use lib.ListN.{length};
+ghost use lib.ListN.{length, getD};
 ghost use lib.Ieee.{toBits, binary64};
-ghost use Rattle.text.specs.Text.{same, tabOf, digitOf, hexOf, glyphOf, hexText, decText, doubleOf, doubleText};
+ghost use Rattle.text.specs.Text.{same, fieldsOf, placeOf, digitOf, hexOf, glyphOf, hexText, decText, doubleOf, doubleText};
 ghost use Rattle.text.specs.Wrote.{Wrote};
 
 // What some digits say: a number, or nothing.
@@ -30,19 +30,51 @@ pub fn is_word(s: &[u8], w: &[u8]) -> bool
     true
 }
 
-// Where the first tab of s is; the length where there is none.
-pub fn tab_at(s: &[u8]) -> usize
-    ensures answer { λ r. ⌜ r ≡ tabOf (now (s .entry)) ⌝ }
+// Where the first b of s is; the length where there is none.
+pub fn place_of(s: &[u8], b: u8) -> usize
+    ensures answer { λ r. ⌜ r ≡ placeOf b (now (s .entry)) ⌝ }
     ensures most { λ r. ⌜ r ≤ length (now (s .entry)) ⌝ }
 {
     let mut i = 0;
     while i < s.len() {
-        if s[i] == b'\t' {
+        if s[i] == b {
             return i;
         }
         i += 1;
     }
     i
+}
+
+// How many fields s has.
+pub fn fields_in(s: &[u8]) -> usize
+    ensures { λ r. ⌜ r ≡ length (fieldsOf (now (s .entry))) ⌝ }
+{
+    let mut n = 1;
+    let mut i = 0;
+    while i < s.len() {
+        if s[i] == b'\t' {
+            n += 1;
+        }
+        i += 1;
+    }
+    n
+}
+
+// Field k of s, the first being 0.
+pub fn field(s: &[u8], k: usize) -> &[u8]
+    requires { ⌜ k < length (fieldsOf (now s)) ⌝ }
+    ensures { λ r. ⌜ now r ≡ getD (fieldsOf (now (s .entry))) k [] ⌝ }
+{
+    let mut from = 0;
+    let mut left = k;
+    while 0 < left {
+        let t = place_of(&s[from..], b'\t');
+        from = from + t + 1;
+        left -= 1;
+    }
+    let t = place_of(&s[from..], b'\t');
+    let to = from + t;
+    &s[from..to]
 }
 
 // The value of an uppercase hexadecimal digit; 16 for any other byte.

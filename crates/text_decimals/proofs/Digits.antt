@@ -13,7 +13,8 @@ use lib.ListN.{length, take, drop, getD, length-drop}
 use lib.Seq.{drop-cons, drop-length, take-all}
 use Rattle.text.specs.declared.HexNumber.{HexNumber}
 use Rattle.text.specs.declared.HexNumber.the-variants.{Is, Nothing}
-use Rattle.text_decimals.specs.Decimals.{POINT, digitIn, digitsOf, numberIn, placeOf, scaled, behindOf, joined, thousandthsOf}
+use Rattle.text.specs.Text.{placeOf}
+use Rattle.text_decimals.specs.Decimals.{POINT, digitIn, digitsOf, numberIn, scaled, behindOf, joined, thousandthsOf}
 
 -- ---- a digit
 pub digit-below : (b : ℕ) → b < 48 → 10 ≡ digitIn b
@@ -64,23 +65,6 @@ pub room10 : (n i : ℕ) → n < 10 ^ i → i < 9 → n * 10 + 9 < 10 ^ 9
 room10 n i h k =
     let p : 10 ^ i * 10 ≤ 10 ^ 9 = rw (pow-suc 10 i) at (pow-le-pow-right {n = 10} (omega arith) {i = suc i} {j = 9} k) in
     omega arith
-
--- ---- a place
-place-at : (b : ℕ) (s : List ℕ) (i : ℕ) → i < length s → placeOf b (drop i s) ≡ cond (eqb (getD s i 0) b) 0 (suc (placeOf b (drop (i + 1) s)))
-unfolding placeOf
-place-at b s i h = rw (add-one i, drop-cons s i 0 h) refl
-
-pub place-step : (b : ℕ) (s : List ℕ) (i : ℕ) → i < length s → (getD s i 0 ≡ b → ⊥) → i + 1 + placeOf b (drop (i + 1) s) ≡ i + placeOf b (drop i s)
-place-step b s i h k = let e : placeOf b (drop i s) ≡ suc (placeOf b (drop (i + 1) s)) = place-at b s i h ∙ simp (ne-eqb _ _ k) in omega arith
-
-pub place-stop : (b : ℕ) (s : List ℕ) (i : ℕ) → i < length s → getD s i 0 ≡ b → i ≡ i + placeOf b (drop i s)
-place-stop b s i h k = let e : placeOf b (drop i s) ≡ 0 = place-at b s i h ∙ simp (eq-eqb _ _ k) in omega arith
-
-pub place-done : (b : ℕ) (s : List ℕ) (i : ℕ) → i ≤ length s → length s ≤ i → i ≡ i + placeOf b (drop i s)
-unfolding placeOf
-place-done b s i h k =
-    let p : i ≡ length s = omega arith in
-    let e : placeOf b (drop i s) ≡ 0 = ap (placeOf b) (ap (λ (j : ℕ). drop j s) p ∙ drop-length s) in omega arith
 
 -- ---- k digits say a number below 10^k
 unread : {A : Type 0} {n : ℕ} → Nothing ≡ Is n → A

@@ -2,7 +2,7 @@
 ghost use mathlib.Core.Path.{_≡_};
 ghost use Prim.Native.Nat.{_≤_, _<_};
 ghost use lib.ListN.{length};
-ghost use Rattle.text_decimals.specs.Decimals.{digitIn, numberIn, placeOf, behindOf, thousandthsOf};
+ghost use Rattle.text_decimals.specs.Decimals.{digitIn, numberIn, behindOf, thousandthsOf};
 use text::HexNumber;
 
 // The value of a decimal digit; 10 for any other byte.
@@ -43,21 +43,6 @@ pub fn number_in(s: &[u8], most: usize) -> HexNumber
     HexNumber::Is(n)
 }
 
-// Where the first b of s is; the length where there is none.
-pub fn place_of(s: &[u8], b: u8) -> usize
-    ensures answer { λ r. ⌜ r ≡ placeOf b (now (s .entry)) ⌝ }
-    ensures most { λ r. ⌜ r ≤ length (now (s .entry)) ⌝ }
-{
-    let mut i = 0;
-    while i < s.len() {
-        if s[i] == b {
-            return i;
-        }
-        i += 1;
-    }
-    i
-}
-
 // The thousandths of 1 to 3 digits behind a point.
 fn behind(s: &[u8]) -> HexNumber
     ensures { λ r. ⌜ r ≡ behindOf (now (s .entry)) ⌝ }
@@ -79,7 +64,7 @@ fn behind(s: &[u8]) -> HexNumber
 pub fn thousandths(s: &[u8]) -> HexNumber
     ensures { λ r. ⌜ r ≡ thousandthsOf (now (s .entry)) ⌝ }
 {
-    let p = place_of(s, b'.');
+    let p = text::place_of(s, b'.');
     if p < s.len() {
         let from = p + 1;
         let HexNumber::Is(w) = number_in(&s[0..p], 9) else {

@@ -1,28 +1,57 @@
--- What stands before the first tab decides: the word of a claim, or a record; without a tab it is neither.
+-- The first field decides: the word of a claim, or a record.
+use mathlib.Core.Path.{ap, _∙_}
+use mathlib.Core.List.{List}
+use Prim.Native.Nat.{ℕ}
 use native.Mathlib.Omega.{arith}
-use mathlib.Core.Path.{sym, _∙_}
-use Rattle.claims.proofs.Saying.{with-word, without-word, no-tab}
+use Rattle.text.specs.Text.{bytes, same}
+use Rattle.text.proofs.Fields.{some}
+use Rattle.claims.proofs.Saying.{with-word, without-word}
 use borrow.Author.Needs.{needs}
 use Rattle.claims.proofs.said_in.Statement.{statement}
 use Rattle.claims.proofs.said_in.Tie as tie
 
+field-requires : tie.Need-field-requires
+field-requires c κs = omega (arith, some (c .before .args .line .now))
+
+slice-aggregate-is-word : tie.Need-slice-aggregate-is-word
+slice-aggregate-is-word c = search needs
+
+is-word-requires : tie.Need-is-word-requires
+is-word-requires c κs = search needs
+
+claim-in-requires : tie.Need-claim-in-requires
+claim-in-requires c κs = search needs
+
 returns : tie.Need-returns
 returns c =
-    let start = c .before .before .before .before .before .before .before .before .before in
-    with-word _ (start .args .line .now) (c .before .before .before .before .before .before .before .tab-at .ensures .0) (omega arith)
-    (sym (c .before .before .before .is-word .ensures) ∙ c .before .before .if2 .taken) (c .after-word .ensures)
+    let at-is-word = c .before .before in
+    let at-field = at-is-word .before .before in
+    with-word (at-field .before .before .args .line .now)
+    (at-is-word .is-word .ensures ∙ ap (λ (w : List ℕ). same w (bytes "claim")) (at-field .field .ensures)) (c .before .if1 .taken) (c .claim-in .ensures)
+
+record-of-requires : tie.Need-record-of-requires
+record-of-requires c κs = search needs
+
+of-table-requires : tie.Need-of-table-requires
+of-table-requires c κs = search needs
 
 returns-2 : tie.Need-returns-2
 returns-2 c =
-    let start = c .before .before .before .before .before .before .before .before .before in
-    without-word _ (start .args .line .now) (c .before .before .before .before .before .before .before .tab-at .ensures .0) (omega arith)
-    (sym (c .before .before .before .is-word .ensures) ∙ c .before .before .if2 .left) (c .before .record-of .ensures) (c .of-table .ensures)
-
-returns-3 : tie.Need-returns-3
-returns-3 c = no-tab (c .before .before .before .args .line .now) (rw (c .before .tab-at .ensures .0) at (c .if1 .left))
+    let at-is-word = c .before .before .before in
+    let at-field = at-is-word .before .before in
+    without-word (at-field .before .before .args .line .now)
+    (at-is-word .is-word .ensures ∙ ap (λ (w : List ℕ). same w (bytes "claim")) (at-field .field .ensures)) (c .before .before .if1 .left)
+    (c .before .record-of .ensures) (c .of-table .ensures)
 
 pub said-in-spec : {M : Type 1} → statement M
 said-in-spec =
-    tie.close (tie.spec (λ c κs. search needs) (λ c. search needs) (λ c. search needs) (λ c. search needs) (λ c. search needs) (λ c κs. search needs)
-    (λ c. search needs) (λ c. search needs) (λ c. search needs) (λ c. search needs) (λ c κs. search needs) returns (λ c κs. search needs)
-    (λ c κs. search needs) returns-2 returns-3)
+    tie.close
+    (tie.spec
+    field-requires
+    slice-aggregate-is-word
+    is-word-requires
+    claim-in-requires
+    returns
+    record-of-requires
+    of-table-requires
+    returns-2)

@@ -1,17 +1,34 @@
--- A place is left where there are fewer than 4,096 knots: the knot is taken. Otherwise it is dropped, and 3 is told.
+-- The listing after a knot holds what the keeper keeps; whether it found a place decides what is told.
 use native.Mathlib.Omega.{arith}
-use Rattle.compare_lines.proofs.Entering.{knot-taken, knot-dropped}
+use Rattle.compare_lines.proofs.Entering.{knot-held, knot-taken, knot-dropped}
 use borrow.Author.Needs.{needs}
 use Rattle.compare_lines.proofs.add.Statement.{statement}
 use Rattle.compare_lines.proofs.add.Tie as tie
 
+keep-bits-requires : tie.Need-keep-bits-requires
+keep-bits-requires c κs = search needs
+
+same-length : tie.Need-same-length
+same-length c = search needs
+
 returns : tie.Need-returns
-returns c = let a = c .before .args in let k = knot-taken (a .t) (a .n) (a .x) (a .knots .now) (omega arith) (omega arith) in
-    record { held = k .0; told = k .1; few = omega arith }
+returns c = let k = c .before .before .before in let a = k .before .before .before .args in
+    record {
+      held = knot-held (a .t) (a .n) (a .x) (a .knots .now) (k .keep-bits .ensures);
+      told = knot-taken (a .t) (a .n) (a .x) (a .knots .now) (k .keep-bits .ensures) (c .if1 .taken);
+      few = k .keep-bits .ensures .few;
+    }
+
+same-length-2 : tie.Need-same-length-2
+same-length-2 c = search needs
 
 returns-2 : tie.Need-returns-2
-returns-2 c = let a = c .before .args in let k = knot-dropped (a .t) (a .n) (a .x) (a .knots .now) (omega arith) (omega arith) (omega arith) in
-    record { held = k .0; told = k .1; few = omega arith }
+returns-2 c = let k = c .before .before .before in let a = k .before .before .before .args in
+    record {
+      held = knot-held (a .t) (a .n) (a .x) (a .knots .now) (k .keep-bits .ensures);
+      told = knot-dropped (a .t) (a .n) (a .x) (a .knots .now) (k .keep-bits .ensures) (c .if1 .left);
+      few = k .keep-bits .ensures .few;
+    }
 
 pub add-spec : {M : Type 1} → statement M
-add-spec = tie.close (tie.spec (λ c. search needs) (λ c. search needs) (λ c. search needs) (λ c. search needs) returns returns-2)
+add-spec = tie.close (tie.spec keep-bits-requires same-length returns same-length-2 returns-2)

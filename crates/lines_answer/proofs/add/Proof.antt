@@ -1,17 +1,36 @@
--- A place is left where there are fewer than 4,096 knots: the knot is taken. Otherwise it is dropped, and 3 is told.
+-- The curve after a knot holds what the keeper keeps; whether it found a place decides what is told.
 use native.Mathlib.Omega.{arith}
-use Rattle.lines_answer.proofs.Answers.{knot-taken, knot-dropped}
+use Rattle.lines_answer.proofs.Answers.{knot-held, knot-taken, knot-dropped}
 use borrow.Author.Needs.{needs}
 use Rattle.lines_answer.proofs.add.Statement.{statement}
 use Rattle.lines_answer.proofs.add.Tie as tie
 
+keep-requires : tie.Need-keep-requires
+keep-requires c κs = search needs
+
+same-length : tie.Need-same-length
+same-length c = search needs
+
 returns : tie.Need-returns
-returns c = λ l. let a = c .before .args in let k = knot-taken (a .t) (a .m) (a .n) (a .x) (a .table .now) (omega arith) (omega arith) in
-    record { held = k .0; told = k .1; few = omega arith; lent = omega arith }
+returns c = λ l. let k = c .before .before .before in let a = k .before .before .before .args in
+    record {
+      held = knot-held (a .t) (a .m) (a .n) (a .x) (a .table .now) (k .keep .ensures);
+      told = knot-taken (a .t) (a .m) (a .n) (a .x) (a .table .now) (k .keep .ensures) (c .if1 .taken);
+      few = k .keep .ensures .few;
+      lent = omega arith;
+    }
+
+same-length-2 : tie.Need-same-length-2
+same-length-2 c = search needs
 
 returns-2 : tie.Need-returns-2
-returns-2 c = λ l. let a = c .before .args in let k = knot-dropped (a .t) (a .m) (a .n) (a .x) (a .table .now) (omega arith) (omega arith) (omega arith) in
-    record { held = k .0; told = k .1; few = omega arith; lent = omega arith }
+returns-2 c = λ l. let k = c .before .before .before in let a = k .before .before .before .args in
+    record {
+      held = knot-held (a .t) (a .m) (a .n) (a .x) (a .table .now) (k .keep .ensures);
+      told = knot-dropped (a .t) (a .m) (a .n) (a .x) (a .table .now) (k .keep .ensures) (c .if1 .left);
+      few = k .keep .ensures .few;
+      lent = omega arith;
+    }
 
 pub add-spec : {M : Type 1} → statement M
-add-spec = tie.close (tie.spec (λ c. search needs) (λ c. search needs) (λ c. search needs) (λ c. search needs) returns returns-2)
+add-spec = tie.close (tie.spec keep-requires same-length returns same-length-2 returns-2)

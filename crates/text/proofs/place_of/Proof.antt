@@ -4,10 +4,10 @@ use native.Mathlib.Omega.{arith}
 use Prim.Native.Nat.{_≤_, _-_, _+_}
 use mathlib.Core.Path.{_≡_, _∙_}
 use lib.ListN.{length, drop}
-use Rattle.text_decimals.specs.Decimals.{placeOf}
-use Rattle.text_decimals.proofs.Digits.{place-step, place-stop, place-done}
-use Rattle.text_decimals.proofs.place_of.Statement.{statement}
-use Rattle.text_decimals.proofs.place_of.Tie as tie
+use Rattle.text.specs.Text.{placeOf}
+use Rattle.text.proofs.Words.{place-step, place-stop, place-done}
+use Rattle.text.proofs.place_of.Statement.{statement}
+use Rattle.text.proofs.place_of.Tie as tie
 
 abbrev Inv-loop : tie.InvT-loop
 Inv-loop s b i₀ i = (i ≤ length s) × (i + placeOf b (drop i s) ≡ placeOf b s)

@@ -1,0 +1,27 @@
+-- A place is left, or none.
+use native.Mathlib.Omega.{arith}
+use borrow.Author.Needs.{needs}
+use Rattle.keeper.proofs.Keeping.{one-more, no-place}
+use Rattle.keeper.proofs.keep.Statement.{statement}
+use Rattle.keeper.proofs.keep.Tie as tie
+
+mul-table : tie.Need-mul-table
+mul-table c = search needs
+
+slice-write-table : tie.Need-slice-write-table
+slice-write-table c = search needs
+
+add-next : tie.Need-add-next
+add-next c = search needs
+
+same-length : tie.Need-same-length
+same-length c = search needs
+
+returns : tie.Need-returns
+returns c = let a = c .before .args in one-more (a .x) (a .n) (a .table .now) (omega arith) (omega arith)
+
+returns-2 : tie.Need-returns-2
+returns-2 c = let a = c .before .args in no-place (a .x) (a .n) (a .table .now) (omega arith) (omega arith) (omega arith)
+
+pub keep-spec : {M : Type 1} → statement M
+keep-spec = tie.close (tie.spec mul-table slice-write-table add-next same-length returns returns-2)
