@@ -1,5 +1,5 @@
 -- Each way in which a depth line is at fault; else a row more.
-use mathlib.Core.Path.{refl, sym, ap, _∙_}
+use mathlib.Core.Path.{sym, ap, _∙_}
 use Rattle.sheet.proofs.Lines.{depth-small}
 use Rattle.ask_sheet.specs.Contract.{labelsTo}
 use Rattle.ask_sheet.proofs.Lines.{no-label, long-label, no-depth, too-large, too-many, one-more, whole-held}
@@ -9,12 +9,6 @@ use borrow.Author.Needs.{needs}
 use Rattle.ask_sheet.proofs.add.Statement.{statement}
 use Rattle.ask_sheet.proofs.add.Tie as tie
 
-place-of-requires : tie.Need-place-of-requires
-place-of-requires c κs = search needs
-
-add-t11 : tie.Need-add-t11
-add-t11 c = search needs
-
 returns : tie.Need-returns
 returns c =
     let start = c .before .before .before .before in (
@@ -22,9 +16,6 @@ returns c =
           (start .args .n)) (start .args .l .now) (c .before .place-of .result) (c .before .place-of .ensures .0) (omega arith),
       omega arith,
     )
-
-add-t13 : tie.Need-add-t13
-add-t13 c = search needs
 
 returns-2 : tie.Need-returns-2
 returns-2 c =
@@ -35,34 +26,15 @@ returns-2 c =
       omega arith,
     )
 
-depth-line-requires : tie.Need-depth-line-requires
-depth-line-requires c κs = search needs
-
-enum-known-minus : tie.Need-enum-known-minus
-enum-known-minus c = search needs
-
-enum-told : tie.Need-enum-told
-enum-told c = search needs
-
-add-t16 : tie.Need-add-t16
-add-t16 c = search needs
-
 returns-3 : tie.Need-returns-3
 returns-3 c =
-    let at-depth-line = c .before .before in
-    let at-place-of = at-depth-line .before .before .before in
+    let at-place-of = c .before .before .before .before .before in
     let start = at-place-of .before .before .before in (
-      no-depth (start .args .k) (start .args .n) (start .args .rows .now) (start .pre .0) (start .pre .1 .0) (labelsTo (start .args .labels .now)
-          (start .args .n)) (start .args .l .now) (at-place-of .place-of .result) (at-place-of .place-of .ensures .0) (omega arith) (omega arith)
-          (at-depth-line .depth-line .ensures) (c .enum-told .given .1),
+      no-depth (start .args .k) (start .args .n) (start .args .rows .now) (start .pre .0) (start .pre .1 .0)
+          (labelsTo (start .args .labels .now) (start .args .n)) (start .args .l .now) (at-place-of .place-of .result)
+          (at-place-of .place-of .ensures .0) (omega arith) (omega arith) (c .before .before .depth-line .ensures) (c .enum-told .given .1),
       omega arith,
     )
-
-most-in-requires : tie.Need-most-in-requires
-most-in-requires c κs = search needs
-
-add-t19 : tie.Need-add-t19
-add-t19 c = search needs
 
 returns-4 : tie.Need-returns-4
 returns-4 c =
@@ -76,38 +48,11 @@ returns-4 c =
       omega arith,
     )
 
-sub-keep : tie.Need-sub-keep
-sub-keep c = search needs
-
-part-keep-start : tie.Need-part-keep-start
-part-keep-start c = search needs
-
-part-keep-end : tie.Need-part-keep-end
-part-keep-end c = search needs
-
-keep-requires : tie.Need-keep-requires
-keep-requires c κs = search needs
-
 whole-of-requires : tie.Need-whole-of-requires
 whole-of-requires c κs =
     let at-minus = c .before .before .before .before .before .before .before .before .before in
     let at-depth-line = at-minus .before .before in
     omega (arith, depth-small _ _ _ (sym (at-depth-line .depth-line .ensures) ∙ at-minus .minus .given .1))
-
-mul-t25 : tie.Need-mul-t25
-mul-t25 c = search needs
-
-slice-set-from-rows : tie.Need-slice-set-from-rows
-slice-set-from-rows c = search needs
-
-add-next : tie.Need-add-next
-add-next c = search needs
-
-same-length : tie.Need-same-length
-same-length c = search needs
-
-same-length-2 : tie.Need-same-length-2
-same-length-2 c = search needs
 
 returns-5 : tie.Need-returns-5
 returns-5 c =
@@ -121,71 +66,33 @@ returns-5 c =
     let at-if1 = at-if2 .before in
     let at-place-of = at-if1 .before in
     let start = at-place-of .before .before .before in (
-      one-more (start .args .k) (start .args .n) (start .args .rows .now) (start .pre .0) (start .pre .1 .0) (labelsTo (start .args .labels .now)
-          (start .args .n)) (start .args .l .now) (at-place-of .place-of .result) (at-place-of .place-of .ensures .0)
-          (omega (arith, at-if1 .if1 .left)) (omega (
-            arith,
-            at-if2 .if2 .left,
-          )) _ _ (at-depth-line .depth-line .ensures) (at-minus .minus .given .1) (omega (
-            arith,
-            at-most-in .most-in .ensures,
-            at-if3 .if3 .left,
-          )) (omega (arith, depth-small _ _ _ (sym (at-depth-line .depth-line .ensures) ∙ at-minus .minus .given .1))) (omega (
-            arith,
-            at-if4 .if4 .taken,
-          )) (ap held (c .whole-of .ensures) ∙ whole-held (at-minus .minus .given .0 .0) (at-minus .minus .given .0 .1 .0) (omega (
-            arith,
-            depth-small _ _ _ (sym (at-depth-line .depth-line .ensures) ∙ at-minus .minus .given .1),
-          ))) (at-keep .keep .ensures .0),
-      omega (
-        arith,
-        at-if4 .if4 .taken,
-      ),
+      one-more (start .args .k) (start .args .n) (start .args .rows .now) (start .pre .0) (start .pre .1 .0)
+          (labelsTo (start .args .labels .now) (start .args .n)) (start .args .l .now) (at-place-of .place-of .result)
+          (at-place-of .place-of .ensures .0) (omega (arith, at-if1 .if1 .left)) (omega (arith, at-if2 .if2 .left)) _ _
+          (at-depth-line .depth-line .ensures) (at-minus .minus .given .1) (omega (arith, at-most-in .most-in .ensures, at-if3 .if3 .left))
+          (omega (arith, depth-small _ _ _ (sym (at-depth-line .depth-line .ensures) ∙ at-minus .minus .given .1)))
+          (omega (arith, at-if4 .if4 .taken)) (ap held (c .whole-of .ensures) ∙ whole-held (at-minus .minus .given .0 .0)
+          (at-minus .minus .given .0 .1 .0) (omega (arith, depth-small _ _ _ (sym (at-depth-line .depth-line .ensures) ∙ at-minus .minus .given .1))))
+          (at-keep .keep .ensures .0),
+      omega (arith, at-if4 .if4 .taken),
     )
-
-add-t30 : tie.Need-add-t30
-add-t30 c = search needs
 
 returns-6 : tie.Need-returns-6
 returns-6 c =
-    let at-most-in = c .before .before in
-    let at-minus = at-most-in .before .before in
+    let at-minus = c .before .before .before .before in
     let at-depth-line = at-minus .before .before in
     let at-place-of = at-depth-line .before .before .before in
     let start = at-place-of .before .before .before in (
-      too-many (start .args .k) (start .args .n) (start .args .rows .now) (start .pre .0) (start .pre .1 .0) (labelsTo (start .args .labels .now)
-          (start .args .n)) (start .args .l .now) (at-place-of .place-of .result) (at-place-of .place-of .ensures .0) (omega arith) (omega arith) _ _
-          (at-depth-line .depth-line .ensures) (at-minus .minus .given .1) (omega (arith, at-most-in .most-in .ensures)) (omega arith),
+      too-many (start .args .k) (start .args .n) (start .args .rows .now) (start .pre .0) (start .pre .1 .0)
+          (labelsTo (start .args .labels .now) (start .args .n)) (start .args .l .now) (at-place-of .place-of .result)
+          (at-place-of .place-of .ensures .0) (omega arith) (omega arith) _ _ (at-depth-line .depth-line .ensures) (at-minus .minus .given .1)
+          (omega (arith, c .before .before .most-in .ensures)) (omega arith),
       omega arith,
     )
 
 pub add-spec : {M : Type 1} → statement M
 add-spec =
-    tie.close
-    (tie.spec
-    place-of-requires
-    add-t11
-    returns
-    add-t13
-    returns-2
-    depth-line-requires
-    enum-known-minus
-    enum-told
-    add-t16
-    returns-3
-    most-in-requires
-    add-t19
-    returns-4
-    sub-keep
-    part-keep-start
-    part-keep-end
-    keep-requires
-    whole-of-requires
-    mul-t25
-    slice-set-from-rows
-    add-next
-    same-length
-    same-length-2
-    returns-5
-    add-t30
-    returns-6)
+    tie.close (tie.spec (λ c κs. search needs) (λ c. search needs) returns (λ c. search needs) returns-2 (λ c κs. search needs) (λ c. search needs)
+    (λ c. search needs) (λ c. search needs) returns-3 (λ c κs. search needs) (λ c. search needs) returns-4 (λ c. search needs) (λ c. search needs)
+    (λ c. search needs) (λ c κs. search needs) whole-of-requires (λ c. search needs) (λ c. search needs) (λ c. search needs) (λ c. search needs)
+    (λ c. search needs) returns-5 (λ c. search needs) returns-6)

@@ -6,9 +6,6 @@ use borrow.Author.Needs.{needs}
 use Rattle.claims.proofs.claim_in.Statement.{statement}
 use Rattle.claims.proofs.claim_in.Tie as tie
 
-fields-in-requires : tie.Need-fields-in-requires
-fields-in-requires c κs = search needs
-
 returns : tie.Need-returns
 returns c = sym (no-claim (c .before .before .before .args .line .now) (rw (c .before .fields-in .ensures) at (c .if1 .taken)))
 
@@ -24,9 +21,6 @@ field-requires-3 c κs = omega arith
 field-requires-4 : tie.Need-field-requires-4
 field-requires-4 c κs = omega arith
 
-claim-with-requires : tie.Need-claim-with-requires
-claim-with-requires c κs = search needs
-
 returns-2 : tie.Need-returns-2
 returns-2 c =
     let at-target = c .before .before .before .before in
@@ -38,12 +32,4 @@ returns-2 c =
 pub claim-in-spec : {M : Type 1} → statement M
 claim-in-spec =
     tie.close
-    (tie.spec
-    fields-in-requires
-    returns
-    field-requires
-    field-requires-2
-    field-requires-3
-    field-requires-4
-    claim-with-requires
-    returns-2)
+    (tie.spec (λ c κs. search needs) returns field-requires field-requires-2 field-requires-3 field-requires-4 (λ c κs. search needs) returns-2)

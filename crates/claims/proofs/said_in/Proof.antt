@@ -13,27 +13,12 @@ use Rattle.claims.proofs.said_in.Tie as tie
 field-requires : tie.Need-field-requires
 field-requires c κs = omega (arith, some (c .before .args .line .now))
 
-slice-aggregate-is-word : tie.Need-slice-aggregate-is-word
-slice-aggregate-is-word c = search needs
-
-is-word-requires : tie.Need-is-word-requires
-is-word-requires c κs = search needs
-
-claim-in-requires : tie.Need-claim-in-requires
-claim-in-requires c κs = search needs
-
 returns : tie.Need-returns
 returns c =
     let at-is-word = c .before .before in
     let at-field = at-is-word .before .before in
     with-word (at-field .before .before .args .line .now)
     (at-is-word .is-word .ensures ∙ ap (λ (w : List ℕ). same w (bytes "claim")) (at-field .field .ensures)) (c .before .if1 .taken) (c .claim-in .ensures)
-
-record-of-requires : tie.Need-record-of-requires
-record-of-requires c κs = search needs
-
-of-table-requires : tie.Need-of-table-requires
-of-table-requires c κs = search needs
 
 returns-2 : tie.Need-returns-2
 returns-2 c =
@@ -45,13 +30,5 @@ returns-2 c =
 
 pub said-in-spec : {M : Type 1} → statement M
 said-in-spec =
-    tie.close
-    (tie.spec
-    field-requires
-    slice-aggregate-is-word
-    is-word-requires
-    claim-in-requires
-    returns
-    record-of-requires
-    of-table-requires
-    returns-2)
+    tie.close (tie.spec field-requires (λ c. search needs) (λ c κs. search needs) (λ c κs. search needs) returns (λ c κs. search needs)
+    (λ c κs. search needs) returns-2)

@@ -1,15 +1,8 @@
 -- The listing after a knot holds what the keeper keeps; whether it found a place decides what is told.
-use native.Mathlib.Omega.{arith}
 use Rattle.compare_lines.proofs.Entering.{knot-held, knot-taken, knot-dropped}
 use borrow.Author.Needs.{needs}
 use Rattle.compare_lines.proofs.add.Statement.{statement}
 use Rattle.compare_lines.proofs.add.Tie as tie
-
-keep-bits-requires : tie.Need-keep-bits-requires
-keep-bits-requires c κs = search needs
-
-same-length : tie.Need-same-length
-same-length c = search needs
 
 returns : tie.Need-returns
 returns c = let k = c .before .before .before in let a = k .before .before .before .args in
@@ -18,9 +11,6 @@ returns c = let k = c .before .before .before in let a = k .before .before .befo
       told = knot-taken (a .t) (a .n) (a .x) (a .knots .now) (k .keep-bits .ensures) (c .if1 .taken);
       few = k .keep-bits .ensures .few;
     }
-
-same-length-2 : tie.Need-same-length-2
-same-length-2 c = search needs
 
 returns-2 : tie.Need-returns-2
 returns-2 c = let k = c .before .before .before in let a = k .before .before .before .args in
@@ -31,4 +21,4 @@ returns-2 c = let k = c .before .before .before in let a = k .before .before .be
     }
 
 pub add-spec : {M : Type 1} → statement M
-add-spec = tie.close (tie.spec keep-bits-requires same-length returns same-length-2 returns-2)
+add-spec = tie.close (tie.spec (λ c κs. search needs) (λ c. search needs) returns (λ c. search needs) returns-2)

@@ -6,33 +6,22 @@ use borrow.Author.Needs.{needs}
 use Rattle.compare_lines.proofs.said_of.Statement.{statement}
 use Rattle.compare_lines.proofs.said_of.Tie as tie
 
-fields-in-requires : tie.Need-fields-in-requires
-fields-in-requires c κs = search needs
-
 field-requires : tie.Need-field-requires
 field-requires c κs = omega arith
-
-slice-aggregate-is-word : tie.Need-slice-aggregate-is-word
-slice-aggregate-is-word c = search needs
-
-is-word-requires : tie.Need-is-word-requires
-is-word-requires c κs = search needs
 
 returns : tie.Need-returns
 returns c =
     let at-field = c .before .before .before in
     let at-if1 = at-field .before in
     sym (one-field (at-if1 .before .before .before .args .line .now) (sym (at-if1 .before .fields-in .ensures) ∙ at-if1 .if1 .taken)
-    (at-field .field .ensures) (c .before .is-word .ensures)
-    ∙ rw (c .if2 .taken))
+    (at-field .field .ensures) (c .before .is-word .ensures) ∙ rw (c .if2 .taken))
 
 returns-2 : tie.Need-returns-2
 returns-2 c =
     let at-field = c .before .before .before in
     let at-if1 = at-field .before in
     sym (one-field (at-if1 .before .before .before .args .line .now) (sym (at-if1 .before .fields-in .ensures) ∙ at-if1 .if1 .taken)
-    (at-field .field .ensures) (c .before .is-word .ensures)
-    ∙ rw (c .if2 .left))
+    (at-field .field .ensures) (c .before .is-word .ensures) ∙ rw (c .if2 .left))
 
 returns-3 : tie.Need-returns-3
 returns-3 c =
@@ -45,29 +34,15 @@ field-requires-2 c κs = omega arith
 field-requires-3 : tie.Need-field-requires-3
 field-requires-3 c κs = omega arith
 
-meaning-requires : tie.Need-meaning-requires
-meaning-requires c κs = search needs
-
 returns-4 : tie.Need-returns-4
 returns-4 c =
     let at-if3 = c .before .before .before in
     let at-fields-in = at-if3 .before .before in
-    c .meaning .ensures
-    ∙ rw (c .before .before .field2 .ensures, c .before .field3 .ensures)
-    (two-fields (at-fields-in .before .before .args .line .now) (sym (at-fields-in .fields-in .ensures) ∙ at-if3 .if3 .left))
+    let start = at-fields-in .before .before in
+    c .meaning .ensures ∙ rw (c .before .before .field2 .ensures, c .before .field3 .ensures)
+    (two-fields (start .args .line .now) (sym (at-fields-in .fields-in .ensures) ∙ at-if3 .if3 .left))
 
 pub said-of-spec : {M : Type 1} → statement M
 said-of-spec =
-    tie.close
-    (tie.spec
-    fields-in-requires
-    field-requires
-    slice-aggregate-is-word
-    is-word-requires
-    returns
-    returns-2
-    returns-3
-    field-requires-2
-    field-requires-3
-    meaning-requires
-    returns-4)
+    tie.close (tie.spec (λ c κs. search needs) field-requires (λ c. search needs) (λ c κs. search needs) returns returns-2 returns-3 field-requires-2
+    field-requires-3 (λ c κs. search needs) returns-4)

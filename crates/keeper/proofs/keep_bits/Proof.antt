@@ -5,18 +5,6 @@ use Rattle.keeper.proofs.Keeping.{one-more, no-place}
 use Rattle.keeper.proofs.keep_bits.Statement.{statement}
 use Rattle.keeper.proofs.keep_bits.Tie as tie
 
-mul-bits : tie.Need-mul-bits
-mul-bits c = search needs
-
-slice-write-bits : tie.Need-slice-write-bits
-slice-write-bits c = search needs
-
-add-next : tie.Need-add-next
-add-next c = search needs
-
-same-length : tie.Need-same-length
-same-length c = search needs
-
 returns : tie.Need-returns
 returns c = let a = c .before .args in one-more (a .x) (a .n) (a .bits .now) (omega arith) (omega arith)
 
@@ -24,4 +12,4 @@ returns-2 : tie.Need-returns-2
 returns-2 c = let a = c .before .args in no-place (a .x) (a .n) (a .bits .now) (omega arith) (omega arith) (omega arith)
 
 pub keep-bits-spec : {M : Type 1} → statement M
-keep-bits-spec = tie.close (tie.spec mul-bits slice-write-bits add-next same-length returns returns-2)
+keep-bits-spec = tie.close (tie.spec (λ c. search needs) (λ c. search needs) (λ c. search needs) (λ c. search needs) returns returns-2)

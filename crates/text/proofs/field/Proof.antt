@@ -20,18 +20,6 @@ abbrev μ-loop : tie.MeasureT-loop
 loop-holds : tie.Need-loop-holds Inv-loop μ-loop
 loop-holds c = (omega arith, omega arith, refl)
 
-sub-place-of : tie.Need-sub-place-of Inv-loop μ-loop
-sub-place-of c = search needs
-
-part-place-of-start : tie.Need-part-place-of-start Inv-loop μ-loop
-part-place-of-start c = search needs
-
-part-place-of-end : tie.Need-part-place-of-end Inv-loop μ-loop
-part-place-of-end c = search needs
-
-place-of-requires : tie.Need-place-of-requires Inv-loop μ-loop
-place-of-requires c κs = search needs
-
 add-from : tie.Need-add-from Inv-loop μ-loop
 add-from c =
     let l = c .before .before .before in
@@ -46,12 +34,6 @@ add-from-2 c =
     let e = c .place-of .ensures .0 in
     omega (arith, next-inside (start .args .s .now) _ _ (l .loop .inv .0) e (l .loop .left) (omega arith) (l .loop .inv .1), start .good)
 
-sub-left : tie.Need-sub-left Inv-loop μ-loop
-sub-left c = search needs
-
-loop-less : tie.Need-loop-less Inv-loop μ-loop
-loop-less c = search needs
-
 loop-again : tie.Need-loop-again Inv-loop μ-loop
 loop-again c =
     let l = c .before .before .before in
@@ -62,29 +44,11 @@ loop-again c =
       l .loop .inv .2 ∙ next-field s _ _ (l .loop .inv .0) e (l .loop .left) (omega arith) (l .loop .inv .1),
     )
 
-sub-place-of-2 : tie.Need-sub-place-of-2 Inv-loop μ-loop
-sub-place-of-2 c = search needs
-
-part-place-of-start-2 : tie.Need-part-place-of-start-2 Inv-loop μ-loop
-part-place-of-start-2 c = search needs
-
-part-place-of-end-2 : tie.Need-part-place-of-end-2 Inv-loop μ-loop
-part-place-of-end-2 c = search needs
-
-place-of-requires-2 : tie.Need-place-of-requires-2 Inv-loop μ-loop
-place-of-requires-2 c κs = search needs
-
 add-to : tie.Need-add-to Inv-loop μ-loop
 add-to c =
     let l = c .before .before .before in
     let start = l .before .before in
     omega (arith, first-inside (start .args .s .now) _ _ (l .loop .inv .0) (c .place-of2 .ensures .1), start .good)
-
-sub-result : tie.Need-sub-result Inv-loop μ-loop
-sub-result c = search needs
-
-part-result-start : tie.Need-part-result-start Inv-loop μ-loop
-part-result-start c = search needs
 
 part-result-end : tie.Need-part-result-end Inv-loop μ-loop
 part-result-end c =
@@ -101,26 +65,6 @@ returns c =
 
 pub field-spec : {M : Type 1} → statement M
 field-spec =
-    tie.close
-    (tie.spec
-    Inv-loop
-    μ-loop
-    loop-holds
-    sub-place-of
-    part-place-of-start
-    part-place-of-end
-    place-of-requires
-    add-from
-    add-from-2
-    sub-left
-    loop-less
-    loop-again
-    sub-place-of-2
-    part-place-of-start-2
-    part-place-of-end-2
-    place-of-requires-2
-    add-to
-    sub-result
-    part-result-start
-    part-result-end
-    returns)
+    tie.close (tie.spec Inv-loop μ-loop loop-holds (λ c. search needs) (λ c. search needs) (λ c. search needs) (λ c κs. search needs) add-from
+    add-from-2 (λ c. search needs) (λ c. search needs) loop-again (λ c. search needs) (λ c. search needs) (λ c. search needs) (λ c κs. search needs)
+    add-to (λ c. search needs) (λ c. search needs) part-result-end returns)

@@ -19,40 +19,16 @@ abbrev μ-loop : tie.MeasureT-loop
 loop-holds : tie.Need-loop-holds Inv-loop μ-loop
 loop-holds c = (omega arith, omega arith, omega arith)
 
-shared-slice-read-if1 : tie.Need-shared-slice-read-if1 Inv-loop μ-loop
-shared-slice-read-if1 c = search needs
-
-add-n : tie.Need-add-n Inv-loop μ-loop
-add-n c = search needs
-
-add-i : tie.Need-add-i Inv-loop μ-loop
-add-i c = search needs
-
-loop-less : tie.Need-loop-less Inv-loop μ-loop
-loop-less c = search needs
-
 loop-again : tie.Need-loop-again Inv-loop μ-loop
 loop-again c =
     let l = c .before .before .before in
     let s = l .before .args .s .now in
-    ⊎-elim
-    (λ w. (omega arith, omega (arith, w .1), omega (arith, w .1, tab-counts s (l .loop .i) (omega arith) (w .0 .taken))))
-    (λ w. (omega arith, omega (arith, w .1), omega (arith, w .1, other-counts s (l .loop .i) (omega arith) (w .0 .left))))
-    (c .if1 .came)
+    ⊎-elim (λ w. (omega arith, omega (arith, w .1), omega (arith, w .1, tab-counts s (l .loop .i) (omega arith) (w .0 .taken))))
+    (λ w. (omega arith, omega (arith, w .1), omega (arith, w .1, other-counts s (l .loop .i) (omega arith) (w .0 .left)))) (c .if1 .came)
 
 returns : tie.Need-returns Inv-loop μ-loop
 returns c = omega (arith, end-counts (c .before .before .args .s .now) (c .before .loop .i) (omega arith) (omega arith))
 
 pub fields-in-spec : {M : Type 1} → statement M
 fields-in-spec =
-    tie.close
-    (tie.spec
-    Inv-loop
-    μ-loop
-    loop-holds
-    shared-slice-read-if1
-    add-n
-    add-i
-    loop-less
-    loop-again
-    returns)
+    tie.close (tie.spec Inv-loop μ-loop loop-holds (λ c. search needs) (λ c. search needs) (λ c. search needs) (λ c. search needs) loop-again returns)
