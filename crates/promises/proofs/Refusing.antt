@@ -13,7 +13,7 @@ use Rattle.error.specs.declared.Verdict.the-variants.{Passed, Failed}
 use Rattle.error.specs.Refusals.{Uses, rows, first}
 use Rattle.error.proofs.First.{never, First, first-sound, first-complete}
 use Rattle.error.proofs.number.Reads as number
-use Rattle.error.proofs.where_told.Reads as where_told
+use Rattle.error.proofs.where_told.Reads as where-told
 use Rattle.error.proofs.place.Reads as place
 use Rattle.error.proofs.reply.Reads as reply
 use Rattle.basis.specs.declared.Basis.{Basis}
@@ -53,7 +53,7 @@ use Rattle.calls.specs.Calls.{AsksNothing, Keeps, Exactly}
 pub number-asks-nothing : AsksNothing number.Asked
 number-asks-nothing κs a = tt
 
-pub where-told-asks-nothing : AsksNothing where_told.Asked
+pub where-told-asks-nothing : AsksNothing where-told.Asked
 where-told-asks-nothing κs a = tt
 
 pub place-asks-nothing : AsksNothing place.Asked
