@@ -8,8 +8,8 @@ use native.Mathlib.Nat.{min-eq-left}
 use native.Mathlib.Omega.{arith}
 use lib.Dec.{T, lit≤, lit<}
 use lib.ListN.{length, take, drop}
-use lib.IntN.{pos, negsuc}
-use lib.Ieee.{Float, fin, binary64, add, sub, mul, neg, le, lt, isNan, ofInt}
+use lib.IntN.{pos}
+use lib.Ieee.{Float, fin, binary64, add, sub, neg, le, lt, isNan, ofInt}
 use Rattle.basis.specs.declared.Basis.{Basis}
 use Rattle.basis.specs.Basis.{stepOf, segmentsOf, matrixOf}
 use Rattle.doubles.specs.Numbers.{nought}

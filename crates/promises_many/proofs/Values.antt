@@ -10,9 +10,8 @@ use lib.ListN.{length, getD}
 use lib.Ieee.{Float, nan, isNan}
 use Rattle.spline.specs.Evaluation.{splineOf}
 use Rattle.spline.specs.declared.Evaluation.the-variants.{Value}
-use Rattle.many.specs.Many.{firstNan, manyOf}
 use Rattle.many.specs.declared.ManyAnswer.the-variants.{Written, NotANumberAt}
-use Rattle.many.proofs.Each.{leaves, each-value, beyond-stays, refused-stays, tells-first}
+use Rattle.many.proofs.Each.{each-value, beyond-stays, refused-stays, tells-first}
 use Rattle.many.proofs.spline_many.Reads as spline_many
 use Rattle.calls.specs.Calls.{AsksNothing, Keeps, OneReply}
 
