@@ -38,18 +38,18 @@ knotsText b ks e (suc j) = knotsText b ks e j ++ knotText b (length ks) e j (get
 
 -- ---- the whole: the knots ks, and the targets l asked of them
 
-unfoldable pub curveText : EndsBy → Basis → List Float → List Float → List ℕ
-curveText m b ks l =
+unfoldable pub curveText : ℕ → EndsBy → Basis → List Float → List Float → List ℕ
+curveText span m b ks l =
     let n = length ks in let e = extentOf b ks in
     depthAxis e
     ++ bytes "<polyline class=\"c\" points=\"" ++ pointsText b ks e (piecesOf b n) (piecesOf b n + 1)
     ++ bytes "\"/>\n<path class=\"k\" d=\"" ++ knotsText b ks e n ++ bytes "\"/>\n"
-    ++ findsText m b ks e l (length l)
+    ++ findsText span m b ks e l (length l)
 
 -- the curve, unless the table is refused
-abbrev pub bodyIn : EndsBy → Basis → List Float → List Float → Evaluation → List ℕ
-bodyIn m b ks l (E.Value v) = curveText m b ks l
-bodyIn m b ks l (E.Refused r) = noteText b (length ks) 0 (bytes "table") r
+abbrev pub bodyIn : ℕ → EndsBy → Basis → List Float → List Float → Evaluation → List ℕ
+bodyIn span m b ks l (E.Value v) = curveText span m b ks l
+bodyIn span m b ks l (E.Refused r) = noteText b (length ks) 0 (bytes "table") r
 
 unfoldable pub headText : List ℕ
 headText =
@@ -58,10 +58,10 @@ headText =
     ++ bytes
     ".g{opacity:.3}.e{text-anchor:end}.s{font-size:70px}.t{text-anchor:middle}.c{stroke:#3b82d6;stroke-width:25}.f{stroke:#2e9e5b;stroke-width:20}"
     ++ bytes
-    ".k{stroke:#d9730d;stroke-width:100;stroke-linecap:round}.p{stroke:#2e9e5b;stroke-width:120;stroke-linecap:round}.r{stroke:#e5484d;stroke-dasharray:60 40}text.r{fill:#e5484d;stroke:none}</style>\n"
+    ".k{stroke:#d9730d;stroke-width:100;stroke-linecap:round}.p{stroke:#2e9e5b;stroke-width:120;stroke-linecap:round}.r{stroke:#e5484d;stroke-dasharray:60 40}text.f{fill:#2e9e5b;stroke:none}text.r{fill:#e5484d;stroke:none}</style>\n"
     ++ bytes "<path d=\"M1000,400V6400H9600\"/><text x=\"1000\" y=\"300\">depth</text><text class=\"e\" x=\"9600\" y=\"6850\">"
 
 unfoldable pub pictureText : Table → EndsBy → List Float → List Float → Fault → List ℕ
 pictureText t m ks l fault =
     headText ++ timeName (t .span) ++ timeAxis (t .span)
-    ++ bodyIn m (t .basis) ks l (splineOf (t .basis) nought ks) ++ faultText (t .basis) (length ks) fault ++ bytes "</svg>\n"
+    ++ bodyIn (t .span) m (t .basis) ks l (splineOf (t .basis) nought ks) ++ faultText (t .basis) (length ks) fault ++ bytes "</svg>\n"

@@ -69,10 +69,18 @@ fn put_knots(out: &mut [u8], at: usize, b: Basis, knots: &[f64], e: Extent) -> u
 }
 
 // What is drawn of a table that is not refused: the depth axis, the curve, the knots above it, and the finds.
-fn put_curve(out: &mut [u8], at: usize, m: EndsBy, b: Basis, knots: &[f64], f: Finds) -> usize
+fn put_curve(
+    out: &mut [u8],
+    at: usize,
+    span: u32,
+    m: EndsBy,
+    b: Basis,
+    knots: &[f64],
+    f: Finds,
+) -> usize
     requires most { ⌜ length (now knots) ≤ mostKnots ⌝ }
     requires room { ⌜ at + 75000 ≤ length (now out) ⌝ }
-    ensures text { λ r. ⌜ Wrote (now (out .entry)) at (curveText m b (now (knots .entry)) (targetsOf f)) (now (out .exit)) r ⌝ }
+    ensures text { λ r. ⌜ Wrote (now (out .entry)) at (curveText span m b (now (knots .entry)) (targetsOf f)) (now (out .exit)) r ⌝ }
     ensures short { λ r. ⌜ r ≤ at + 75000 ⌝ }
 {
     let e = picture_scale::extent_of(b, knots);
@@ -89,13 +97,14 @@ fn put_curve(out: &mut [u8], at: usize, m: EndsBy, b: Basis, knots: &[f64], f: F
     let g = text::put_word(&mut *out, d, b"\"/>\n<path class=\"k\" d=\"");
     let h = put_knots(&mut *out, g, b, knots, e);
     let i = text::put_word(&mut *out, h, b"\"/>\n");
-    picture_finds::put_finds(out, i, m, b, knots, e, f)
+    picture_finds::put_finds(out, i, span, m, b, knots, e, f)
 }
 
 // The curve; or, where it cannot be evaluated, a note that says why.
 fn put_body(
     out: &mut [u8],
     at: usize,
+    span: u32,
     m: EndsBy,
     b: Basis,
     knots: &[f64],
@@ -104,11 +113,11 @@ fn put_body(
 ) -> usize
     requires most { ⌜ length (now knots) ≤ mostKnots ⌝ }
     requires room { ⌜ at + 75000 ≤ length (now out) ⌝ }
-    ensures text { λ r. ⌜ Wrote (now (out .entry)) at (bodyIn m b (now (knots .entry)) (targetsOf f) v) (now (out .exit)) r ⌝ }
+    ensures text { λ r. ⌜ Wrote (now (out .entry)) at (bodyIn span m b (now (knots .entry)) (targetsOf f) v) (now (out .exit)) r ⌝ }
     ensures short { λ r. ⌜ r ≤ at + 75000 ⌝ }
 {
     match v {
-        Evaluation::Value(_) => put_curve(out, at, m, b, knots, f),
+        Evaluation::Value(_) => put_curve(out, at, span, m, b, knots, f),
         Evaluation::Refused(r) => picture_notes::put_note(
             out,
             at,
@@ -145,7 +154,7 @@ fn put_head(out: &mut [u8], at: usize) -> usize
     let d = text::put_word(
         &mut *out,
         c,
-        b".k{stroke:#d9730d;stroke-width:100;stroke-linecap:round}.p{stroke:#2e9e5b;stroke-width:120;stroke-linecap:round}.r{stroke:#e5484d;stroke-dasharray:60 40}text.r{fill:#e5484d;stroke:none}</style>\n",
+        b".k{stroke:#d9730d;stroke-width:100;stroke-linecap:round}.p{stroke:#2e9e5b;stroke-width:120;stroke-linecap:round}.r{stroke:#e5484d;stroke-dasharray:60 40}text.f{fill:#2e9e5b;stroke:none}text.r{fill:#e5484d;stroke:none}</style>\n",
     );
     text::put_word(
         out,
@@ -174,7 +183,16 @@ pub fn put_picture(
     let a = put_head(&mut *out, at);
     let c = picture_axes::put_time_name(&mut *out, a, span);
     let d = picture_axes::put_time_axis(&mut *out, c, span);
-    let e = put_body(&mut *out, d, m, b, knots, f, spline::spline(b, 0.0, knots));
+    let e = put_body(
+        &mut *out,
+        d,
+        span,
+        m,
+        b,
+        knots,
+        f,
+        spline::spline(b, 0.0, knots),
+    );
     let g = picture_notes::put_fault(&mut *out, e, b, knots.len() as u64, fault);
     text::put_word(out, g, b"</svg>\n")
 }

@@ -50,12 +50,12 @@ module _ (l : List Float) (h : length l ≡ 8) where
       rw (e₁, seven) (ap (λ (r : List Float). y ∷ r) (take-min (min 7 n) 7 l ∙ ap (λ (i : ℕ). take i l) e₂ ∙ sym (take-min 7 n l)))
 
 -- ---- the loop
-pub no-finds : (m : EndsBy) (b : Basis) (ks : List Float) (e : Extent) (l : List Float) {o : List ℕ} {at : ℕ} → Wrote o at (findsText m b ks e l 0) o at
+pub no-finds : (span : ℕ) (m : EndsBy) (b : Basis) (ks : List Float) (e : Extent) (l : List Float) {o : List ℕ} {at : ℕ} → Wrote o at (findsText span m b ks e l 0) o at
 unfolding findsText
-no-finds m b ks e l {o} {at} = nothing o at
+no-finds span m b ks e l {o} {at} = nothing o at
 
-module _ (m : EndsBy) (b : Basis) (ks : List Float) (e : Extent) (l : List Float) (n : ℕ) {o o₁ o₂ : List ℕ} {at r₁ r₂ : ℕ} where
-  pub finds-go-on : (i : ℕ) → i < n → Wrote o at (findsText m b ks e (take n l) i) o₁ r₁
-      → Wrote o₁ r₁ (findText m b ks e (i + 2) (getD l i nan)) o₂ r₂ → Wrote o at (findsText m b ks e (take n l) (i + 1)) o₂ r₂
+module _ (span : ℕ) (m : EndsBy) (b : Basis) (ks : List Float) (e : Extent) (l : List Float) (n : ℕ) {o o₁ o₂ : List ℕ} {at r₁ r₂ : ℕ} where
+  pub finds-go-on : (i : ℕ) → i < n → Wrote o at (findsText span m b ks e (take n l) i) o₁ r₁
+      → Wrote o₁ r₁ (findText span m b ks e (i + 2) (getD l i nan)) o₂ r₂ → Wrote o at (findsText span m b ks e (take n l) (i + 1)) o₂ r₂
   unfolding findsText
   finds-go-on i h s t = rw (add-one i) (then s (rw (getD-take n l i nan h) t))

@@ -1,4 +1,4 @@
--- The invariant: the first i finds stand from `at` on, at most 160 bytes each.
+-- The invariant: the first i finds stand from `at` on, at most 288 bytes each.
 use borrow.Author.Needs.{needs}
 use native.Mathlib.Omega.{arith}
 use mathlib.Core.Path.{_≡_}
@@ -11,13 +11,13 @@ use Rattle.picture_finds.proofs.put_finds.Statement.{statement}
 use Rattle.picture_finds.proofs.put_finds.Tie as tie
 
 abbrev Inv-loop : tie.InvT-loop
-Inv-loop out₀ at m b knots e n ys i₀ a₀ out i a = (i ≤ n) × (n ≤ 8) × (a ≤ at + 160 * i) × Wrote out₀ at (findsText m b knots e (take n ys) i) out a
+Inv-loop out₀ at span m b knots e n ys i₀ a₀ out i a = (i ≤ n) × (n ≤ 8) × (a ≤ at + 288 * i) × Wrote out₀ at (findsText span m b knots e (take n ys) i) out a
 
 abbrev μ-loop : tie.MeasureT-loop
-μ-loop out₀ at m b knots e n ys i₀ a₀ out i a = n - i
+μ-loop out₀ at span m b knots e n ys i₀ a₀ out i a = n - i
 
 loop-holds : tie.Need-loop-holds Inv-loop μ-loop
-loop-holds c = (omega arith, omega arith, omega arith, no-finds _ _ _ _ _)
+loop-holds c = (omega arith, omega arith, omega arith, no-finds _ _ _ _ _ _)
 
 put-find-requires : tie.Need-put-find-requires Inv-loop μ-loop
 put-find-requires c κs =
@@ -33,7 +33,7 @@ loop-again c = let l = c .before .before .before .before .before .loop in (
   omega arith,
   l .inv .1,
   omega (arith, l .inv .2, c .before .before .put-find .ensures .1),
-  finds-go-on _ _ _ _ _ (c .before .before .before .before .before .before .before .lesser .result) (l .i) (omega arith) (l .inv .3)
+  finds-go-on _ _ _ _ _ _ (c .before .before .before .before .before .before .before .lesser .result) (l .i) (omega arith) (l .inv .3)
       (c .before .before .put-find .ensures .0),
 )
 
