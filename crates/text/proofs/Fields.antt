@@ -8,7 +8,7 @@ use native.Mathlib.Omega.{arith}
 use borrow.Author.Tests.{eq-eqb, ne-eqb, leb-true, leb-false}
 use lib.Dec.{leb, eqb}
 use lib.ListN.{length, take, drop, getD, length-drop}
-use lib.Seq.{drop-cons, drop-length, drop-drop, take-all}
+use lib.Seq.{drop-cons, drop-length, take-all}
 use Rattle.text.specs.Text.{TAB, onto, fieldsOf, placeOf, tabOf}
 
 -- a line without a tab is one field
@@ -71,56 +71,28 @@ end-counts s i h k =
     ap (λ (l : List ℕ). length (fieldsOf l)) (ap (λ (j : ℕ). drop j s) p ∙ drop-length s)
 
 -- ---- a field by its number
--- the slice from a place on is all that stands there
-rest : (from : ℕ) (s : List ℕ) → from ≤ length s → take (length s - from) (drop from s) ≡ drop from s
-rest from s h = take-all (length s - from) (drop from s) (rw length-drop (omega arith))
+-- the first ends at the first tab
+pub first-field : (t : ℕ) (s : List ℕ) → t ≡ tabOf s → take (t - 0) s ≡ getD (fieldsOf s) 0 []
+first-field t s is = let z : t - 0 ≡ tabOf s = omega arith in rw z (go (leb (length s) (tabOf s)) refl)
+  where
+    go : (b : Bool) → leb (length s) (tabOf s) ≡ b → take (tabOf s) s ≡ getD (fieldsOf s) 0 []
+    go true e = let f = leb-true (length s) (tabOf s) e in rw (fields-one s f, take-all (tabOf s) s f) refl
+    go false e = rw (fields-more s (leb-false (length s) (tabOf s) e)) refl
 
-pub first-inside : (s : List ℕ) (from t : ℕ) → from ≤ length s → t ≤ length (take (length s - from) (drop from s)) → from + t ≤ length s
-first-inside s from t h k =
-    let w : length (take (length s - from) (drop from s)) ≡ length s - from = ap length (rest from s h) ∙ length-drop from s in
-    omega arith
-
--- a further field stands behind the next tab
-module _ (s : List ℕ) (from t : ℕ) (h : from ≤ length s) (is : t ≡ tabOf (take (length s - from) (drop from s))) where
-  here : t ≡ tabOf (drop from s)
-  here = is ∙ ap tabOf (rest from s h)
-
-  module _ (left : ℕ) (more : 0 < left) (few : left < length (fieldsOf (drop from s))) where
-    behind : t < length (drop from s)
-    behind = go (leb (length (drop from s)) (tabOf (drop from s))) refl
-      where
-        go : (b : Bool) → leb (length (drop from s)) (tabOf (drop from s)) ≡ b → t < length (drop from s)
-        go true e =
-            let w : length (fieldsOf (drop from s)) ≡ 1 = ap length (fields-one (drop from s) (leb-true (length (drop from s)) (tabOf (drop from s)) e)) in
-            absurd (omega arith)
-        go false e = omega (arith, here, leb-false (length (drop from s)) (tabOf (drop from s)) e)
-
-    pub next-inside : from + t + 1 ≤ length s
-    next-inside = let w : length (drop from s) ≡ length s - from = length-drop from s in omega (arith, behind)
-
-    parted : fieldsOf (drop from s) ≡ take t (drop from s) ∷ fieldsOf (drop (from + t + 1) s)
-    parted =
-        let k : tabOf (drop from s) < length (drop from s) = omega (arith, here, behind) in
-        let e : from + suc t ≡ from + t + 1 = omega arith in
-        let d : drop (suc (tabOf (drop from s))) (drop from s) ≡ drop (from + t + 1) s = rw (← here) (drop-drop (suc t) from s ∙ ap (λ (i : ℕ). drop i s) e) in
-        fields-more (drop from s) k ∙ rw (d, ← here) refl
-
-    pub next-few : left - 1 < length (fieldsOf (drop (from + t + 1) s))
-    next-few = let w : length (fieldsOf (drop from s)) ≡ suc (length (fieldsOf (drop (from + t + 1) s))) = ap length parted in omega arith
-
-    pub next-field : getD (fieldsOf (drop from s)) left [] ≡ getD (fieldsOf (drop (from + t + 1) s)) (left - 1) []
-    next-field = ap (λ (fs : List (List ℕ)). getD fs left []) parted ∙ go left more
-      where
-        go : (i : ℕ) → 0 < i → getD (take t (drop from s) ∷ fieldsOf (drop (from + t + 1) s)) i [] ≡ getD (fieldsOf (drop (from + t + 1) s)) (i - 1) []
-        go zero g = absurd (omega arith)
-        go (suc i) g = let z : suc i - 1 ≡ i = omega arith in rw z refl
-
-  -- the first field ends at the next tab
-  pub first-field : take (from + t - from) (drop from s) ≡ getD (fieldsOf (drop from s)) 0 []
-  first-field = let z : from + t - from ≡ t = omega arith in rw (z, here) (go (leb (length (drop from s)) (tabOf (drop from s))) refl)
-    where
-      go : (b : Bool) → leb (length (drop from s)) (tabOf (drop from s)) ≡ b → take (tabOf (drop from s)) (drop from s) ≡ getD (fieldsOf (drop from s)) 0 []
-      go true e =
-          let f = leb-true (length (drop from s)) (tabOf (drop from s)) e in
-          rw (fields-one (drop from s) f, take-all (tabOf (drop from s)) (drop from s) f) refl
-      go false e = rw (fields-more (drop from s) (leb-false (length (drop from s)) (tabOf (drop from s)) e)) refl
+-- a further one is one of those behind the tab, by a number that is one less
+pub next-field : (t : ℕ) (s : List ℕ) (k : ℕ) → t ≡ tabOf s → 0 < k → k < length (fieldsOf s) → let r = take (length s - (t + 1)) (drop (t + 1) s) in
+    (t < length s) × (k - 1 < length (fieldsOf r)) × (getD (fieldsOf r) (k - 1) [] ≡ getD (fieldsOf s) k [])
+next-field t s zero is g h = absurd (omega arith)
+next-field t s (suc k) is g h = go (leb (length s) (tabOf s)) refl
+  where
+    go : (b : Bool) → leb (length s) (tabOf s) ≡ b → let r = take (length s - (t + 1)) (drop (t + 1) s) in
+        (t < length s) × (suc k - 1 < length (fieldsOf r)) × (getD (fieldsOf r) (suc k - 1) [] ≡ getD (fieldsOf s) (suc k) [])
+    go true e = let w : length (fieldsOf s) ≡ 1 = ap length (fields-one s (leb-true (length s) (tabOf s) e)) in absurd (omega arith)
+    go false e =
+        let l : t < length s = omega (arith, leb-false (length s) (tabOf s) e) in
+        let z : suc k - 1 ≡ k = omega arith in
+        let p : fieldsOf s ≡ take t s ∷ fieldsOf (drop (suc t) s) = rw is (fields-more s (leb-false (length s) (tabOf s) e)) in
+        let q : take (length s - (t + 1)) (drop (t + 1) s) ≡ drop (suc t) s =
+        take-all (length s - (t + 1)) (drop (t + 1) s) (rw length-drop (omega arith)) ∙ ap (λ (i : ℕ). drop i s) (add-one t) in
+        let w : length (fieldsOf s) ≡ suc (length (fieldsOf (drop (suc t) s))) = ap length p in
+        rw (q, z) (l, omega arith, rw p refl)

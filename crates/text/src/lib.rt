@@ -65,16 +65,12 @@ pub fn field(s: &[u8], k: usize) -> &[u8]
     requires { ⌜ k < length (fieldsOf (now s)) ⌝ }
     ensures { λ r. ⌜ now r ≡ getD (fieldsOf (now (s .entry))) k [] ⌝ }
 {
-    let mut from = 0;
-    let mut left = k;
-    while 0 < left {
-        let t = place_of(&s[from..], b'\t');
-        from = from + t + 1;
-        left -= 1;
+    let t = place_of(s, b'\t');
+    if k == 0 {
+        return &s[0..t];
     }
-    let t = place_of(&s[from..], b'\t');
-    let to = from + t;
-    &s[from..to]
+    let from = t + 1;
+    field(&s[from..], k - 1)
 }
 
 // The value of an uppercase hexadecimal digit; 16 for any other byte.
