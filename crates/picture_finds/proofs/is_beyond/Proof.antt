@@ -32,5 +32,5 @@ returns-2 c =
 
 pub is-beyond-spec : {M : Type 1} → statement M
 is-beyond-spec =
-    tie.close (tie.spec (λ c κs. search needs) (λ c. search needs) curve-height-requires (λ c κs. search needs) returns (λ c κs. search needs)
-    returns-2)
+    tie.close
+    (tie.spec (λ c κs. search needs) (λ c. search needs) curve-height-requires (λ c κs. search needs) returns (λ c κs. search needs) returns-2)

@@ -16,10 +16,8 @@ returns c =
 returns-2 : tie.Need-returns-2
 returns-2 c =
     let at-if1 = c .before .before .before .before in
-    let at-is-beyond = at-if1 .before in (
-      rw (← at-is-beyond .is-beyond .ensures, at-if1 .if1 .left) (c .before .before .put-place .ensures .0),
-      c .before .before .put-place .ensures .1,
-    )
+    let at-is-beyond = at-if1 .before in
+    (rw (← at-is-beyond .is-beyond .ensures, at-if1 .if1 .left) (c .before .before .put-place .ensures .0), c .before .before .put-place .ensures .1)
 
 pub put-at-spec : {M : Type 1} → statement M
 put-at-spec =

@@ -17,10 +17,8 @@ returns-2 c = (
 )
 
 returns-3 : tie.Need-returns-3
-returns-3 c = (
-  rw (c .before .before .before .before .before .i2 .given .1) (c .before .before .put-at .ensures .0),
-  c .before .before .put-at .ensures .1,
-)
+returns-3 c =
+    (rw (c .before .before .before .before .before .i2 .given .1) (c .before .before .put-at .ensures .0), c .before .before .put-at .ensures .1)
 
 pub put-found-spec : {M : Type 1} → statement M
 put-found-spec =

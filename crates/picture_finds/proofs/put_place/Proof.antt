@@ -12,10 +12,7 @@ put-told-requires c κs =
     let at-height = at-time .before .before in
     let start = at-height .before .before .before in (
       omega (arith, at-height .height .ensures .1 .1),
-      (
-        at-time .time .ensures .1,
-        omega (arith, start .pre .1, at-put-mark .put-mark .ensures .1, at-put-mark .put-mark .ensures .0 .long),
-      ),
+      (at-time .time .ensures .1, omega (arith, start .pre .1, at-put-mark .put-mark .ensures .1, at-put-mark .put-mark .ensures .0 .long)),
     )
 
 returns : tie.Need-returns

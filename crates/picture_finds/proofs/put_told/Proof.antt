@@ -91,13 +91,9 @@ returns c =
     let at-put-number = at-put-word .before .before .before .before .before in
     let at-above2 = at-put-number .before .before .before in
     let at-above = at-above2 .before in (
-      (then (then (then (then (then (then (rw (at-above .above .ensures) at (at-put-number .put-number .ensures .0))
-          (at-put-word .put-word .ensures))
-          (at-put-label .put-label .ensures .0))
-          (rw (at-above2 .above2 .ensures) at (at-put-number2 .put-number2 .ensures .0)))
-          (at-put-word2 .put-word2 .ensures))
-          (at-put-label2 .put-label2 .ensures .0))
-          (c .before .before .put-word3 .ensures)),
+      (then (then (then (then (then (then (rw (at-above .above .ensures) at (at-put-number .put-number .ensures .0)) (at-put-word .put-word .ensures))
+          (at-put-label .put-label .ensures .0)) (rw (at-above2 .above2 .ensures) at (at-put-number2 .put-number2 .ensures .0)))
+          (at-put-word2 .put-word2 .ensures)) (at-put-label2 .put-label2 .ensures .0)) (c .before .before .put-word3 .ensures)),
       omega (
         arith,
         at-put-number .put-number .ensures .1,
