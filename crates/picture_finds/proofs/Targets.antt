@@ -50,7 +50,8 @@ module _ (l : List Float) (h : length l ≡ 8) where
       rw (e₁, seven) (ap (λ (r : List Float). y ∷ r) (take-min (min 7 n) 7 l ∙ ap (λ (i : ℕ). take i l) e₂ ∙ sym (take-min 7 n l)))
 
 -- ---- the loop
-pub no-finds : (span : ℕ) (m : EndsBy) (b : Basis) (ks : List Float) (e : Extent) (l : List Float) {o : List ℕ} {at : ℕ} → Wrote o at (findsText span m b ks e l 0) o at
+pub no-finds : (span : ℕ) (m : EndsBy) (b : Basis) (ks : List Float) (e : Extent) (l : List Float) {o : List ℕ} {at : ℕ}
+    → Wrote o at (findsText span m b ks e l 0) o at
 unfolding findsText
 no-finds span m b ks e l {o} {at} = nothing o at
 

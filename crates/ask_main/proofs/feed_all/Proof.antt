@@ -55,19 +55,18 @@ loop-less c =
 loop-again : tie.Need-loop-again Inv-loop μ-loop
 loop-again c =
     let l = c .before .before .before .before .before .before .before .before .before .before .before .before .before .before .before .before .before
-    .before .before .before .loop in let f = c .before .before .before .before .before .before .before .before .before .before .before .before .before
-    .feed in (
+    .before .before .before .loop in
+    let f = c .before .before .before .before .before .before .before .before .before .before .before .before .before .feed in (
       f .ensures .1 .1 .1 .0,
       search needs,
       search needs,
-      ran-on askProgram _ (c .before .before .before .before .before .before .before .before
-          .before .before .before .before .before .before .before .before .before .before .before .before .before .before .before .before .before .before .args
-          .chunk .now) (l .«from») (f .result .next) (l .inv .0) (f .ensures .1 .1 .0) (l .inv .3) (f .ensures .0),
+      ran-on askProgram _ (c .before .before .before .before .before .before .before .before .before .before .before .before .before .before .before
+          .before .before .before .before .before .before .before .before .before .before .before .args .chunk .now) (l .«from») (f .result .next)
+          (l .inv .0) (f .ensures .1 .1 .0) (l .inv .3) (f .ensures .0),
       search needs,
       search needs,
       search needs,
-      f
-          .ensures .1 .0,
+      f .ensures .1 .0,
     )
 
 returns : tie.Need-returns Inv-loop μ-loop

@@ -30,16 +30,15 @@ feed-all-requires c κs =
 
 loop-again : tie.Need-loop-again Inv-loop μ-loop
 loop-again c =
-    let at-feed-all = c .before .before .before .before .before .before .before .before .before .before .before .before .before .before .before in
-    let at-loop = at-feed-all .before .before .before .before .before .before .before .before .before .before .before .before .before in
-    let l = at-loop .loop in (
+    let l = c .before .before .before .before .before .before .before .before .before .before .before .before .before .before .before .before .before
+    .before .before .before .before .before .before .before .before .before .before .before .loop in (
       omega (arith, l .inv .0),
       omega (arith, l .inv .1),
       omega (arith, l .inv .2),
       omega (arith, l .inv .3),
       omega (arith, l .inv .4),
       omega (arith, l .inv .5),
-      at-feed-all .feed-all .ensures .1,
+      c .before .before .before .before .before .before .before .before .before .before .before .before .before .before .before .feed-all .ensures .1,
     )
 
 finish-requires : tie.Need-finish-requires Inv-loop μ-loop

@@ -10,7 +10,8 @@ returns c =
     let at-put-label = c .before .before .before .before .before .before .before in
     let at-put-word = at-put-label .before .before .before .before in
     let at-put-number = at-put-word .before .before .before .before .before in (
-      then (then (then (at-put-number .put-number .ensures .0) (at-put-word .put-word .ensures)) (at-put-label .put-label .ensures .0)) (c .before .before .put-word2 .ensures),
+      then (then (then (at-put-number .put-number .ensures .0) (at-put-word .put-word .ensures)) (at-put-label .put-label .ensures .0))
+          (c .before .before .put-word2 .ensures),
       omega (
         arith,
         at-put-number .put-number .ensures .1,

@@ -27,7 +27,8 @@ put-word-requires-2 c κs =
 
 add-put-label : tie.Need-add-put-label
 add-put-label c =
-    let start = c .before .before .before .before .before .before .before .before .before .before .before .before .before .before .before .before .before .before .before .before .before .before .before .before .before .before .before .before in
+    let start = c .before .before .before .before .before .before .before .before .before .before .before .before .before .before .before
+    .before .before .before .before .before .before .before .before .before .before .before .before .before in
     omega (arith, start .pre .1 .0)
 
 put-label-requires-2 : tie.Need-put-label-requires-2
