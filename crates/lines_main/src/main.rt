@@ -93,7 +93,7 @@ fn whole(
 
 // The buffers, once, and then all of the input.
 fn main() {
-    let mut table = [0.0; basis::MOST_KNOTS];
+    let mut table = [0.0; 4096];
     let mut converted = [0.0; basis::MOST_KNOTS];
     let mut begun = [0u8; 64];
     let mut chunk = [0u8; 65536];
