@@ -1,4 +1,6 @@
 // bin/ask: the verdict on a sheet, and what is asked of it.
+#![tactic(auto)]
+
 ghost use Rattle.std.specs.Prelude.{◌≡◌, List, [], ◌+◌, ◌*◌, ◌≤◌, ◌<◌, length};
 ghost use Rattle.std.proofs.Math.Seq.{slice};
 ghost use Rattle.text.specs.Wrote.{Wrote};
@@ -18,7 +20,7 @@ use ask_verdict::{AskedHeld, Told};
 pub const LONGEST: usize = 122944;
 
 // What is held: the sheet as far as it was read; or, its verdict told, what may be asked.
-#[derive(Drop)]
+#[derive(Clone, Copy)]
 pub enum AskHeld {
     Reading(SheetHeld),
     Told(AskedHeld),
@@ -73,7 +75,7 @@ fn answer(
 }
 
 // What is held after a line, and the place behind what it printed.
-#[derive(Drop)]
+#[derive(Clone, Copy)]
 pub struct AskResult {
     pub held: AskHeld,
     pub at: usize,
@@ -132,14 +134,14 @@ pub fn line(
 }
 
 // `len`: bytes of the current line in the lent 64; 65 means that the line is too long.
-#[derive(Drop)]
+#[derive(Clone, Copy)]
 pub struct AskReader {
     pub len: usize,
     pub held: AskHeld,
 }
 
 // Where the program stands, where the text in `out` ends, and the chunk's first byte that was not taken.
-#[derive(Drop)]
+#[derive(Clone, Copy)]
 pub struct AskFed {
     pub st: AskReader,
     pub at: usize,

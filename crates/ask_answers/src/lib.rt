@@ -1,4 +1,6 @@
 // What a line after the verdict of a fine sheet asks, what it prints, and the span after it.
+#![tactic(auto)]
+
 ghost use Rattle.std.specs.Prelude.{◌≡◌, List, [], ◌+◌, ◌*◌, ◌≤◌, ◌<◌, Float, length, take, get_or};
 ghost use Rattle.std.specs.Float.Ieee.{to_bits};
 ghost use Rattle.std.specs.Float.{binary64};
@@ -48,7 +50,7 @@ use table_span::Table;
 use text::HexNumber;
 
 // What is asked: the table; a row's seconds; a depth; the depth at a second; the depths at every so many seconds; or nothing.
-#[derive(Drop)]
+#[derive(Clone, Copy)]
 pub enum Question {
     Table,
     Row(u32),
@@ -474,7 +476,7 @@ fn put_answer(
 }
 
 // The span held after a line, and the place behind what it printed.
-#[derive(Drop)]
+#[derive(Clone, Copy)]
 pub struct Answered {
     pub span: u32,
     pub at: usize,

@@ -1,4 +1,6 @@
 // bin/ask, the verdict on a sheet: it reads, feeds and writes, in large pieces and fixed memory.
+#![tactic(auto)]
+
 ghost use Rattle.std.specs.Prelude.{◌≡◌, ◌*◌, ◌≤◌, length};
 ghost use Rattle.sheet.specs.Sheet.{most};
 ghost use Rattle.ask_sheet.specs.Contract.{cells};
@@ -12,7 +14,7 @@ use ask::{AskHeld, AskReader};
 use ask_sheet::SheetHeld;
 
 // Where the program stands, and whether each write succeeded.
-#[derive(Drop)]
+#[derive(Clone, Copy)]
 struct Chunked {
     st: AskReader,
     fine: bool,

@@ -1,4 +1,6 @@
 // A sheet as bin/ask reads it: a name, then labelled depths in whole thousandths; or the first line at fault, and why.
+#![tactic(auto)]
+
 ghost use Rattle.std.specs.Prelude.{◌≡◌, List, ◌++◌, ◌∷◌, [], ℕ, min, ◌+◌, ◌*◌, ◌≤◌, ◌<◌, ℤ, length, take, get_or};
 ghost use Rattle.whole.specs.Held.{held_all};
 ghost use Rattle.sheet.specs.Sheet.{most};
@@ -12,20 +14,20 @@ use lines_record::BasisName;
 use sheet::Depth;
 
 // The curve that a sheet names: drawn over a basis, or through every row without turning back where they do not.
-#[derive(Drop)]
+#[derive(Clone, Copy)]
 pub enum Kind {
     Drawn(Basis),
     Monotone,
 }
 
-#[derive(Drop)]
+#[derive(Clone, Copy)]
 pub enum KindName {
     Is(Kind),
     Nothing,
 }
 
 // What is wrong with a line: too long, no basis, no label, no depth, a depth too many; or there is none.
-#[derive(Drop)]
+#[derive(Clone, Copy)]
 pub enum Reason {
     Long,
     NoBasis,
@@ -36,7 +38,7 @@ pub enum Reason {
 }
 
 // What is held of a sheet: no line yet; a kind and the number of depths so far; or the number of a line at fault, and why.
-#[derive(Drop)]
+#[derive(Clone, Copy)]
 pub enum SheetHeld {
     Unbegun,
     On(Kind, usize),

@@ -1,4 +1,6 @@
 // The verdict on a sheet: the line at fault, each fault of the curve in the order of the lines, or that it is fine.
+#![tactic(auto)]
+
 ghost use Rattle.std.specs.Prelude.{◌≡◌, true, List, [], map, ℕ, suc, ◌+◌, ◌*◌, ◌≤◌, ◌<◌, ℤ, pos, nat_abs, Float, length, take, get_or};
 ghost use Rattle.basis.specs.Basis.{most_knots, step_of, segments_of};
 ghost use Rattle.inverse.specs.declared.Ends.{Ends};
@@ -413,14 +415,14 @@ fn put_fine(n: usize, e: Ends, out: &mut [u8], at: usize) -> usize
 
 // What may be asked after the verdict: nothing; or of a kind of curve, over so many rows and knots, its span in whole seconds, 0 where none
 // was given.
-#[derive(Drop)]
+#[derive(Clone, Copy)]
 pub enum AskedHeld {
     Bad,
     Fine(Kind, usize, usize, u32),
 }
 
 // The place behind the verdict's text, and what may be asked.
-#[derive(Drop)]
+#[derive(Clone, Copy)]
 pub struct Told {
     pub at: usize,
     pub held: AskedHeld,

@@ -1,4 +1,6 @@
 // The six bases, with STEP, the length rule and the matrices. Rust: src/basis.rs.
+#![tactic(auto)]
+
 ghost use Rattle.std.specs.Prelude.{◌≡◌, ◌≤◌, ◌<◌};
 ghost use Rattle.basis.specs.Basis.{step_of, regular, length_ok, segments_of, is_linear};
 
@@ -7,7 +9,7 @@ pub mod basis_macros;
 // The most knots that a call takes.
 pub const MOST_KNOTS: usize = 4096;
 
-#[derive(Drop)]
+#[derive(Clone, Copy)]
 pub enum Basis {
     Bspline,
     Bezier,

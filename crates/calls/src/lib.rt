@@ -1,1 +1,2 @@
 // What can be said of a call by its contract: specs/.
+#![tactic(auto)]

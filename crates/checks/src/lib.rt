@@ -1,5 +1,7 @@
 // The refusals that several calls share: lengths, knots, and what an inversion is asked.
 // A call asks for those that it has use for, in the order of the table (crates/error/specs/Refusals.antt).
+#![tactic(auto)]
+
 ghost use Rattle.std.specs.Prelude.{◌≡◌, [], ◌∷◌, ◌≤◌, length};
 ghost use Rattle.basis.specs.Basis.{most_knots};
 ghost use Rattle.error.specs.declared.Refusal.TheVariants.{BadKnot};

@@ -1,4 +1,6 @@
 // The check of a claim, that a curve's segment comes near a target at a local place.
+#![tactic(auto)]
+
 ghost use Rattle.std.specs.Prelude.{◌≡◌, ◌+◌, ◌*◌, ◌≤◌, length};
 ghost use Rattle.basis.specs.Basis.{most_knots, step_of};
 ghost use Rattle.spline.specs.Segment.{segment_of};
@@ -10,7 +12,7 @@ use error::{Refusal, Verdict};
 pub mod refusals;
 
 // What checking a claim comes to: refused by a row of the table, or it holds, or the value differs from the target.
-#[derive(Drop)]
+#[derive(Clone, Copy)]
 pub enum ClaimAnswer {
     Refused(Refusal),
     Holds,

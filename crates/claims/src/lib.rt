@@ -1,4 +1,6 @@
 // What the checker of claims replies to a line, and the table after it.
+#![tactic(auto)]
+
 ghost use Rattle.std.specs.Prelude.{◌≡◌, ◌+◌, ◌≤◌, ◌<◌, length, drop};
 ghost use Rattle.std.proofs.Math.Seq.{slice};
 ghost use Rattle.lines_answer.specs.Answer.{places};
@@ -21,7 +23,7 @@ use lines_record::Record;
 use text::HexNumber;
 
 // What a line says: a record of a listing, or a claim: a target, a segment, a local place and a precision.
-#[derive(Drop)]
+#[derive(Clone, Copy)]
 pub enum ClaimRecord {
     Listed(Record),
     Claim(f64, usize, f64, f64),

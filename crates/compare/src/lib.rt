@@ -1,4 +1,6 @@
 // What differs between two tables, as text. A knot is its 64 bits, so that zero and minus zero differ, and so do two patterns of NaN.
+#![tactic(auto)]
+
 ghost use Rattle.std.specs.Prelude.{◌≡◌, ◌+◌, ◌≤◌, ◌<◌, max, eqb, length};
 ghost use Rattle.text.specs.Wrote.{Wrote};
 ghost use Rattle.compare.specs.Differences.{knot, only, rank_of, basis_difference, span_difference, knots_from, places_in};
@@ -12,7 +14,7 @@ use table_span::Table;
 pub const LONGEST: usize = 180284;
 
 // The place behind what was written, and how many places of the tables were told.
-#[derive(Drop)]
+#[derive(Clone, Copy)]
 pub struct DifferenceCount {
     pub at: usize,
     pub places: u32,

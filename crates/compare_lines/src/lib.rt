@@ -1,4 +1,6 @@
 // Two listings on one input, parted by `other`: what a line gets, and at the end what differs.
+#![tactic(auto)]
+
 ghost use Rattle.std.specs.Prelude.{◌≡◌, List, ℕ, ◌+◌, ◌≤◌, ◌<◌, length, take};
 ghost use Rattle.std.proofs.Math.Seq.{slice};
 ghost use Rattle.text.specs.Text.{hex_of};
@@ -21,7 +23,7 @@ use table_span::Table;
 use text::HexNumber;
 
 // What a line says. A knot is its 64 bits.
-#[derive(Drop)]
+#[derive(Clone, Copy)]
 pub enum CompareRecord {
     Curve(Basis),
     Span(u32),
@@ -31,35 +33,35 @@ pub enum CompareRecord {
 }
 
 // A listing so far: none before its `curve`, then a basis with a span, and so many knots of a lent slice.
-#[derive(Drop)]
+#[derive(Clone, Copy)]
 pub enum Listing {
     Nothing,
     On(Table, usize),
 }
 
 // The listings: the first alone, then the first and the second.
-#[derive(Drop)]
+#[derive(Clone, Copy)]
 pub enum Comparison {
     Before(Listing),
     Parted(Listing, Listing),
 }
 
 // A listing after a record, and whether the record was refused.
-#[derive(Drop)]
+#[derive(Clone, Copy)]
 pub struct EntryResult {
     pub listing: Listing,
     pub verdict: Verdict,
 }
 
 // Both listings after a record, and whether it was refused.
-#[derive(Drop)]
+#[derive(Clone, Copy)]
 pub struct TakeResult {
     pub held: Comparison,
     pub verdict: Verdict,
 }
 
 // Both listings after a line, and the place behind its reply.
-#[derive(Drop)]
+#[derive(Clone, Copy)]
 pub struct LineResult {
     pub held: Comparison,
     pub at: usize,
@@ -384,7 +386,7 @@ pub fn end(h: Comparison, old: &[u64], new: &[u64], out: &mut [u8], at: usize) -
 }
 
 // `len`: bytes of the current line in the lent 64; 65 means that the line is too long.
-#[derive(Drop)]
+#[derive(Clone, Copy)]
 pub struct CompareReader {
     pub len: usize,
     pub held: Comparison,
@@ -402,7 +404,7 @@ pub fn begin() -> CompareReader
 }
 
 // Where the program stands, where the text in `out` ends, and the chunk's first byte that was not taken.
-#[derive(Drop)]
+#[derive(Clone, Copy)]
 pub struct CompareFed {
     pub st: CompareReader,
     pub at: usize,

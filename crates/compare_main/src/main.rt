@@ -1,4 +1,6 @@
 // bin/compare, the comparison of two tables: it reads, feeds and writes, in large pieces and fixed memory.
+#![tactic(auto)]
+
 ghost use Rattle.std.specs.Prelude.{◌≡◌, ◌+◌, ◌≤◌, length};
 ghost use Rattle.lines_machine.specs.Program.{widest};
 ghost use Rattle.lines_machine.specs.Bytes.{ran_of};
@@ -9,7 +11,7 @@ ghost use Rattle.compare_lines.specs.Contract.{count_of, state_of};
 use compare_lines::CompareReader;
 
 // Where the program stands, and whether each write succeeded.
-#[derive(Drop)]
+#[derive(Clone, Copy)]
 struct Chunked {
     st: CompareReader,
     fine: bool,

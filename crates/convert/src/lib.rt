@@ -1,4 +1,6 @@
 // Conversion of one segment and of a knot vector from basis to basis, into a lent buffer. Rust: src/convert.rs.
+#![tactic(auto)]
+
 ghost use Rattle.std.specs.Prelude.{◌≡◌, length};
 ghost use Rattle.convert.specs.Conversion.{converted_of, converted_segment_of};
 ghost use Rattle.convert.specs.Buffer.{answer_of, buffer_of};
@@ -9,7 +11,7 @@ use error::{Refusal, Verdict};
 pub mod output;
 pub mod refusals;
 
-#[derive(Drop)]
+#[derive(Clone, Copy)]
 pub enum ConversionAnswer {
     Written(usize),
     Refused(Refusal),

@@ -1,4 +1,6 @@
 // Gauss-Jordan on four rows of eight, which the constant inverses are run against. Rust: src/convert.rs.
+#![tactic(auto)]
+
 ghost use Rattle.std.specs.Prelude.{◌≡◌, ◌<◌};
 ghost use Rattle.convert_matrix.specs.Elimination.{
   widened,
@@ -18,7 +20,7 @@ ghost use Rattle.convert_elimination.specs.Contract.{shown, Found};
 use convert_matrix::Pivot;
 
 // Four rows; zeros where there is no inverse.
-#[derive(Drop)]
+#[derive(Clone, Copy)]
 pub struct Inverse {
     pub exists: bool,
     pub r0: [f64; 4],

@@ -1,4 +1,6 @@
 // The matrix of a conversion, by value: the inverses as constants, and the product. Rust: src/convert.rs.
+#![tactic(auto)]
+
 ghost use Rattle.std.specs.Prelude.{◌≡◌, ◌<◌};
 ghost use Rattle.convert_matrix.specs.Matrix.{row, row_times};
 ghost use Rattle.convert_matrix.specs.Elimination.{inverse_of, conversion_of};
@@ -8,7 +10,7 @@ use basis::Basis;
 pub mod constants;
 
 // The row that holds a column's pivot. The definition of the elimination has it; the code that eliminates is `convert_elimination`.
-#[derive(Drop)]
+#[derive(Clone, Copy)]
 pub enum Pivot {
     Row(usize),
     Missing,

@@ -1,4 +1,6 @@
 // Strict conversion, of a knot vector where no seam loses more than an allowance.
+#![tactic(auto)]
+
 ghost use Rattle.std.specs.Prelude.{◌≡◌, length};
 ghost use Rattle.convert.specs.Buffer.{answer_of, buffer_of};
 ghost use Rattle.convert_strict.specs.Strict.{strict_of};

@@ -1,4 +1,6 @@
 // bin/decimals, the printer of decimals: it reads, feeds and writes, in large pieces and fixed memory.
+#![tactic(auto)]
+
 ghost use Rattle.std.specs.Prelude.{◌≡◌, ◌≤◌, length};
 ghost use Rattle.lines_machine.specs.Program.{widest};
 ghost use Rattle.lines_machine.specs.Bytes.{ran_of};
@@ -6,7 +8,7 @@ ghost use Rattle.decimals.specs.Decimals.{decimals_program};
 ghost use Rattle.decimals.specs.Contract.{state_of};
 
 // How many bytes of the current line stand in the lent 64, and whether each write succeeded.
-#[derive(Drop)]
+#[derive(Clone, Copy)]
 struct Chunked {
     len: usize,
     fine: bool,

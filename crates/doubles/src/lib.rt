@@ -1,4 +1,6 @@
 // Magnitude, clamp to 0..1, interpolation and whole part of doubles. Rust: the dependency `lerp`, and methods of f64.
+#![tactic(auto)]
+
 ghost use Rattle.std.specs.Prelude.{◌≡◌};
 ghost use Rattle.doubles.specs.Numbers.{magnitude_of, clamp};
 ghost use Rattle.doubles.specs.Lerp.{lerp_of};

@@ -1,8 +1,10 @@
 // The refusals, each with its number. Rust: src/error.rs.
+#![tactic(auto)]
+
 ghost use Rattle.std.specs.Prelude.{◌≡◌};
 ghost use Rattle.error.specs.Refusals.{number_of, where_of, place_of, reply_of};
 
-#[derive(Drop)]
+#[derive(Clone, Copy)]
 pub enum Refusal {
     TooFew,
     BadPattern,
@@ -27,7 +29,7 @@ pub enum Refusal {
 }
 
 // What the tests of a call come to: nothing is refused, or the first refusal that applies.
-#[derive(Drop)]
+#[derive(Clone, Copy)]
 pub enum Verdict {
     Passed,
     Failed(Refusal),
@@ -62,7 +64,7 @@ pub fn number(r: Refusal) -> u8
 }
 
 // What a refusal tells besides its number: nothing, a knot or a segment, counted from 0.
-#[derive(Drop)]
+#[derive(Clone, Copy)]
 pub enum Where {
     Nowhere,
     Knot(u16),

@@ -1,4 +1,6 @@
 // The exports of conversion: each function has the contract of the export that calls it.
+#![tactic(auto)]
+
 ghost use Rattle.std.specs.Prelude.{◌≡◌, length};
 ghost use Rattle.convert.specs.Conversion.{converted_of, converted_segment_of};
 ghost use Rattle.convert.specs.Buffer.{answer_of, buffer_of};

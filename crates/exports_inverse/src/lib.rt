@@ -1,4 +1,6 @@
 // The exports of a curve's inversion: each function has the contract of the export that calls it.
+#![tactic(auto)]
+
 ghost use Rattle.std.specs.Prelude.{◌≡◌};
 ghost use Rattle.inverse_segment.specs.Answer.{default_limit, default_precision};
 ghost use Rattle.inverse.specs.Inverse.{inverse_of, inverse_by, steady_of, most_of};

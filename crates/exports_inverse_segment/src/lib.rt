@@ -1,4 +1,6 @@
 // The exports of one segment's inversion: each function has the contract of the export that calls it.
+#![tactic(auto)]
+
 ghost use Rattle.std.specs.Prelude.{◌≡◌};
 ghost use Rattle.inverse_segment.specs.Answer.{inverse_segment_of, inverse_segment_by, default_limit, default_precision};
 ghost use Rattle.inverse_segment.specs.Method.{rule_of, steady_segment_of};

@@ -1,4 +1,6 @@
 // What the exports share: a basis by its number, and each answer as a reply in a number, with what is written behind the pointers.
+#![tactic(auto)]
+
 ghost use Rattle.std.specs.Prelude.{◌≡◌};
 ghost use Rattle.exports_reply.specs.Replies.{
   chosen_of,
@@ -23,7 +25,7 @@ pub mod options;
 // What an export replies to a number that names no basis, no rule of the ends or no method.
 pub const UNKNOWN: u32 = 255;
 
-#[derive(Drop)]
+#[derive(Clone, Copy)]
 pub enum BasisChoice {
     Known(Basis),
     Unknown,

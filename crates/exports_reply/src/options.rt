@@ -5,7 +5,7 @@ ghost use Rattle.exports_reply.specs.Options.{method_of, way_of};
 use inverse_order::EndsBy;
 use inverse_segment::Method;
 
-#[derive(Drop)]
+#[derive(Clone, Copy)]
 pub enum Way {
     Known(EndsBy, Method),
     Unknown,

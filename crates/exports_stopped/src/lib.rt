@@ -1,5 +1,7 @@
 // The export of what a stopped job's depth means: the function has the contract of the export that calls it. The basis comes by its
 // number, the span in seconds, 0 for none.
+#![tactic(auto)]
+
 ghost use Rattle.std.specs.Prelude.{◌≡◌};
 ghost use Rattle.exports_reply.specs.Replies.{chosen_of, no_basis, chosen};
 ghost use Rattle.exports_stopped.specs.Jobs.{said_reply, said_job, said_place, said_whole};

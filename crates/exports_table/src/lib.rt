@@ -1,5 +1,7 @@
 // The exports of the calls on a table with a span: each function has the contract of the export that calls it. The basis comes by its
 // number, the span in seconds, 0 for none.
+#![tactic(auto)]
+
 ghost use Rattle.std.specs.Prelude.{◌≡◌, length};
 ghost use Rattle.convert.specs.Buffer.{answer_of, buffer_of};
 ghost use Rattle.inverse_order.specs.declared.EndsBy.TheVariants.{Knots};

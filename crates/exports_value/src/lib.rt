@@ -1,4 +1,6 @@
 // The exports of lengths, values, claims and depths: each function has the contract of the export that calls it.
+#![tactic(auto)]
+
 ghost use Rattle.std.specs.Prelude.{◌≡◌, cond};
 ghost use Rattle.basis.specs.Basis.{length_ok};
 ghost use Rattle.spline.specs.Evaluation.{spline_of, spline_segment_of};

@@ -1,4 +1,6 @@
 // Inversion of a curve. Rust: `spline_inverse` of src/spline_trait.rs.
+#![tactic(auto)]
+
 ghost use Rattle.std.specs.Prelude.{◌≡◌, true, false, ◌+◌, ◌*◌, ◌≤◌, ◌<◌, length};
 ghost use Rattle.std.specs.Float.Ieee.{is_nan};
 ghost use Rattle.basis.specs.Basis.{most_knots, segments_of};
@@ -22,7 +24,7 @@ use inverse_segment::{
 pub mod refusals;
 
 // What the caller may choose: whether knots that turn back are refused, the most rounds, the precision, the end rule and the method.
-#[derive(Drop)]
+#[derive(Clone, Copy)]
 pub struct Options {
     pub check: bool,
     pub limit: u16,
@@ -32,7 +34,7 @@ pub struct Options {
 }
 
 // What the end rule goes by: the direction, and a value at either end.
-#[derive(Drop)]
+#[derive(Clone, Copy)]
 pub struct Ends {
     pub rising: bool,
     pub low: f64,

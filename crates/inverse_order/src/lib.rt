@@ -1,4 +1,6 @@
 // The direction of the knots, the order check, and by which ends a target may lie beyond a curve.
+#![tactic(auto)]
+
 ghost use Rattle.std.specs.Prelude.{◌≡◌, [], ◌∷◌, not, ◌&&◌, ◌≤◌, length, drop};
 ghost use Rattle.basis.specs.Basis.{most_knots};
 ghost use Rattle.error.specs.declared.Refusal.TheVariants.{TurnsBack};
@@ -10,7 +12,7 @@ ghost use Rattle.inverse_order.specs.Contract.{follows, kept};
 use error::{Refusal, Verdict};
 
 // Whether the end rule of an inversion goes by the knots, as in the crate, or by the curve's own ends.
-#[derive(Drop)]
+#[derive(Clone, Copy)]
 pub enum EndsBy {
     Knots,
     Curve,

@@ -1,4 +1,6 @@
 // The search for the segment of a curve to enter. Rust: the two searches of `spline_inverse` in src/spline_trait.rs.
+#![tactic(auto)]
+
 ghost use Rattle.std.specs.Prelude.{◌≡◌, ◌+◌, ◌-◌, ◌*◌, ◌≤◌, ◌<◌, length, drop};
 ghost use Rattle.basis.specs.Basis.{most_knots, step_of, matrix_of};
 ghost use Rattle.spline.specs.Segment.{row_sums_of};
@@ -20,7 +22,7 @@ use inverse_segment::{Ground, Method, Stop, Trial};
 use spline::RowSums;
 
 // What a search comes to: none of the segments after so many evaluations, or the segment that was entered and where it stopped there.
-#[derive(Drop)]
+#[derive(Clone, Copy)]
 pub enum SearchResult {
     OffCurve(u32),
     Entered(usize, Stop),

@@ -1,5 +1,7 @@
 // Inversion of one segment: its calls, by each method, and the one operation that enters a segment. Rust: `spline_inverse_segment` of
 // src/spline_trait.rs, and `invert` of src/lib.rs.
+#![tactic(auto)]
+
 ghost use Rattle.std.specs.Prelude.{◌≡◌, ◌≤◌, ◌+◌, length};
 ghost use Rattle.basis.specs.Basis.{matrix_of};
 ghost use Rattle.spline.specs.Segment.{row_sums_of};
@@ -26,7 +28,7 @@ pub const STEADY_LIMIT: u16 = 64;
 
 // Why an inversion stopped: the target lies at or beyond an end of the curve; a segment's start or end is within twice the precision of it;
 // the value at the place is within the precision; the bracket is narrower than the precision; or all rounds were made.
-#[derive(Drop)]
+#[derive(Clone, Copy)]
 pub enum Ground {
     End,
     Edge,
@@ -37,7 +39,7 @@ pub enum Ground {
 
 // How the next place is chosen: as the crate does; with the weighting as it is taught; or steadily, at a pace: a round allows the bracket
 // half the width that the round before it did, and takes the midpoint of one that is wider.
-#[derive(Drop)]
+#[derive(Clone, Copy)]
 pub enum Method {
     AsCrate,
     Taught,
@@ -45,7 +47,7 @@ pub enum Method {
 }
 
 // Two local places and their values, as weighed.
-#[derive(Drop)]
+#[derive(Clone, Copy)]
 pub struct Bracket {
     pub lower: f64,
     pub upper: f64,
@@ -54,7 +56,7 @@ pub struct Bracket {
 }
 
 // What a round is given: the bracket, the side that moved last (0 none, 1 lower, 2 upper), and how often it was repeated.
-#[derive(Drop)]
+#[derive(Clone, Copy)]
 pub struct State {
     pub bracket: Bracket,
     pub side: u8,
@@ -62,21 +64,21 @@ pub struct State {
 }
 
 // The bracket as weighed, and the place that is evaluated.
-#[derive(Drop)]
+#[derive(Clone, Copy)]
 pub struct NextPlace {
     pub bracket: Bracket,
     pub place: f64,
 }
 
 // What a round leaves: an answer, or the next round's state; with the count of evaluations.
-#[derive(Drop)]
+#[derive(Clone, Copy)]
 pub enum RoundResult {
     Done(Ground, f64, Bracket, u32),
     Next(State, u32),
 }
 
 // A segment's row sums, and the values of both its ends.
-#[derive(Drop)]
+#[derive(Clone, Copy)]
 struct SegmentEnds {
     pub sums: RowSums,
     pub v0: f64,
@@ -86,7 +88,7 @@ struct SegmentEnds {
 // Where an inversion stopped in the segment that it entered, and why, the bracket after its last move, and the evaluations counted.
 // No two doubles stand side by side, here and in `Place`: they would be written one by one and copied two at a time, and a processor waits
 // for that.
-#[derive(Drop)]
+#[derive(Clone, Copy)]
 pub struct Stop {
     pub local: f64,
     pub ground: Ground,
@@ -96,14 +98,14 @@ pub struct Stop {
 }
 
 // What trying a segment comes to: its ends do not enclose the target, and the value of its start; or where the inversion stopped in it.
-#[derive(Drop)]
+#[derive(Clone, Copy)]
 pub enum Trial {
     Outside(f64),
     Inside(Stop),
 }
 
 // Where the target was found: the stop, with the segment's number and the parameter.
-#[derive(Drop)]
+#[derive(Clone, Copy)]
 pub struct Place {
     pub parameter: f64,
     pub ground: Ground,
@@ -115,7 +117,7 @@ pub struct Place {
 }
 
 // An answer: refused by a row of the table, not on the curve after so many evaluations, or a place.
-#[derive(Drop)]
+#[derive(Clone, Copy)]
 pub enum Inversion {
     Refused(Refusal),
     OffCurve(usize),

@@ -1,4 +1,6 @@
 // A table that is filled number by number: a further one goes into the next place, if there is one.
+#![tactic(auto)]
+
 ghost use Rattle.std.specs.Prelude.{◌≡◌, ◌≤◌, length};
 ghost use Rattle.keeper.specs.Table.{places};
 ghost use Rattle.keeper.specs.Contract.{Keeps};
@@ -7,7 +9,7 @@ ghost use Rattle.keeper.specs.Contract.{Keeps};
 pub const PLACES: usize = basis::MOST_KNOTS;
 
 // How many numbers stand in a table, and whether the last that came found a place.
-#[derive(Drop)]
+#[derive(Clone, Copy)]
 pub struct Kept {
     pub count: usize,
     pub taken: bool,

@@ -1,4 +1,6 @@
 // What the line program replies to a line, and the curve after it.
+#![tactic(auto)]
+
 ghost use Rattle.std.specs.Prelude.{◌≡◌, List, ℕ, ◌+◌, ◌≤◌, ◌<◌, Float, length};
 ghost use Rattle.std.proofs.Math.Seq.{slice};
 ghost use Rattle.lines_answer.specs.Answer.{none, places, reply_to, after_of};
@@ -16,7 +18,7 @@ use lines_answer::Session;
 use lines_record::Record;
 
 // What is held after a line, and the place behind its reply.
-#[derive(Drop)]
+#[derive(Clone, Copy)]
 pub struct LineResult {
     pub held: Session,
     pub at: usize,
@@ -89,7 +91,7 @@ pub fn line(
 }
 
 // `len`: bytes of the current line in the lent 64; 65 means that the line is too long.
-#[derive(Drop)]
+#[derive(Clone, Copy)]
 pub struct LineReader {
     pub len: usize,
     pub held: Session,
@@ -107,7 +109,7 @@ pub fn begin() -> LineReader
 }
 
 // Where the program stands, where the text in `out` ends, and the chunk's first byte that was not taken.
-#[derive(Drop)]
+#[derive(Clone, Copy)]
 pub struct LinesFed {
     pub st: LineReader,
     pub at: usize,

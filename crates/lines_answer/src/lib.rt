@@ -1,4 +1,6 @@
 // What each record of a listing gets for a reply, and the curve after it.
+#![tactic(auto)]
+
 ghost use Rattle.std.specs.Prelude.{◌≡◌, List, ◌≤◌, Float, length, take};
 ghost use Rattle.spline.specs.Evaluation.{spline_of};
 ghost use Rattle.convert.specs.Conversion.{converted_of};
@@ -21,13 +23,13 @@ use spline::Evaluation;
 use table_span::Table;
 
 // The curve that is held: none before the first `curve`, then a basis with a span, by which ends it is inverted, and so many knots.
-#[derive(Drop)]
+#[derive(Clone, Copy)]
 pub enum Session {
     Nothing,
     Curve(Table, EndsBy, usize),
 }
 
-#[derive(Drop)]
+#[derive(Clone, Copy)]
 pub struct SessionReply {
     pub held: Session,
     pub told: LineReply,

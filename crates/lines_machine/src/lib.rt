@@ -1,4 +1,6 @@
 // Lines out of bytes, for every program that reads lines of at most 64 bytes.
+#![tactic(auto)]
+
 ghost use Rattle.std.specs.Prelude.{◌≡◌, ◌≤◌, length};
 ghost use Rattle.lines_machine.specs.Program.{widest};
 ghost use Rattle.lines_machine.specs.Bytes.{push};
@@ -20,7 +22,7 @@ pub fn pushed(len: usize, byte: u8, line: &mut [u8]) -> usize
 }
 
 // Where a stretch of one line stops, and how many bytes of the line stand in the lent 64; 65 means that the line is too long.
-#[derive(Drop)]
+#[derive(Clone, Copy)]
 pub struct LineCut {
     pub stop: usize,
     pub len: usize,

@@ -1,4 +1,6 @@
 // bin/lines, the line program: it reads, feeds and writes, in large pieces and fixed memory.
+#![tactic(auto)]
+
 ghost use Rattle.std.specs.Prelude.{◌≡◌, ◌≤◌, length};
 ghost use Rattle.lines_answer.specs.Answer.{places};
 ghost use Rattle.lines_answer.specs.Contract.{count_of};
@@ -11,7 +13,7 @@ ghost use Rattle.lines.specs.Contract.{state_of};
 use lines::LineReader;
 
 // Where the program stands, and whether each write succeeded.
-#[derive(Drop)]
+#[derive(Clone, Copy)]
 struct Chunked {
     st: LineReader,
     fine: bool,

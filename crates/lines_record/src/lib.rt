@@ -1,4 +1,6 @@
 // What a line of a listing says, which is its record.
+#![tactic(auto)]
+
 ghost use Rattle.std.specs.Prelude.{◌≡◌};
 ghost use Rattle.text_decimals.specs.Decimals.{number_in};
 ghost use Rattle.lines_record.specs.declared.Record.TheVariants.{Span, Ends};
@@ -8,7 +10,7 @@ use basis::Basis;
 use inverse_order::EndsBy;
 use text::HexNumber;
 
-#[derive(Drop)]
+#[derive(Clone, Copy)]
 pub enum Record {
     Curve(Basis),
     Span(u32),
@@ -21,7 +23,7 @@ pub enum Record {
 }
 
 // The first field of a record.
-#[derive(Drop)]
+#[derive(Clone, Copy)]
 pub enum Word {
     Curve,
     Span,
@@ -33,14 +35,14 @@ pub enum Word {
     Other,
 }
 
-#[derive(Drop)]
+#[derive(Clone, Copy)]
 pub enum BasisName {
     Is(Basis),
     Nothing,
 }
 
 // By which ends the curve is inverted, if a field names one.
-#[derive(Drop)]
+#[derive(Clone, Copy)]
 pub enum EndsName {
     Is(EndsBy),
     Nothing,

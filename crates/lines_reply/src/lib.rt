@@ -1,4 +1,6 @@
 // The replies, and the text of each.
+#![tactic(auto)]
+
 ghost use Rattle.std.specs.Prelude.{◌≡◌, ◌+◌, ◌*◌, ◌≤◌, length, [], ◌∷◌};
 ghost use Rattle.basis.specs.Basis.{most_knots};
 ghost use Rattle.error.specs.Refusals.{places_in};
@@ -28,7 +30,7 @@ use table_span::{Seconds, Table};
 pub const LONGEST: usize = 90145;
 
 // A reply to one line. The knots of a curve are the first ones, as many as it says, of a lent slice.
-#[derive(Drop)]
+#[derive(Clone, Copy)]
 pub enum LineReply {
     Nothing,
     Refused(Refusal),

@@ -1,4 +1,6 @@
 // A curve at many parameters, in one call: the rows of the table once, then every value into a lent slice.
+#![tactic(auto)]
+
 ghost use Rattle.std.specs.Prelude.{◌≡◌, length};
 ghost use Rattle.many.specs.Many.{many_of, values_of, left_by, told_of};
 
@@ -9,7 +11,7 @@ pub mod refusals;
 pub mod values;
 
 // Refusal 5 tells which parameter is NaN, the first such, from 0; every other tells what it tells elsewhere.
-#[derive(Drop)]
+#[derive(Clone, Copy)]
 pub enum ManyAnswer {
     Written,
     NotANumberAt(usize),

@@ -1,4 +1,6 @@
 // A Hermite table through rows of whole depths, whose curve never goes against rows that keep a direction. No floating point.
+#![tactic(auto)]
+
 ghost use Rattle.std.specs.Prelude.{◌≡◌, ◌++◌, min, ◌-◌, ◌*◌, ◌≤◌, ◌<◌, pos, neg_ℤ, nat_abs, length, drop};
 ghost use Rattle.std.proofs.Math.IntN.{sub_ℕ};
 ghost use Rattle.error.specs.Refusals.{first};
@@ -8,7 +10,7 @@ ghost use Rattle.monotone.specs.Table.{most, table_of, table_uses, made_of, left
 
 use error::{Refusal, Verdict};
 
-#[derive(Drop)]
+#[derive(Clone, Copy)]
 pub enum Made {
     Refused(Refusal),
     Wrote(usize),

@@ -1,4 +1,6 @@
 // A listing in, the picture of its last table out, as SVG.
+#![tactic(auto)]
+
 ghost use Rattle.std.specs.Prelude.{◌≡◌, List, [], ℕ, ◌≤◌, ◌+◌, Float, length, take};
 ghost use Rattle.convert.specs.Conversion.{converted_of};
 ghost use Rattle.text.specs.Wrote.{Wrote};
@@ -27,7 +29,7 @@ use table_span::Table;
 pub mod draw;
 
 // The curve, the targets asked of it, and the fault.
-#[derive(Drop)]
+#[derive(Clone, Copy)]
 pub struct PictureState {
     pub curve: Session,
     pub finds: Finds,
@@ -35,7 +37,7 @@ pub struct PictureState {
 }
 
 // `len`: bytes of the current line in the lent 64; 65 means that the line is too long.
-#[derive(Drop)]
+#[derive(Clone, Copy)]
 pub struct PictureReader {
     pub len: usize,
     pub held: PictureState,

@@ -1,4 +1,6 @@
 // The axes of the picture, a line and a label at round depths and times.
+#![tactic(auto)]
+
 ghost use Rattle.std.specs.Prelude.{◌≡◌, ◌≤◌, ◌+◌, length};
 ghost use Rattle.text.specs.Wrote.{Wrote};
 ghost use Rattle.picture_scale.specs.Bounds.{highest, Open};

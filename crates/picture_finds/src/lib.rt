@@ -1,4 +1,6 @@
 // The last eight targets asked, and what is drawn of each, the place or the refusal.
+#![tactic(auto)]
+
 ghost use Rattle.std.specs.Prelude.{◌≡◌, [], ◌≤◌, ◌+◌, min, length};
 ghost use Rattle.basis.specs.Basis.{most_knots};
 ghost use Rattle.text.specs.Wrote.{Wrote};
@@ -30,7 +32,7 @@ use picture_scale::Extent;
 use picture_scale::words::{put_label, put_number};
 
 // The last targets asked, the latest first; n of them, at most eight.
-#[derive(Drop)]
+#[derive(Clone, Copy)]
 pub struct Finds {
     pub n: usize,
     pub ys: [f64; 8],

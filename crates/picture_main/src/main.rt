@@ -1,4 +1,6 @@
 // bin/picture, the picture of a listing: it reads, feeds and at the end writes, in fixed memory.
+#![tactic(auto)]
+
 ghost use Rattle.std.specs.Prelude.{◌≡◌, ◌≤◌, length};
 ghost use Rattle.lines_machine.specs.Program.{widest};
 ghost use Rattle.lines_reply.specs.Contract.{longest};

@@ -1,4 +1,6 @@
 // The refusals in the picture, each a line of text at the upper left, and a line through the knot that is told.
+#![tactic(auto)]
+
 ghost use Rattle.std.specs.Prelude.{◌≤◌, ◌+◌, length};
 ghost use Rattle.error.specs.Refusals.{where_of};
 ghost use Rattle.text.specs.Wrote.{Wrote};
@@ -9,7 +11,7 @@ use error::{Refusal, Where};
 use picture_scale::words::put_number;
 
 // Why a line was refused last, if one was.
-#[derive(Drop)]
+#[derive(Clone, Copy)]
 pub enum Fault {
     Nothing,
     Is(Refusal),

@@ -1,4 +1,6 @@
 // Where things stand in the picture, in whole units of its view box.
+#![tactic(auto)]
+
 ghost use Rattle.std.specs.Prelude.{◌≡◌, ◌≤◌, ◌<◌, ◌+◌, ◌-◌, min, max, length, leb, ltb, ◌&&◌};
 ghost use Rattle.basis.specs.Basis.{most_knots, segments_of};
 ghost use Rattle.picture_scale.specs.Scale.{
@@ -25,7 +27,7 @@ use spline::Evaluation;
 pub mod words;
 
 // The least and the greatest height of what is drawn.
-#[derive(Drop)]
+#[derive(Clone, Copy)]
 pub struct Extent {
     pub lo: u64,
     pub hi: u64,

@@ -1,1 +1,2 @@
 // What a sheet without a fault promises: proofs/.
+#![tactic(auto)]

@@ -1,4 +1,6 @@
 // A sheet of decimals: a basis, then a depth a line.
+#![tactic(auto)]
+
 ghost use Rattle.std.specs.Prelude.{◌≡◌, ℕ, ◌+◌, ◌≤◌, length, take, get_or, eqb, Float, List, []};
 ghost use Rattle.text_decimals.specs.Decimals.{MINUS};
 ghost use Rattle.text.specs.Wrote.{Wrote};
@@ -18,14 +20,14 @@ use table_span::Table;
 use text::HexNumber;
 
 // What a line says of a depth: the sign and the thousandths, or nothing.
-#[derive(Drop)]
+#[derive(Clone, Copy)]
 pub enum Depth {
     Is(bool, u64),
     Nothing,
 }
 
 // What is held of a sheet: no line yet; a basis and the number of depths so far; or why a line is at fault.
-#[derive(Drop)]
+#[derive(Clone, Copy)]
 pub enum SheetState {
     Unbegun,
     On(Basis, usize),
@@ -154,7 +156,7 @@ pub fn end(h: SheetState, table: &[f64], out: &mut [u8], at: usize) -> usize
 }
 
 // `len`: bytes of the current line in the lent 64; 65 means that the line is too long.
-#[derive(Drop)]
+#[derive(Clone, Copy)]
 pub struct SheetReader {
     pub len: usize,
     pub held: SheetState,

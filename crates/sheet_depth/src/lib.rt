@@ -1,4 +1,6 @@
 // A depth in whole thousandths as a double.
+#![tactic(auto)]
+
 ghost use Rattle.std.specs.Prelude.{◌≡◌, ◌≤◌};
 ghost use Rattle.sheet_depth.specs.Depth.{greatest, depth_of};
 

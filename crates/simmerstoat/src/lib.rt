@@ -1,6 +1,8 @@
 // What C and Rust call: every function of the library by a plain name, with a basis by its number.
 // A reply is 0, or a refusal's number in the lowest eight bits with its place above them. Each export but a table's value is one call of a
 // function of `exports_*`, under the same contract.
+#![tactic(auto)]
+
 ghost use Rattle.std.specs.Prelude.{◌≡◌, cond, length};
 ghost use Rattle.basis.specs.Basis.{length_ok};
 ghost use Rattle.spline.specs.Evaluation.{spline_of, spline_segment_of};

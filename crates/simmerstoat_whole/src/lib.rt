@@ -1,4 +1,6 @@
 // What C and Rust call of the calls in whole numbers: where a curve turns back, and a table that cannot. No floating point.
+#![tactic(auto)]
+
 ghost use Rattle.std.specs.Prelude.{◌≡◌, length};
 ghost use Rattle.whole.specs.Held.{held_all};
 ghost use Rattle.turns_back.specs.Call.{turns_back_by_of, turns_back_of};

@@ -8,7 +8,7 @@ ghost use Rattle.spline.specs.Contract.{IsSpot};
 use basis::Basis;
 
 // A segment, and the local place in it.
-#[derive(Drop)]
+#[derive(Clone, Copy)]
 pub struct Spot {
     pub s: usize,
     pub t: f64,

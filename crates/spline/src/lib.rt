@@ -1,4 +1,6 @@
 // Evaluation of a curve and of one segment. Rust: `spline` and `spline_segment` of src/spline_trait.rs.
+#![tactic(auto)]
+
 ghost use Rattle.std.specs.Prelude.{◌≡◌};
 ghost use Rattle.spline.specs.Evaluation.{spline_of, spline_segment_of};
 
@@ -9,14 +11,14 @@ pub mod curve;
 pub mod refusals;
 pub mod segment;
 
-#[derive(Drop)]
+#[derive(Clone, Copy)]
 pub enum Evaluation {
     Value(f64),
     Refused(Refusal),
 }
 
 // The four row sums of a segment: the coefficients of its cubic, that of the third power first.
-#[derive(Drop)]
+#[derive(Clone, Copy)]
 pub struct RowSums {
     pub w0: f64,
     pub w1: f64,

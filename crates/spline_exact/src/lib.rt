@@ -1,1 +1,2 @@
 // Evaluation without rounding, on whole knots: definitions in specs/, theorems in proofs/.
+#![tactic(auto)]

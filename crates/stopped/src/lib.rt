@@ -1,4 +1,6 @@
 // What the depth at which a job stopped says of the job: how far it had come, and where that cannot be told.
+#![tactic(auto)]
+
 ghost use Rattle.std.specs.Prelude.{◌≡◌, true, false, ◌≤◌, length};
 ghost use Rattle.basis.specs.Basis.{most_knots};
 ghost use Rattle.stopped.specs.Contract.{is_end, by_end};
@@ -15,7 +17,7 @@ use table_span::Table;
 
 // Refused by a row of the table; not on the curve after so many evaluations; the curve's two ends are equal, so that no depth says
 // anything; before the start, at the start, under way with the second and the place, at the end, beyond the end.
-#[derive(Drop)]
+#[derive(Clone, Copy)]
 pub enum Job {
     Refused(Refusal),
     OffCurve(usize),

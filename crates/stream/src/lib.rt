@@ -1,5 +1,7 @@
 // Standard input and output in pieces: what the loop of every program over lines shares.
 // Where a read or a write fails, standard error is told.
+#![tactic(auto)]
+
 ghost use Rattle.std.specs.Prelude.{◌≡◌, true, false, ◌≤◌, ◌<◌, ltb, length};
 ghost use Rattle.libc.specs.Io.{Moved};
 ghost use Rattle.stream.specs.Stream.{got_of, left_of};
@@ -7,7 +9,7 @@ ghost use Rattle.stream.specs.Stream.{got_of, left_of};
 use libc::{STDERR_FILENO, STDIN_FILENO, STDOUT_FILENO};
 
 // How many bytes a read brought; whether it did not fail, and whether to read on.
-#[derive(Drop)]
+#[derive(Clone, Copy)]
 pub struct Got {
     pub n: usize,
     pub fine: bool,

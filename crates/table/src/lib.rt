@@ -1,4 +1,6 @@
 // The calls on a table of depths with its span.
+#![tactic(auto)]
+
 ghost use Rattle.std.specs.Prelude.{◌≡◌, true, length};
 ghost use Rattle.convert.specs.Buffer.{answer_of, buffer_of};
 ghost use Rattle.inverse_order.specs.declared.EndsBy.TheVariants.{Knots};
@@ -17,7 +19,7 @@ use spline::Evaluation;
 use table_span::Table;
 
 // An inversion's answer; a place comes with its second.
-#[derive(Drop)]
+#[derive(Clone, Copy)]
 pub enum TableInversion {
     Refused(Refusal),
     OffCurve(usize),
@@ -25,7 +27,7 @@ pub enum TableInversion {
 }
 
 // A conversion's answer: the new table, and how many knots it has.
-#[derive(Drop)]
+#[derive(Clone, Copy)]
 pub enum TableConversion {
     Refused(Refusal),
     On(Table, usize),

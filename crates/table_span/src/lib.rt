@@ -1,4 +1,6 @@
 // A table's basis and its span in seconds from dusk, and the second of a place.
+#![tactic(auto)]
+
 ghost use Rattle.std.specs.Prelude.{◌≡◌, true, ◌∷◌, ◌≤◌};
 ghost use Rattle.error.specs.declared.Refusal.TheVariants.{BadSpan};
 ghost use Rattle.error.specs.declared.Verdict.TheVariants.{Failed};
@@ -10,14 +12,14 @@ use basis::Basis;
 use error::{Refusal, Verdict};
 
 // A table without its knots, which are lent beside it. A span of 0 stands for none.
-#[derive(Drop)]
+#[derive(Clone, Copy)]
 pub struct Table {
     pub basis: Basis,
     pub span: u32,
 }
 
 // The second of a place, where the span is good.
-#[derive(Drop)]
+#[derive(Clone, Copy)]
 pub enum Seconds {
     Nothing,
     At(u32),

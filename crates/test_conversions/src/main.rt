@@ -1,5 +1,7 @@
 // Runs conversions and prints what each leaves: readings, all pairs at the ends of the range, boundaries, a curve that is not kept,
 // and the elimination beside its constants.
+#![tactic(auto)]
+
 use basis::Basis;
 use convert::ConversionAnswer;
 use spline::Evaluation;

@@ -1,5 +1,7 @@
 // Many inversions, every answer judged by evaluating again: of curves and of single segments, by either rule of the ends, by each method.
 // Prints how many answers there were of each kind, and how many of them broke a promise.
+#![tactic(auto)]
+
 ghost use Rattle.std.specs.Prelude.{◌≡◌, ◌<◌, ◌≤◌, length};
 
 use basis::Basis;
@@ -9,7 +11,7 @@ use inverse_segment::{Ground, Inversion, Method, Place};
 use spline::Evaluation;
 
 // What is asked of a curve of k segments, each `step` knots after the one before.
-#[derive(Drop)]
+#[derive(Clone, Copy)]
 struct Question {
     b: Basis,
     step: usize,

@@ -1,4 +1,6 @@
 // The worked readings, run by the calls and printed, a line each. Those of specs/Readings.antt are proved too; the last three are only run.
+#![tactic(auto)]
+
 use basis::Basis;
 use convert::ConversionAnswer;
 use error::Refusal;

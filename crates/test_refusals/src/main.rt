@@ -1,4 +1,6 @@
 // Evaluation on bad input: lengths, parameters, knots, and several faults at once. `taken` stands for a value.
+#![tactic(auto)]
+
 ghost use Rattle.std.specs.Prelude.{◌+◌, ◌≤◌, ◌<◌, length};
 
 use basis::Basis;

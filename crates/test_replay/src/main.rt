@@ -1,5 +1,7 @@
 // Replays stored answers: standard input has a case to a line, and the port must answer each as it is stored.
 // README.md beside this folder says what a line holds and how the list was made.
+#![tactic(auto)]
+
 ghost use Rattle.std.specs.Prelude.{◌+◌, ◌<◌, ◌≤◌};
 
 use simmerstoat::claims::simmerstoat_check_claim;
@@ -23,7 +25,7 @@ use simmerstoat::{
 };
 
 // The line until now: its letter, how many words are whole, and the word that is being read, if a digit was seen.
-#[derive(Drop)]
+#[derive(Clone, Copy)]
 struct Line {
     pub letter: u8,
     pub words: usize,
@@ -32,7 +34,7 @@ struct Line {
 }
 
 // Lines that were compared, those that were equal, and the knots in the table.
-#[derive(Drop)]
+#[derive(Clone, Copy)]
 struct Tally {
     pub compared: u64,
     pub equal: u64,
@@ -124,7 +126,7 @@ fn place_equal(reply: u32, place: [f64; 4], whole: [usize; 3], w: [u64; 64]) -> 
 }
 
 // What the line of an inversion asks: its first five words, and those past reply and record.
-#[derive(Drop)]
+#[derive(Clone, Copy)]
 struct Question {
     pub basis: u8,
     pub y: f64,
@@ -438,7 +440,7 @@ fn step(line: Line, b: u8, w: &mut [u64; 64]) -> Line {
 }
 
 // Both, from byte to byte.
-#[derive(Drop)]
+#[derive(Clone, Copy)]
 struct Run {
     pub line: Line,
     pub tally: Tally,

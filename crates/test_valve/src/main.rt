@@ -1,4 +1,6 @@
 // The valves' readings, run by the call and printed, a line each.
+#![tactic(auto)]
+
 use error::Refusal;
 use valve::Mixture;
 

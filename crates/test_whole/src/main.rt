@@ -1,11 +1,13 @@
 // Replays stored answers of the calls in whole numbers: standard input has a case to a line, and the port must answer each as it is stored.
 // README.md beside this folder says what a line holds and how the list was made.
+#![tactic(auto)]
+
 ghost use Rattle.std.specs.Prelude.{◌≤◌};
 
 use simmerstoat_whole::{simmerstoat_monotone, simmerstoat_turns_back, simmerstoat_turns_back_by};
 
 // The line until now: its letter, how many words are whole, and the word that is being read, if a digit was seen.
-#[derive(Drop)]
+#[derive(Clone, Copy)]
 struct Line {
     pub letter: u8,
     pub words: usize,
@@ -14,7 +16,7 @@ struct Line {
 }
 
 // Lines that were compared, those that were equal, and the numbers in the table.
-#[derive(Drop)]
+#[derive(Clone, Copy)]
 struct Tally {
     pub compared: u64,
     pub equal: u64,
@@ -212,7 +214,7 @@ fn step(line: Line, b: u8, w: &mut [u64; 64]) -> Line {
 }
 
 // Both, from byte to byte.
-#[derive(Drop)]
+#[derive(Clone, Copy)]
 struct Run {
     pub line: Line,
     pub tally: Tally,

@@ -1,4 +1,6 @@
 // Words, hexadecimal numbers, decimals and doubles as text.
+#![tactic(auto)]
+
 ghost use Rattle.std.specs.Prelude.{◌≡◌, [], ◌∷◌, ◌+◌, ◌≤◌, ◌<◌, ◌^◌, length, get_or};
 ghost use Rattle.std.specs.Float.Ieee.{to_bits};
 ghost use Rattle.std.specs.Float.{binary64};
@@ -6,7 +8,7 @@ ghost use Rattle.text.specs.Text.{same, fields_of, place_of, digit_of, hex_of, g
 ghost use Rattle.text.specs.Wrote.{Wrote};
 
 // What some digits say: a number, or nothing.
-#[derive(Drop)]
+#[derive(Clone, Copy)]
 pub enum HexNumber {
     Is(u64),
     Nothing,

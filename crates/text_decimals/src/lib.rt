@@ -1,4 +1,6 @@
 // Decimal digits read as whole numbers, and as thousandths with a point.
+#![tactic(auto)]
+
 ghost use Rattle.std.specs.Prelude.{◌≡◌, ◌≤◌, ◌<◌, length};
 ghost use Rattle.text_decimals.specs.Decimals.{digit_in, number_in, behind_of, thousandths_of};
 

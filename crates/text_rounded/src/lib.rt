@@ -1,4 +1,6 @@
 // A double's bit pattern as a decimal, rounded to d digits behind the point in whole numbers alone.
+#![tactic(auto)]
+
 ghost use Rattle.std.specs.Prelude.{◌≡◌, ◌&&◌, ◌+◌, ◌*◌, ◌≤◌, ◌<◌, ◌^◌, ltb, length};
 ghost use Rattle.std.specs.Float.Ieee.Nearest.{closest};
 ghost use Rattle.text.specs.Text.{dec_text};

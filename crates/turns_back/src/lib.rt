@@ -1,4 +1,6 @@
 // Whether a curve over whole knots turns back: decided exactly, in whole numbers. No floating point.
+#![tactic(auto)]
+
 ghost use Rattle.std.specs.Prelude.{◌≡◌, [], ◌∷◌, ◌+◌, ◌-◌, ◌*◌, ◌≤◌, ◌<◌, leb, nat_abs, length, drop};
 ghost use Rattle.std.proofs.Math.IntN.{sub_ℕ};
 ghost use Rattle.error.specs.Refusals.{first};
@@ -13,7 +15,7 @@ ghost use Rattle.turns_back.specs.Four.{four_never_fall, four_at, FourFrom};
 use basis::Basis;
 use error::{Refusal, Verdict};
 
-#[derive(Drop)]
+#[derive(Clone, Copy)]
 pub enum Turning {
     Refused(Refusal),
     Flat,
@@ -22,7 +24,7 @@ pub enum Turning {
 }
 
 // From the curve's start to its end.
-#[derive(Drop)]
+#[derive(Clone, Copy)]
 pub enum Way {
     Rising,
     Falling,
@@ -30,7 +32,7 @@ pub enum Way {
 }
 
 // A product in two parts: the higher in 2^48s.
-#[derive(Drop)]
+#[derive(Clone, Copy)]
 struct Parts {
     top: u64,
     rest: u64,
@@ -171,7 +173,7 @@ fn is_power_start_no_lower(up: bool, knots: &[i64], s: usize) -> bool
 }
 
 // Four knots, each raised by 10^12.
-#[derive(Drop)]
+#[derive(Clone, Copy)]
 struct Four {
     k0: u64,
     k1: u64,

@@ -1,4 +1,6 @@
 // A curve over uneven times: a table of times is inverted, and a table of depths evaluated there. Rust: the example of src/lib.rs.
+#![tactic(auto)]
+
 ghost use Rattle.std.specs.Prelude.{◌≡◌, ◌<◌};
 ghost use Rattle.inverse_segment.specs.Answer.{count_told};
 ghost use Rattle.uneven.specs.Uneven.{depth_at, suited, unsuited, depth_of};
@@ -10,14 +12,14 @@ use inverse_segment::{Inversion, Place};
 use spline::Evaluation;
 
 // Which of the two tables a refusal is about.
-#[derive(Drop)]
+#[derive(Clone, Copy)]
 pub enum WhichTable {
     Times,
     Depths,
 }
 
 // The depth, the record of the inversion, and the evaluations of both tables.
-#[derive(Drop)]
+#[derive(Clone, Copy)]
 pub struct Depth {
     pub depth: f64,
     pub place: Place,
@@ -25,7 +27,7 @@ pub struct Depth {
 }
 
 // Refused by a row of a table, the target not on the curve of the times after so many evaluations, or a depth.
-#[derive(Drop)]
+#[derive(Clone, Copy)]
 pub enum DepthAnswer {
     Refused(WhichTable, Refusal),
     OffCurve(usize),

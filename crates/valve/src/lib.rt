@@ -1,4 +1,6 @@
 // Valves that count in whole steps: four whole knots, mixed by stored weights. No floating point.
+#![tactic(auto)]
+
 ghost use Rattle.std.specs.Prelude.{◌≡◌, ◌≤◌, length, pos, nat_abs, ◌+ℤ◌, ◌*ℤ◌};
 ghost use Rattle.std.specs.Int.{w64};
 ghost use Rattle.std.proofs.Common.{SFits};
@@ -12,7 +14,7 @@ use weights::Four;
 pub mod arms;
 pub mod weights;
 
-#[derive(Drop)]
+#[derive(Clone, Copy)]
 pub enum Mixture {
     Refused(Refusal),
     Mixed(i64),

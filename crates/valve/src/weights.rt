@@ -110,7 +110,7 @@ const WEIGHTS: [u32; 1028] = [
 ];
 
 // The weights of one step.
-#[derive(Drop)]
+#[derive(Clone, Copy)]
 pub struct Four {
     pub w0: u32,
     pub w1: u32,

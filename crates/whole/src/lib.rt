@@ -1,4 +1,6 @@
 // Whole numbers of a lent slice: how large they are, and each raised so that none is negative. No floating point.
+#![tactic(auto)]
+
 ghost use Rattle.std.specs.Prelude.{◌≡◌, ◌*◌, ◌≤◌, nat_abs, length};
 ghost use Rattle.std.proofs.Math.IntN.{sub_ℕ};
 ghost use Rattle.whole.specs.Held.{held_all, turned, small, first_large};
