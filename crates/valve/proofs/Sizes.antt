@@ -46,7 +46,7 @@ fits z n h k = lt_of_le_of_lt (mag_le z) (lt_of_le_of_lt h k)
 
 -- ---- a signed local holds bits: what is read back from them
 pub back : (z : ℤ) (n : ℕ) → nat_abs z ≤ n → n < 2 ^ 63 → held z ≡ z
-back z n h l = to_z-of_z (sfits_of (fits z n h l))
+back z n h l = to_z-of_z (sfits_of {w = w64} (fits z n h l))
 
 pub held_is : (z : ℤ) → SFits w64 z → held z ≡ z
 held_is z f = to_z-of_z f

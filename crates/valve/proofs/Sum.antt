@@ -4,7 +4,7 @@ use mathlib.Core.List.{List}
 use Prim.Native.Nat.{ℕ, ◌≤◌}
 use lib.IntN.{ℤ, pos, nat_abs, ◌+ℤ◌, ◌*ℤ◌}
 use lib.Dec.{lit<}
-use Rattle.valve.specs.Mix.{weight_of, held, knot_of, mix_of}
+use Rattle.valve.specs.Mix.{held, knot_of, mix_of}
 use Rattle.valve.specs.Contract.{FourOf, weighted_of}
 use Rattle.valve.proofs.Sizes.{back, plus_is}
 

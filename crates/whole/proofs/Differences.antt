@@ -4,7 +4,7 @@ use mathlib.Core.Bool.{Bool, true, false, cond}
 use Prim.Native.Nat.{ℕ, zero, suc, ◌+◌, ◌-◌, ◌*◌, ◌≤◌, ◌<◌}
 use native.Mathlib.Omega.{arith}
 use lib.IntN.{ℤ, pos, negsuc, neg_ℤ, nat_abs, sub_ℕ, ◌+ℤ◌, ◌-ℤ◌, ◌*ℤ◌}
-use lib.Dec.{T, ltb, leb, le→leb, leb→le, lt→ltb, ltb→lt}
+use lib.Dec.{T, ltb, le→leb, leb→le, lt→ltb, ltb→lt}
 use lib.Signed.{le_z, le_z_yes, ◌≤ℤ◌, lt_z, lt_z_yes, ◌<ℤ◌}
 use borrow.Author.Tests.{ltb-true, ltb-false, leb-false}
 use Rattle.error.proofs.First.{never}
