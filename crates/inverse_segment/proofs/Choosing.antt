@@ -52,11 +52,10 @@ next_width i e = rw (add-one) (ap (λ (z : Float). mul binary64 z half) e)
 
 -- ---- by a method
 -- the first two go by the chord
-pub first_two : (how : Method) → (tag_of the_type how ≡ 0) ⊎ (tag_of the_type how ≡ 1) → chord (weighting_of how) ≡ rule_of how
+pub first_two : (how : Method) → (how ≡ Steady → ⊥) → chord (weighting_of how) ≡ rule_of how
 first_two AsCrate h = refl
 first_two Taught h = refl
-first_two Steady (inl e) = absurd (omega (arith, e))
-first_two Steady (inr e) = absurd (omega (arith, e))
+first_two Steady h = absurd (h refl)
 
 module _ (how : Method) (y : Float) (regula_falsi : Bool) (width : Float) (st : State) {r : NextPlace} where
   pub by_chord : chord (weighting_of how) ≡ rule_of how → ChordIs how y regula_falsi st r → ChoiceIs how y regula_falsi width st r

@@ -1,6 +1,6 @@
 -- What the two calls of evaluation answer on whole knots: no row of the refusals applies but those of the lengths, and the value is exact. Assumes nothing.
 use mathlib.Core.Path.{◌≡◌, refl, sym, ap, ◌∙◌}
-use mathlib.Core.Bool.{Bool, true, false, not, ◌&&◌}
+use mathlib.Core.Bool.{Bool, true, false, ◌&&◌}
 use mathlib.Core.List.{List, [], ◌∷◌}
 use Prim.Native.Nat.{ℕ, zero, suc, ◌+◌, ◌-◌, ◌*◌, ◌^◌, ◌≤◌, ◌<◌}
 use native.Mathlib.Nat.{le_trans}
@@ -21,7 +21,6 @@ use Rattle.doubles.proofs.Order.{ne_itself}
 use Rattle.doubles.proofs.WholePart.{whole_le}
 use Rattle.doubles.proofs.Bounds.{within_between}
 use Rattle.doubles.proofs.Exact.{forget, of_number, exactly_within, number_above, whole_exactly, share_exactly}
-use Rattle.spline.specs.declared.Evaluation.TheVariants.{Value}
 use Rattle.spline.specs.Segment.{segment_value}
 use Rattle.checks.specs.Checks.{bound, in_range, all_in_range, curve_length}
 use Rattle.spline.specs.Curve.{segment_at, local_at, curve_value}

@@ -60,7 +60,7 @@ loop-again c =
       search rules,
       search rules,
       ran_on ask_program _ c.before.before.before.before.before.before.before.before.before.before.before.before.before.before.before.before.before.before.before.before.before.before.before.before.before.before.args.chunk.now l.«from» f.result.next
-          l.inv.0 f.ensures.1.1.0 l.inv.3 f.ensures.0,
+          l.invariant.0 f.ensures.1.1.0 l.invariant.3 f.ensures.0,
       search rules,
       search rules,
       search rules,

@@ -20,11 +20,11 @@ decreases-loop chunk₀ begun₀ table₀ converted₀ out₀ st₀ fine₀ left
 
 loop-again : tie.Need-loop-preserved invariant-loop decreases-loop
 loop-again c = let l = c.before.before.before.before.before.before.before.before.before.before.before.before.before.before.before.before.before.before.before.before.before.before.before.before.before.before.loop in (
-  omega (arith, l.inv.0),
-  omega (arith, l.inv.1),
-  omega (arith, l.inv.2),
-  omega (arith, l.inv.3),
-  omega (arith, l.inv.4),
+  omega (arith, l.invariant.0),
+  omega (arith, l.invariant.1),
+  omega (arith, l.invariant.2),
+  omega (arith, l.invariant.3),
+  omega (arith, l.invariant.4),
   c.before.before.before.before.before.before.before.before.before.before.before.before.before.before.feed-all.ensures.1,
 )
 

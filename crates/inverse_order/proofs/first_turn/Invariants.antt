@@ -1,11 +1,8 @@
 -- The invariant: no step before i turns back, so the first that does is looked for from i on.
-use mathlib.Core.Path.{◌≡◌, refl, sym, ◌∙◌}
+use mathlib.Core.Path.{◌≡◌}
 use Prim.Native.Nat.{◌+◌, ◌-◌, ◌≤◌}
-use native.Mathlib.Omega.{arith}
-use borrow.Author.Rules.{rules}
 use lib.ListN.{length, drop}
 use Rattle.inverse_order.specs.Order.{turns_at}
-use Rattle.inverse_order.proofs.TurnsBack.{turn_later, turn_here, turn_none}
 use Rattle.inverse_order.proofs.first_turn.Given as goal
 
 abbrev pub invariant-loop-i : goal.invariant-loop-i

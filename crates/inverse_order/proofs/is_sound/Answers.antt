@@ -6,7 +6,6 @@ use native.Mathlib.Omega.{arith}
 use lib.ListN.{length, drop}
 use Rattle.inverse_order.specs.Contract.{kept}
 use Rattle.inverse_order.proofs.Verdicts.{sound_in, sound_out}
-use borrow.Author.Rules.{rules}
 use Rattle.inverse_order.proofs.is_sound.Goals as goal
 
 pub returns-then-in_range-3 : goal.returns-then-in_range-3

@@ -3,7 +3,6 @@ use mathlib.Core.Path.{sym, ap, ◌∙◌}
 use mathlib.Core.Bool.{Bool}
 use lib.ListN.{drop}
 use Rattle.inverse_order.specs.Contract.{kept}
-use borrow.Author.Rules.{rules}
 use Rattle.inverse_order.proofs.keeps.Goals as goal
 
 pub returns-then-rising : goal.returns-then-rising

@@ -1,10 +1,8 @@
 -- Each way out is the first of the two rows that applies, with its place; the quick scan only tells that neither does.
 use mathlib.Core.Path.{sym, ◌∙◌}
-use borrow.Author.Tests.{not-true, not-false}
 use Rattle.checks.specs.Checks.{all_in_range, first_bad}
 use Rattle.inverse_order.specs.Order.{turns_back, turning_knot}
 use Rattle.inverse_order.proofs.Verdicts.{knots_unchecked, knots_sound, knots_stop, knots_turn}
-use borrow.Author.Rules.{rules}
 use Rattle.inverse_order.proofs.knots_verdict.Goals as goal
 
 pub returns-then-not-check : goal.returns-then-not-check

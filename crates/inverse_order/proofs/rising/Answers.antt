@@ -1,6 +1,5 @@
 -- The code compares the definition's two knots; both lie in the slice, since there are four or more.
 use mathlib.Core.Path.{refl}
-use borrow.Author.Rules.{rules}
 use Rattle.inverse_order.proofs.rising.Goals as goal
 
 pub returns : goal.returns

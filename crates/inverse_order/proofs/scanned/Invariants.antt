@@ -1,13 +1,9 @@
 -- The invariant: the flag, together with the pairs still to come, is the test of all pairs.
-use borrow.Author.Rules.{rules}
-use mathlib.Core.Path.{◌≡◌, refl}
+use mathlib.Core.Path.{◌≡◌}
 use mathlib.Core.Bool.{◌&&◌}
 use Prim.Native.Nat.{◌+◌, ◌-◌, ◌≤◌}
-use native.Mathlib.Omega.{arith}
-use borrow.Author.Rules.{rules}
 use lib.ListN.{length, drop}
 use Rattle.inverse_order.specs.Contract.{kept}
-use Rattle.inverse_order.proofs.Scan.{scanned, scanned_all}
 use Rattle.inverse_order.proofs.scanned.Given as goal
 
 abbrev pub invariant-loop-i : goal.invariant-loop-i

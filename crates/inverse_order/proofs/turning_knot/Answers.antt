@@ -5,7 +5,6 @@ use Prim.Native.Nat.{ℕ}
 use lib.ListN.{drop}
 use Rattle.error.specs.declared.Refusal.TheVariants.{TurnsBack}
 use Rattle.inverse_order.specs.Order.{turns_at}
-use borrow.Author.Rules.{rules}
 use Rattle.inverse_order.proofs.turning_knot.Goals as goal
 
 pub returns : goal.returns

@@ -54,18 +54,18 @@ loop-again c = let a = c.before.before.before.before.before.before.before.before
     let k = c.before.before.before.before.before.before.before.before.before.before.before.before.before.before.cut in
     let w = c.before.before.before.before.before.before.line.ensures in
     let t = c.before.before.before.before.before.before.before.before.before.before.before.if2.true in (
-      omega (arith, l.inv.0, k.ensures.after),
+      omega (arith, l.invariant.0, k.ensures.after),
       omega (arith, t),
-      omega (arith, l.inv.2),
+      omega (arith, l.invariant.2),
       omega (arith, w.1.1.0.long, w.1.1.1),
-      omega (arith, w.1.1.1, l.inv.4, k.ensures.after),
-      fed_line line_program a.chunk.now a.from k.result.stop (omega (arith, l.inv.0, k.ensures.after)) t
-          (fed_stretch line_program a.chunk.now a.from l.i k.result.stop l.inv.0 l.inv.1 l.inv.5 k.ensures) (k.ensures.end t)
+      omega (arith, w.1.1.1, l.invariant.4, k.ensures.after),
+      fed_line line_program a.chunk.now a.from k.result.stop (omega (arith, l.invariant.0, k.ensures.after)) t
+          (fed_stretch line_program a.chunk.now a.from l.i k.result.stop l.invariant.0 l.invariant.1 l.invariant.5 k.ensures) (k.ensures.end t)
           w.0 w.1.1.0,
-      omega (arith, l.inv.6),
-      omega (arith, l.inv.7),
+      omega (arith, l.invariant.6),
+      omega (arith, l.invariant.7),
       w.1.0,
-      l.inv.9,
+      l.invariant.9,
     )
 
 loop-again-2 : tie.Need-loop-preserved-2 invariant-loop decreases-loop

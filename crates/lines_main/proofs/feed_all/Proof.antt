@@ -39,12 +39,12 @@ loop-again : tie.Need-loop-preserved invariant-loop decreases-loop
 loop-again c = let l = c.before.before.before.before.before.before.before.before.before.before.before.before.before.before.before.before.before.before.loop in
     let f = c.before.before.before.before.before.before.before.before.before.before.before.before.feed in (
       f.ensures.1.1.1.0,
-      omega (arith, l.inv.1),
-      omega (arith, l.inv.2),
-      ran_on line_program _ c.before.before.before.before.before.before.before.before.before.before.before.before.before.before.before.before.before.before.before.before.before.before.before.before.args.chunk.now l.«from» f.result.next l.inv.0
-          f.ensures.1.1.0 l.inv.3 f.ensures.0,
-      omega (arith, l.inv.4),
-      omega (arith, l.inv.5),
+      omega (arith, l.invariant.1),
+      omega (arith, l.invariant.2),
+      ran_on line_program _ c.before.before.before.before.before.before.before.before.before.before.before.before.before.before.before.before.before.before.before.before.before.before.before.before.args.chunk.now l.«from» f.result.next l.invariant.0
+          f.ensures.1.1.0 l.invariant.3 f.ensures.0,
+      omega (arith, l.invariant.4),
+      omega (arith, l.invariant.5),
       f.ensures.1.0,
     )
 

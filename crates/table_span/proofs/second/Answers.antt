@@ -1,9 +1,7 @@
 -- The invariant says that the second lies from `low` to `high`; each comparison keeps it, and the distance between the two falls.
-use borrow.Author.Rules.{rules}
-use Prim.Native.Nat.{◌+◌, ◌-◌, ◌/◌}
+use Prim.Native.Nat.{◌+◌, ◌/◌}
 use native.Mathlib.Omega.{arith}
-use Rattle.doubles.proofs.WholePart.{Halving, begun, raised, lowered, met}
-use Rattle.table_span.specs.Second.{elapsed}
+use Rattle.doubles.proofs.WholePart.{begun, raised, lowered, met}
 use Rattle.table_span.proofs.Largest.{told}
 use Rattle.table_span.proofs.second.Goals as goal
 

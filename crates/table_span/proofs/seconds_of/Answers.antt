@@ -1,7 +1,6 @@
 -- A good span is at most a day, which is what the second's function asks for; without one there is no second.
 use mathlib.Core.Path.{sym, ◌∙◌}
 use Rattle.table_span.proofs.Spans.{good_least}
-use borrow.Author.Rules.{rules}
 use Rattle.table_span.proofs.seconds_of.Goals as goal
 
 pub second-requires : goal.second-requires

@@ -1,6 +1,5 @@
 -- A length that fails is told (`by_length`); otherwise 14 is the first row that applies (`by_span`).
 use Rattle.table_span.proofs.Spans.{by_length, by_span}
-use borrow.Author.Rules.{rules}
 use Rattle.table_span.proofs.without_span.Goals as goal
 
 pub returns-in-Failed : goal.returns-in-Failed
