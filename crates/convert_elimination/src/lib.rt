@@ -13,7 +13,7 @@ ghost use Rattle.convert_matrix.specs.Elimination.{
   reduced,
   cleared_row,
   goes,
-  no-inverse,
+  no_inverse,
 };
 ghost use Rattle.convert_elimination.specs.Contract.{shown, Found};
 
@@ -158,7 +158,7 @@ fn right_half(a: [[f64; 8]; 4]) -> Inverse
 
 // A matrix without a pivot has no inverse.
 fn no_inverse() -> Inverse
-    ensures { result ≡ shown no-inverse }
+    ensures { result ≡ shown no_inverse }
 {
     let zeros = [0.0, 0.0, 0.0, 0.0];
     Inverse {

@@ -1,12 +1,9 @@
 -- The next place of each method by what the code's calls give: the chord's, the one at the pace. Assumes nothing.
 use mathlib.Core.Path.{◌≡◌, refl, ap, subst}
-use mathlib.Core.Logic.{◌⊎◌, inl, inr}
 use mathlib.Core.Bool.{Bool, true, false}
 use Prim.Native.Nat.{ℕ, ◌+◌}
 use native.Mathlib.Numerals.{add-one}
-use native.Mathlib.Omega.{arith}
 use lib.IntN.{pos}
-use denote.Enum.Declared.{tag_of}
 use lib.Ieee.{Float, fin, binary64, sub, mul, div, lt}
 use Rattle.doubles.specs.Numbers.{half}
 use Rattle.doubles.specs.Lerp.{lerp_of}
@@ -14,7 +11,6 @@ use Rattle.inverse_segment.specs.declared.Bracket.{Bracket}
 use Rattle.inverse_segment.specs.declared.State.{State}
 use Rattle.inverse_segment.specs.declared.Method.{Method}
 use Rattle.inverse_segment.specs.declared.Method.TheVariants.{AsCrate, Taught, Steady}
-use Rattle.inverse_segment.specs.contracts.Method.{the_type}
 use Rattle.inverse_segment.specs.declared.NextPlace.{NextPlace}
 use Rattle.inverse_segment.specs.Round.{Weighting, toward, midpoint, uses_regula_falsi, weighed, fraction, Rule, chord}
 use Rattle.inverse_segment.specs.Steady.{allowed, inner, secant, paced, steady}

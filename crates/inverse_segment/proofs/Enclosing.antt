@@ -7,9 +7,9 @@ use Prim.Native.Nat.{ℕ, suc, ◌+◌, ◌≤◌}
 use native.Mathlib.Omega.{arith}
 use lib.Dec.{T}
 use lib.ListN.{length}
-use lib.Ieee.{Float, fin, binary64, sub, mul, lt, le, is_nan}
+use lib.Ieee.{Float, binary64, sub, mul, lt, le, is_nan}
 use lib.Ieee.Fits.{sub-fits}
-use Rattle.doubles.specs.Numbers.{nought, one, half, trillionth, magnitude_of}
+use Rattle.doubles.specs.Numbers.{nought, one, trillionth, magnitude_of}
 use Rattle.doubles.proofs.Tests.{branch}
 use Rattle.doubles.proofs.Order.{lt→le, not-lt→le, le_trans_float, lt_le_absurd}
 use Rattle.doubles.proofs.Units.{clear, InUnit, le_refl_clear, magnitude_clear, sub_clear, trillionth_le}

@@ -8,7 +8,7 @@ use mathlib.Core.Bool.{Bool, true, false, not, beq}
 use Prim.Native.Nat.{ℕ, zero, suc, ◌+◌, ◌-◌, ◌*◌, ◌^◌, ◌≤◌, ◌<◌}
 use native.Mathlib.Nat.{le_trans, le_of_eq, lt_of_le_of_lt, le_antisymm, mul-one, one-mul, mul_comm, mul_assoc, mul-pos, two-pow-succ}
 use native.Mathlib.Omega.{arith}
-use lib.IntN.{pos, negsuc}
+use lib.IntN.{negsuc}
 use lib.Dec.{T, T_not, lit<, lit≤}
 use lib.Pow.{pow_pos, pow-lt}
 use lib.ListN.{length}
@@ -16,9 +16,9 @@ use lib.Ieee.{Float, nan, inf, fin, binary64, emax, low, sub, mul, lt, le, eq, i
 use lib.Ieee.Fits.{sub-fits}
 use lib.Ieee.Exact.{HasValue}
 use lib.Ieee.Scale.{grid, overflow, round_val}
-use Rattle.doubles.specs.Numbers.{nought, one, half, trillionth, magnitude_of}
+use Rattle.doubles.specs.Numbers.{one, half, trillionth, magnitude_of}
 use Rattle.doubles.proofs.Tests.{branch}
-use Rattle.doubles.proofs.Order.{lt→le, not-lt→le, le_trans_float, lt_le_absurd}
+use Rattle.doubles.proofs.Order.{not-lt→le, le_trans_float, lt_le_absurd}
 use Rattle.doubles.proofs.Rounding.{le_or_lt, Short, grid_le, grid_short_ge}
 use Rattle.doubles.proofs.Units.{clear, units_of, mul_at, in_order, InUnit, nought_in, one_in, magnitude_clear, sub_clear, trillionth_le}
 use Rattle.doubles.proofs.Interpolation.{Inside}

@@ -8,7 +8,7 @@ use native.Mathlib.Omega.{arith}
 use lib.IntN.{negsuc}
 use lib.Dec.{lit<, lit≤}
 use lib.Pow.{pow_pos}
-use lib.Ieee.{Float, binary64, prec, low, add, sub, mul}
+use lib.Ieee.{Float, binary64, prec, low, sub, mul}
 use lib.Ieee.Exact.{HasValue}
 use lib.Ieee.Scale.{grid, overflow, round_val}
 use Rattle.doubles.specs.Numbers.{half}

@@ -4,7 +4,7 @@ use mathlib.Core.Path.{◌≡◌, refl, subst₂}
 use mathlib.Core.Bool.{true, false, ◌&&◌}
 use Prim.Native.Nat.{ℕ}
 use lib.Dec.{T}
-use lib.Ieee.{Float, nan, inf, fin, binary64, sub, mul, div, add, lt, fits}
+use lib.Ieee.{Float, nan, inf, fin, binary64, sub, mul, div, lt, fits}
 use lib.Ieee.Fits.{and_l, and_r, add-fits}
 use Rattle.doubles.specs.Lerp.{lerp_of}
 use Rattle.doubles.proofs.Tests.{branch}

@@ -4,7 +4,7 @@ use mathlib.Core.Path.{◌≡◌, refl, sym, subst₂}
 use mathlib.Core.Bool.{Bool, true, false, ◌&&◌}
 use Prim.Native.Nat.{ℕ}
 use lib.Dec.{T, ltb, eqb}
-use lib.Ieee.{Float, nan, inf, fin, sub, lt, le}
+use lib.Ieee.{Float, nan, inf, fin, lt, le}
 use lib.Ieee.Fits.{and_l, and_r}
 use Rattle.doubles.specs.Numbers.{half, hundredth, ninety_nine_hundredths}
 use Rattle.doubles.specs.Lerp.{lerp_of}

@@ -27,7 +27,7 @@ use Rattle.inverse_segment.specs.Round.{Rule}
 use Rattle.inverse_segment.specs.Segment.{Outcome, off, placed, Entry, outside, inside, enter, outcome_of}
 use Rattle.inverse_segment.specs.Contract.{stop_of, place_at, trial_of}
 use Rattle.inverse_segment.proofs.Stops.{place_at_lem, Leaves, enter_leaves}
-use Rattle.inverse_segment.specs.Answer.{place_of, answered, alone, inverted, inverse_segment_uses, inverse_segment_by}
+use Rattle.inverse_segment.specs.Answer.{answered, alone, inverted, inverse_segment_uses, inverse_segment_by}
 
 -- ---- the call's rows, in the order of its tests
 module _ (y : Float) (cv : List Float) (limit : ℕ) (ε : Float) {l : Verdict} (e : l ≡ first (segment_length (length cv))) where

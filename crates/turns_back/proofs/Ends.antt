@@ -9,12 +9,12 @@ use lib.ListN.{length, drop, get_or}
 use lib.Signed.{lt_z, lt_z_yes}
 use Rattle.basis.specs.declared.Basis.{Basis}
 use Rattle.basis.specs.Basis.{step_of, segments_of, whole_of}
-use Rattle.spline_exact.specs.Cubic.{at, whole_sum}
+use Rattle.spline_exact.specs.Cubic.{whole_sum}
 use Rattle.whole.specs.Held.{turned_all}
 use Rattle.whole.proofs.Held.{same_all}
 use Rattle.whole.proofs.Differences.{Is, sub_is, lt, of_lt}
 use Rattle.turns_back.specs.Curve.{value_at, coefficient, curve_at}
-use Rattle.turns_back.specs.Call.{most, turning_of, start_of, end_of, way_of, by_way, by_ends}
+use Rattle.turns_back.specs.Call.{turning_of, start_of, end_of, way_of, by_way, by_ends}
 use Rattle.turns_back.specs.Four.{four_at, FourFrom}
 use Rattle.turns_back.specs.declared.Way.{Way}
 use Rattle.turns_back.specs.declared.Way.TheVariants.{Rising, Falling, Level}
@@ -22,7 +22,7 @@ use Rattle.turns_back.specs.declared.Turning.{Turning}
 use Rattle.turns_back.specs.declared.Turning.TheVariants.{Flat}
 use Rattle.turns_back.proofs.Slopes.{four}
 use Rattle.turns_back.proofs.Seams.{true_of, not_so}
-use Rattle.turns_back.proofs.Verdicts.{whole_alike, four_there, starts}
+use Rattle.turns_back.proofs.Verdicts.{four_there, starts}
 
 -- ---- the last segment's place
 module _ (b : Basis) (n k t : ℕ) where

@@ -9,7 +9,7 @@ use lib.Signed.{◌<ℤ◌}
 use borrow.Author.Tests.{leb-false}
 use Rattle.error.proofs.First.{never}
 use Rattle.turns_back.specs.Curve.{value_at, never_falls, cubic_never_falls}
-use Rattle.turns_back.proofs.Simpson.{end, all, A, B, E}
+use Rattle.turns_back.proofs.Simpson.{all, A, B, E}
 use Rattle.whole.proofs.Differences.{up, down, itself, lt}
 use Rattle.turns_back.proofs.Segment.{Slopes, below, above, rise, value_is}
 

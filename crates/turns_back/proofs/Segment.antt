@@ -3,7 +3,7 @@ use mathlib.Core.Path.{◌≡◌, subst}
 use Prim.Native.Nat.{ℕ, suc, ◌+◌, ◌-◌, ◌*◌, ◌≤◌}
 use native.Mathlib.Omega.{arith}
 use lib.IntN.{ℤ, pos, negsuc, ◌+ℤ◌, ◌*ℤ◌}
-use lib.Dec.{T, leb, leb→le}
+use lib.Dec.{T, leb→le}
 use lib.Signed.{◌≤ℤ◌}
 use Rattle.turns_back.specs.Curve.{value_at, never_falls, cubic_never_falls}
 use Rattle.turns_back.proofs.Simpson.{end, all, A, B, E, of_first, of_middle, of_last, slopes_down, carried}

@@ -20,10 +20,10 @@ use Rattle.basis.specs.Basis.{step_of, segments_of, whole_of}
 use Rattle.checks.specs.Checks.{curve_length}
 use Rattle.spline.proofs.Parts.{inside}
 use Rattle.spline_exact.specs.Cubic.{at, whole_sum}
-use Rattle.turns_back.specs.Curve.{value_at, coefficient, curve_at, cubic_never_falls, starts_no_lower, segment_never_falls, falls_from, first_fall}
+use Rattle.turns_back.specs.Curve.{coefficient, cubic_never_falls, starts_no_lower, segment_never_falls, falls_from, first_fall}
 use Rattle.whole.specs.Held.{turned_all, first_large, Small}
-use Rattle.turns_back.specs.Call.{most, turning_uses, turning, turning_of, start_of, end_of, by_ends, answered}
-use Rattle.turns_back.specs.Four.{four_never_fall, four_at}
+use Rattle.turns_back.specs.Call.{most, turning_uses, turning, turning_of, answered}
+use Rattle.turns_back.specs.Four.{four_never_fall}
 use Rattle.turns_back.specs.declared.Turning.{Turning}
 use Rattle.turns_back.specs.declared.Turning.TheVariants.{Refused, Never, At}
 use Rattle.turns_back.proofs.Slopes.{four}

@@ -1,6 +1,5 @@
 -- The row sums and end values are the definition's; where they enclose the target, the stop is the method's.
 use Rattle.inverse_segment.proofs.Trying.{tried_inside, tried_outside}
-use borrow.Author.Rules.{rules}
 use Rattle.inverse_segment.proofs.enter.Goals as goal
 
 pub returns-then-encloses : goal.returns-then-encloses

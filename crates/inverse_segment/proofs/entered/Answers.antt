@@ -4,7 +4,6 @@ use lib.Ieee.{of_bits}
 use Rattle.spline.specs.Segment.{horner_of}
 use Rattle.inverse_segment.specs.Method.{rule_of}
 use Rattle.inverse_segment.proofs.OneRound.{left_edge, right_edge, by_rounds}
-use borrow.Author.Rules.{rules}
 use Rattle.inverse_segment.proofs.entered.Goals as goal
 
 pub returns-then-is_near : goal.returns-then-is_near

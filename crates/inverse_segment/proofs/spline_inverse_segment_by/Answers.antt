@@ -4,7 +4,6 @@ use Rattle.inverse_segment.specs.Method.{rule_of}
 use Rattle.inverse_segment.proofs.Verdicts.{fits_for, refused_is, place_is, off_is}
 use Rattle.inverse_segment.proofs.Trying.{on_curve, from_first}
 use native.Mathlib.Omega.{arith}
-use borrow.Author.Rules.{rules}
 use Rattle.inverse_segment.proofs.spline_inverse_segment_by.Goals as goal
 
 pub enter-t-requires : goal.enter-t-requires

@@ -1,5 +1,4 @@
 -- A fault, or none.
-use borrow.Author.Rules.{rules}
 use native.Mathlib.Omega.{arith}
 use Rattle.text.proofs.Writing.{nothing}
 use Rattle.picture_notes.proofs.put_fault.Goals as goal

@@ -1,5 +1,4 @@
 -- The parts one after another, each where the last ended (`then`).
-use borrow.Author.Rules.{rules}
 use native.Mathlib.Omega.{arith}
 use Rattle.text.proofs.Writing.{then}
 use Rattle.picture_notes.proofs.put_knot_tail.Goals as goal

@@ -1,7 +1,6 @@
 -- Nothing told, a knot, or a segment (`where_told`): only the knot is marked.
 use native.Mathlib.Omega.{arith}
 use mathlib.Core.Path.{sym, ◌∙◌}
-use borrow.Author.Rules.{rules}
 use Rattle.picture_notes.proofs.put_tail.Goals as goal
 
 pub returns-in-Nowhere : goal.returns-in-Nowhere

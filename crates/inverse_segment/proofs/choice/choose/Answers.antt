@@ -2,7 +2,6 @@
 use mathlib.Core.Path.{sym, ap}
 use Rattle.inverse_segment.proofs.Choosing.{first_two, by_chord, by_pace}
 use Rattle.inverse_segment.specs.Method.{rule_of}
-use borrow.Author.Rules.{rules}
 use Rattle.inverse_segment.proofs.choice.choose.Goals as goal
 
 pub returns-in_default : goal.returns-in_default

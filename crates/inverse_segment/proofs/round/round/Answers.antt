@@ -5,7 +5,6 @@ use lib.Ieee.{of_bits}
 use Rattle.spline.specs.Segment.{horner_of}
 use Rattle.inverse_segment.specs.Method.{rule_of}
 use Rattle.inverse_segment.proofs.OneRound.{round_width, round_value, round_next}
-use borrow.Author.Rules.{rules}
 use Rattle.inverse_segment.proofs.round.round.Goals as goal
 
 pub returns-then-is_narrow : goal.returns-then-is_narrow

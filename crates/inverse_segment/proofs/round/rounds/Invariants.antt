@@ -1,17 +1,11 @@
 -- The invariant says that the rounds still to come lead from the state at hand to where all rounds lead from the first (`Led`), and what stands for their
 -- number: the width of the pace is 16 halved as often as rounds were made.
-use borrow.Author.Rules.{rules}
-use mathlib.Core.Path.{◌≡◌, refl, ◌∙◌}
+use mathlib.Core.Path.{◌≡◌}
 use Prim.Native.Nat.{◌≤◌, ◌-◌, ◌+◌, ◌*◌, ◌/◌}
-use native.Mathlib.Omega.{arith}
-use lib.Ieee.{of_bits}
 use Rattle.spline.specs.Segment.{horner_of}
-use Rattle.inverse_segment.specs.Segment.{start}
 use Rattle.inverse_segment.specs.Steady.{allowed}
 use Rattle.inverse_segment.specs.Method.{rule_of}
-use Rattle.inverse_segment.specs.Contract.{count_after, repeats_after}
-use Rattle.inverse_segment.proofs.OneRound.{regula_falsi_is, Led, led_start, led_on, led_done, led_spent}
-use Rattle.inverse_segment.proofs.Choosing.{first_width, next_width}
+use Rattle.inverse_segment.proofs.OneRound.{Led}
 use Rattle.inverse_segment.proofs.round.rounds.Given as goal
 
 abbrev pub invariant-loop-i : goal.invariant-loop-i

@@ -1,0 +1,19 @@
+-- A word, the place and the bits, each where the last ended (`then`).
+use native.Mathlib.Omega.{arith}
+use Rattle.text.proofs.Writing.{then}
+use borrow.Author.Rules.{rules}
+use Rattle.compare.proofs.put_only.Goals as goal
+
+pub returns : goal.returns
+returns c = record {
+  text = then (then (then (then c.put_word-w.ensures c.put_decimal-x.ensures.text) c.put_byte-y.ensures)
+      c.put_hex-z.ensures.text) c.put_byte.ensures;
+  short = omega (
+    arith,
+    c.put_word-w.ensures.next,
+    c.put_decimal-x.ensures.short,
+    c.put_byte-y.ensures.next,
+    c.put_hex-z.ensures.long,
+    c.put_byte.ensures.next,
+  );
+}

@@ -1,0 +1,12 @@
+-- Invariant: the places below i have been told (`Upto`), in at most 44 bytes each.
+use borrow.Author.Rules.{rules}
+use native.Mathlib.Omega.{arith}
+use Prim.Native.Nat.{◌+◌, ◌*◌, ◌-◌, ◌≤◌}
+use Rattle.compare.proofs.Writing.{Upto, upto_none, upto_more, upto_all}
+use Rattle.compare.proofs.put_places.Given as goal
+
+abbrev pub invariant-loop-i : goal.invariant-loop-i
+invariant-loop-i l = (l.i ≤ l.end) × (l.p ≤ l.at + 44 * l.i) × (l.n ≤ l.i) × Upto l.initial.out l.at l.old l.new l.i l.out l.p l.n
+
+abbrev pub decreases-loop-i : goal.decreases-loop-i
+decreases-loop-i l = l.end - l.i

@@ -1,0 +1,13 @@
+-- The invariant: the segments before s do not enclose the target, two evaluations were made for each, and the tries left are those from s
+-- on.
+use Prim.Native.Nat.{◌+◌, ◌-◌, ◌*◌, ◌≤◌}
+use native.Mathlib.Omega.{arith}
+use borrow.Author.Rules.{rules}
+use Rattle.inverse_search.proofs.Glue.{fits_at, Carried, tries_start, tries_hit, tries_miss, tries_end}
+use Rattle.inverse_search.proofs.tries.Given as goal
+
+abbrev pub invariant-loop-s : goal.invariant-loop-s
+invariant-loop-s l = (l.first ≤ l.s) × (l.s ≤ l.end) × (l.made ≤ l.count + 2 * (l.s - l.first)) × Carried l.how l.b l.knots l.y l.precision l.limit l.first l.end l.count l.s l.made
+
+abbrev pub decreases-loop-s : goal.decreases-loop-s
+decreases-loop-s l = l.end - l.s
