@@ -12,6 +12,7 @@ ghost use Rattle.ask.specs.Contract.{Kept, state_of};
 
 use ask::{AskHeld, AskReader};
 use ask_sheet::SheetHeld;
+use std::io::Stdin;
 
 // Where the program stands, and whether each write succeeded.
 #[derive(Clone, Copy)]
@@ -65,6 +66,7 @@ fn feed_all(
 
 // The whole input; its end is written where nothing failed.
 fn whole(
+    input: Stdin,
     chunk: &mut [u8],
     begun: &mut [u8],
     rows: &mut [i64],
@@ -85,7 +87,7 @@ fn whole(
     let mut fine = true;
     let mut left = u64::MAX;
     while left > 0 {
-        let got = stream::read(&mut *chunk);
+        let got = stream::read(input, &mut *chunk);
         let n = got.n;
         let r = feed_all(
             st,
@@ -105,7 +107,7 @@ fn whole(
 }
 
 // The buffers, once, and then all of the input.
-fn main() {
+fn main(rt: HostRuntime) {
     let mut rows = [0i64; basis::MOST_KNOTS];
     let mut labels = [0u8; 69632];
     let mut knots = [0.0; basis::MOST_KNOTS];
@@ -113,6 +115,7 @@ fn main() {
     let mut chunk = [0u8; 65536];
     let mut out = [0u8; 262144];
     whole(
+        rt.stdin(),
         &mut chunk,
         &mut begun,
         &mut rows,

@@ -11,6 +11,7 @@ ghost use Rattle.claims.specs.Claims.{claims_program};
 ghost use Rattle.lines.specs.Contract.{state_of};
 
 use lines::LineReader;
+use std::io::Stdin;
 
 // Where the program stands, and whether each write succeeded.
 #[derive(Clone, Copy)]
@@ -60,6 +61,7 @@ fn feed_all(
 
 // The whole input; its end is written where nothing failed.
 fn whole(
+    input: Stdin,
     chunk: &mut [u8],
     begun: &mut [u8],
     table: &mut [f64],
@@ -75,7 +77,7 @@ fn whole(
     let mut fine = true;
     let mut left = u64::MAX;
     while left > 0 {
-        let got = stream::read(&mut *chunk);
+        let got = stream::read(input, &mut *chunk);
         let n = got.n;
         let r = feed_all(
             st,
@@ -94,11 +96,18 @@ fn whole(
 }
 
 // The buffers, once, and then all of the input.
-fn main() {
+fn main(rt: HostRuntime) {
     let mut table = [0.0; basis::MOST_KNOTS];
     let mut converted = [0.0; basis::MOST_KNOTS];
     let mut begun = [0u8; 64];
     let mut chunk = [0u8; 65536];
     let mut out = [0u8; 188416];
-    whole(&mut chunk, &mut begun, &mut table, &mut converted, &mut out);
+    whole(
+        rt.stdin(),
+        &mut chunk,
+        &mut begun,
+        &mut table,
+        &mut converted,
+        &mut out,
+    );
 }

@@ -9,6 +9,7 @@ ghost use Rattle.compare_lines.specs.Listings.{places, compare_program};
 ghost use Rattle.compare_lines.specs.Contract.{count_of, state_of};
 
 use compare_lines::CompareReader;
+use std::io::Stdin;
 
 // Where the program stands, and whether each write succeeded.
 #[derive(Clone, Copy)]
@@ -49,7 +50,14 @@ fn feed_all(
 }
 
 // The whole input; its end is written where nothing failed.
-fn whole(chunk: &mut [u8], begun: &mut [u8], old: &mut [u64], new: &mut [u64], out: &mut [u8])
+fn whole(
+    input: Stdin,
+    chunk: &mut [u8],
+    begun: &mut [u8],
+    old: &mut [u64],
+    new: &mut [u64],
+    out: &mut [u8],
+)
     requires begun { length begun.old ≡ widest }
     requires old { length old.old ≡ places }
     requires new { length new.old ≡ places }
@@ -59,7 +67,7 @@ fn whole(chunk: &mut [u8], begun: &mut [u8], old: &mut [u64], new: &mut [u64], o
     let mut fine = true;
     let mut left = u64::MAX;
     while left > 0 {
-        let got = stream::read(&mut *chunk);
+        let got = stream::read(input, &mut *chunk);
         let n = got.n;
         let r = feed_all(
             st,
@@ -78,11 +86,18 @@ fn whole(chunk: &mut [u8], begun: &mut [u8], old: &mut [u64], new: &mut [u64], o
 }
 
 // The buffers, once, and then all of the input.
-fn main() {
+fn main(rt: HostRuntime) {
     let mut old = [0u64; basis::MOST_KNOTS];
     let mut new = [0u64; basis::MOST_KNOTS];
     let mut begun = [0u8; 64];
     let mut chunk = [0u8; 65536];
     let mut out = [0u8; 188416];
-    whole(&mut chunk, &mut begun, &mut old, &mut new, &mut out);
+    whole(
+        rt.stdin(),
+        &mut chunk,
+        &mut begun,
+        &mut old,
+        &mut new,
+        &mut out,
+    );
 }

@@ -7,6 +7,8 @@ ghost use Rattle.lines_machine.specs.Bytes.{ran_of};
 ghost use Rattle.decimals.specs.Decimals.{decimals_program};
 ghost use Rattle.decimals.specs.Contract.{state_of};
 
+use std::io::Stdin;
+
 // How many bytes of the current line stand in the lent 64, and whether each write succeeded.
 #[derive(Clone, Copy)]
 struct Chunked {
@@ -35,7 +37,7 @@ fn feed_all(len: usize, chunk: &[u8], begun: &mut [u8], out: &mut [u8]) -> Chunk
 }
 
 // The whole input; its end is written where nothing failed.
-fn whole(chunk: &mut [u8], begun: &mut [u8], out: &mut [u8])
+fn whole(input: Stdin, chunk: &mut [u8], begun: &mut [u8], out: &mut [u8])
     requires begun { length begun.old ≡ widest }
     requires room { 129 ≤ length out.old }
 {
@@ -43,7 +45,7 @@ fn whole(chunk: &mut [u8], begun: &mut [u8], out: &mut [u8])
     let mut fine = true;
     let mut left = u64::MAX;
     while left > 0 {
-        let got = stream::read(&mut *chunk);
+        let got = stream::read(input, &mut *chunk);
         let n = got.n;
         let r = feed_all(len, &chunk[0..n], &mut *begun, &mut *out);
         len = r.len;
@@ -55,9 +57,9 @@ fn whole(chunk: &mut [u8], begun: &mut [u8], out: &mut [u8])
 }
 
 // The buffers, once, and then all of the input.
-fn main() {
+fn main(rt: HostRuntime) {
     let mut begun = [0u8; 64];
     let mut chunk = [0u8; 65536];
     let mut out = [0u8; 131200];
-    whole(&mut chunk, &mut begun, &mut out);
+    whole(rt.stdin(), &mut chunk, &mut begun, &mut out);
 }

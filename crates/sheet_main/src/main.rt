@@ -6,8 +6,10 @@ ghost use Rattle.lines_machine.specs.Program.{widest};
 ghost use Rattle.lines_reply.specs.Contract.{longest};
 ghost use Rattle.sheet.specs.Sheet.{most};
 
+use std::io::Stdin;
+
 // The whole input; its end is written where nothing failed.
-fn whole(chunk: &mut [u8], begun: &mut [u8], table: &mut [f64], out: &mut [u8])
+fn whole(input: Stdin, chunk: &mut [u8], begun: &mut [u8], table: &mut [f64], out: &mut [u8])
     requires begun { length begun.old ≡ widest }
     requires table { length table.old ≡ most }
     requires room { longest ≤ length out.old }
@@ -16,7 +18,7 @@ fn whole(chunk: &mut [u8], begun: &mut [u8], table: &mut [f64], out: &mut [u8])
     let mut fine = true;
     let mut left = u64::MAX;
     while left > 0 {
-        let got = stream::read(&mut *chunk);
+        let got = stream::read(input, &mut *chunk);
         let n = got.n;
         st = sheet::feed(st, &chunk[0..n], &mut *begun, &mut *table);
         fine = got.fine;
@@ -27,10 +29,10 @@ fn whole(chunk: &mut [u8], begun: &mut [u8], table: &mut [f64], out: &mut [u8])
 }
 
 // The buffers, once, and then all of the input.
-fn main() {
+fn main(rt: HostRuntime) {
     let mut table = [0.0; basis::MOST_KNOTS];
     let mut begun = [0u8; 64];
     let mut chunk = [0u8; 65536];
     let mut out = [0u8; 90145];
-    whole(&mut chunk, &mut begun, &mut table, &mut out);
+    whole(rt.stdin(), &mut chunk, &mut begun, &mut table, &mut out);
 }

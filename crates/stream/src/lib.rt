@@ -3,10 +3,14 @@
 #![tactic(auto)]
 
 ghost use Rattle.std.specs.Prelude.{◌≡◌, true, false, ◌≤◌, ◌<◌, ltb, length};
-ghost use Rattle.libc.specs.Io.{Moved};
-ghost use Rattle.stream.specs.Stream.{got_of, left_of};
+ghost use Rattle.stream.specs.Stream.{got_of, left_of, moved};
 
-use libc::{STDERR_FILENO, STDIN_FILENO, STDOUT_FILENO};
+use std::io::{Read, Stdin};
+
+// The descriptors of standard output and of standard error.
+const STDOUT: i32 = 1;
+
+const STDERR: i32 = 2;
 
 // How many bytes a read brought; whether it did not fail, and whether to read on.
 #[derive(Clone, Copy)]
@@ -23,10 +27,10 @@ pub fn written(fine: bool, text: &[u8]) -> bool
     if !fine {
         return false;
     }
-    if io::write_all(STDOUT_FILENO, text) {
+    if io::write_all(STDOUT, text) {
         return true;
     }
-    io::write_all(STDERR_FILENO, b"write failed\n");
+    io::write_all(STDERR, b"write failed\n");
     false
 }
 
@@ -39,36 +43,43 @@ pub fn left(before: u64, more: bool) -> u64
     if more { before - 1 } else { 0 }
 }
 
-// What a read's answer says, of a chunk that had room for it.
-fn of_answer(answer: isize, chunk: &[u8]) -> Got
-    requires { Moved (length chunk.now) answer }
-    ensures { result ≡ got_of answer }
+// What a read's answer says.
+fn of_answer(answer: std::io::Result<usize>) -> Got
+    ensures { result ≡ got_of (moved answer) }
 {
-    let n = io::count(answer, chunk);
-    if 0 < n {
-        return Got {
-            n: n,
-            fine: true,
-            more: true,
-        };
-    }
-    Got {
-        n: 0,
-        fine: answer == 0,
-        more: false,
+    match answer {
+        Ok(n) => {
+            if 0 < n {
+                return Got {
+                    n: n,
+                    fine: true,
+                    more: true,
+                };
+            }
+            Got {
+                n: 0,
+                fine: true,
+                more: false,
+            }
+        }
+        Err(_) => Got {
+            n: 0,
+            fine: false,
+            more: false,
+        },
     }
 }
 
 // One read: it goes on after one that brought a byte, and after no other; one that failed brought none.
-pub fn read(chunk: &mut [u8]) -> Got
+pub fn read(mut input: Stdin, chunk: &mut [u8]) -> Got
     ensures fits { result.n ≤ length chunk.new }
     ensures on { result.more ≡ ltb 0 result.n }
     ensures failed { result.fine ≡ false → result.n ≡ 0 }
 {
-    let answer = libc::read(STDIN_FILENO, &mut *chunk);
-    let g = of_answer(answer, &chunk[..]);
+    let answer = input.read(&mut *chunk);
+    let g = of_answer(answer);
     if !g.fine {
-        io::write_all(STDERR_FILENO, b"read failed\n");
+        io::write_all(STDERR, b"read failed\n");
     }
     g
 }

@@ -1,7 +1,5 @@
 -- The readings hold: they are computed. Assumes nothing.
 use mathlib.Core.Path.{refl}
-use mathlib.Core.List.{[], ◌∷◌}
-use Rattle.error.specs.Refusals.{first}
 use Rattle.valve.specs.Mix.{mix_of, small, first_large, mixture_of}
 use Rattle.test_valve.specs.Readings.{Hold, sums, refusals}
 

@@ -1,5 +1,5 @@
 -- The valves' readings, worked by hand: what is asked and what is told. Definitions only.
-use Rattle.std.specs.Prelude.{◌≡◌, List, [], ◌∷◌, ℕ, suc, ◌*◌, ℤ, pos, negsuc}
+use Rattle.std.specs.Prelude.{◌≡◌, List, [], ◌∷◌, ℕ, ◌*◌, ℤ, pos, negsuc}
 use Rattle.error.specs.declared.Refusal.TheVariants.{TooFew, BadPattern, BadStep, BadKnot}
 use Rattle.valve.specs.declared.Mixture.{Mixture}
 use Rattle.valve.specs.declared.Mixture.TheVariants.{Refused, Mixed}

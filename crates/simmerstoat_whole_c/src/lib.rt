@@ -1,0 +1,48 @@
+// The archive that C and Rust link for the calls in whole numbers. Each export is one call of the function of `simmerstoat_whole` of that
+// name, under the same contract. No floating point.
+#![tactic(auto)]
+
+ghost use Rattle.std.specs.Prelude.{◌≡◌, length};
+ghost use Rattle.whole.specs.Held.{held_all};
+ghost use Rattle.turns_back.specs.Call.{turns_back_by_of, turns_back_of};
+ghost use Rattle.monotone.specs.Table.{made_of, left_of};
+ghost use Rattle.exports_reply.specs.Replies.{chosen_of, no_basis, chosen};
+ghost use Rattle.simmerstoat_whole.specs.Replies.{turning_reply, turning_left, made_reply, written_left};
+
+// Whether the curve goes against the direction from its own start to its own end.
+#[unsafe(no_mangle)]
+pub extern "C" fn simmerstoat_turns_back(basis: u8, knots: &[i64], turning: &mut [usize; 2]) -> u32
+    ensures answer { result ≡ chosen (chosen_of basis) no_basis
+        (λ b. turning_reply (turns_back_of b (held_all knots.now))) }
+    ensures turning { turning.new ≡ chosen (chosen_of basis) turning.old
+        (λ b. turning_left (turns_back_of b (held_all knots.now)) turning.old) }
+{
+    simmerstoat_whole::simmerstoat_turns_back(basis, knots, turning)
+}
+
+// Whether it falls anywhere; where `up` is not said, whether it rises.
+#[unsafe(no_mangle)]
+pub extern "C" fn simmerstoat_turns_back_by(
+    basis: u8,
+    up: bool,
+    knots: &[i64],
+    turning: &mut [usize; 2],
+) -> u32
+    ensures answer { result ≡ chosen (chosen_of basis) no_basis
+        (λ b. turning_reply (turns_back_by_of b up (held_all knots.now))) }
+    ensures turning { turning.new ≡ chosen (chosen_of basis) turning.old
+        (λ b. turning_left (turns_back_by_of b up (held_all knots.now)) turning.old) }
+{
+    simmerstoat_whole::simmerstoat_turns_back_by(basis, up, knots, turning)
+}
+
+// The table of depth and slope by row, into the first places of out.
+#[unsafe(no_mangle)]
+pub extern "C" fn simmerstoat_monotone(rows: &[i64], out: &mut [i64], written: &mut usize) -> u32
+    ensures answer { result ≡ made_reply (made_of (held_all rows.now) (length out.old)) }
+    ensures written { written.new ≡
+        written_left (made_of (held_all rows.now) (length out.old)) written.old }
+    ensures out { out.new ≡ left_of (held_all rows.now) out.old }
+{
+    simmerstoat_whole::simmerstoat_monotone(rows, out, written)
+}
