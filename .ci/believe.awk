@@ -1,16 +1,16 @@
 # From what declared.awk prints of sources and definitions: for each call in `calls`, the definitions that its contract rests on, each with
 # what it rests on in turn. A definition is a paragraph of its file. With `counts`, only how many lines and files.
 
-function tokens(s, list) { gsub(/[(){},;]|⌜|⌝/, " ", s); gsub(/ \.[a-zA-Z0-9]+/, " ", s); return split(s, list, " ") }
+function tokens(s, list) { gsub(/[(){},;]/, " ", s); gsub(/ \.[a-zA-Z0-9_]+/, " ", s); return split(s, list, " ") }
 
 # where a word of a file comes from: FILE#NAME, or MODULE#NAME of the language's library; nothing where it is bound
 function meant(file, w,    module, i) {
     if ((file, w) in stands) return stands[file, w]
     if ((file "#" w) in all) return file "#" w
-    if ((file, "_" w "_") in stands) return stands[file, "_" w "_"]
+    if ((file, "◌" w "◌") in stands) return stands[file, "◌" w "◌"]
     i = index(w, ".")
     module = i > 1 ? substr(w, 1, i) : ""
-    if (!((file, module) in stands)) return ""
+    if (!((file, module) in stands)) return i > 1 ? meant(file, substr(w, 1, i - 1)) : ""
     module = stands[file, module]
     sub(/#.*/, "", module)
     return module "#" substr(w, i + 1)
@@ -18,14 +18,12 @@ function meant(file, w,    module, i) {
 
 # what the compiler makes of a source's type: its crate and its name
 function of_source(at,    p) {
-    if (at !~ /^Rattle·.*\.declared\./) return ""
+    if (at !~ /^Rattle\..*\.declared\./) return ""
     sub(/#.*/, "", at)
-    sub(/\.the-variants$/, "", at)
+    sub(/\.TheVariants$/, "", at)
     split(at, p, ".")
-    sub(/^Rattle·/, "", p[1])
-    sub(/·.*/, "", p[1])
     sub(/.*\./, "", at)
-    return p[1] "#" at
+    return p[2] "#" at
 }
 
 function reach(at,    file, n, i, list, source, to) {

@@ -36,21 +36,19 @@ function text_at(i, all,    t, j, deep) {
     return t
 }
 
-# the file of a path of ours, Rattle·NAME.specs.A.B or Rattle·NAME·proofs.proofs.A: the longest that is one; else the path itself, as it
-# is of the language's own libraries and of what the compiler makes of a source
+# the file of a path of ours, Rattle.NAME.specs.A.B or Rattle.NAME.proofs.A: the longest that is one; else the path itself, as it is of the
+# language's own libraries and of what the compiler makes of a source
 function home(path,    p, n, i, at) {
-    if (path !~ /^Rattle·/) return path
-    sub(/^Rattle·/, "", path)
+    if (path !~ /^Rattle\./) return path
     n = split(path, p, ".")
-    sub(/·.*/, "", p[1])
-    at = "crates/" p[1]
+    at = "crates"
     for (i = 2; i <= n; i++) at = at "/" p[i]
     while (at ~ /^crates\/[^\/]*\/(specs|proofs)\/./) {
         if (!(at in there)) { there[at] = (getline any < (at ".antt")) >= 0; close(at ".antt") }
         if (there[at]) return at ".antt"
         sub(/\/[^\/]*$/, "", at)
     }
-    return "Rattle·" path
+    return path
 }
 
 # the lines from line i to the one that ends what opens in it

@@ -6,17 +6,19 @@
 # that no document cites goes to the file that -v words names.
 
 # tokens of a text: names may hold nearly anything but space and brackets
-function tokens(s) { gsub(/[(){}\[\],;]|⌜|⌝/, " ", s); return split(s, token, " ") }
+function tokens(s) { gsub(/[(){}\[\],;]/, " ", s); return split(s, token, " ") }
 
-# the declaration that a token of FILE stands for, if that is among the theorems of a crate
+# the declaration that a token of FILE stands for, if that is among the theorems of a crate: by its name, by a module's name before it, or
+# as what a part is taken of
 function meant(file, t,    at, head) {
     at = file "#" t
     if (at in named) return at
     if ((file, t) in stands) return stands[file, t]
     head = t
-    if (!sub(/\..*/, ".", head) || !((file, head) in stands)) return ""
+    if (!sub(/\..*/, "", head)) return ""
+    if (!((file, head ".") in stands)) return meant(file, head)
     sub(/.*\./, "", t)
-    return stands[file, head] t
+    return stands[file, head "."] t
 }
 
 # the names that a text binds itself: (a b : A), {a : A}, λ a b. c
@@ -30,14 +32,16 @@ function bound(s, own,    t, n, i, part) {
     }
 }
 
-function reach(ref, text,    n, i, file, at, mine, own) {
+function reach(ref, text,    n, i, file, at, mine, own, head) {
     file = ref
     sub(/#.*/, "", file)
     bound(text, own)
     n = tokens(text)
     for (i = 1; i <= n; i++) mine[i] = token[i]
     for (i = 1; i <= n; i++) {
-        if (mine[i] in own || mine[i + 1] == ":") continue
+        head = mine[i]
+        sub(/\..*/, "", head)
+        if (head in own && !((file, head ".") in stands) || mine[i + 1] == ":") continue
         at = meant(file, mine[i])
         if (at == "" || at == ref || !(at in named) || at !~ /\/proofs\// || at in used) continue
         used[at] = ref
@@ -71,7 +75,7 @@ function show(s,    n, i, part, depth, out, t) {
 # the words that a file imports and that its texts use, by the module that they come from; an operator is used where all its parts stand
 # there
 function imports(file, text,    n, i, k, part, piece, has, word, at, from, words, line, count) {
-    gsub(/[(){}\[\].;,@"]|⌜|⌝|«|»/, " & ", text)
+    gsub(/[(){}\[\].;,@"]|«|»/, " & ", text)
     n = split(text, piece, " ")
     for (i = 1; i <= n; i++) has[piece[i]] = 1
     n = split(brought[file], word, "\n")
@@ -79,9 +83,9 @@ function imports(file, text,    n, i, k, part, piece, has, word, at, from, words
         at = word[i]
         sub(/\.$/, "", at)
         if (!(at in has)) {
-            if (at !~ /_/) { if (at != "[]" || !("[" in has)) continue }
+            if (at !~ /◌/) { if (at != "[]" || !("[" in has)) continue }
             else {
-                k = split(at, part, "_")
+                k = split(at, part, "◌")
                 while (k && (part[k] == "" || part[k] in has)) k--
                 if (k) continue
             }

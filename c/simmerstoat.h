@@ -1,4 +1,4 @@
-/* Uniform cubic splines over doubles, proved. Link with libsimmerstoat.a: for x86-64 Linux `rt staticlib simmerstoat` writes it,
+/* Uniform cubic splines over doubles, proved. Link with libsimmerstoat.a: for x86-64 Linux `bin/archives simmerstoat` writes it,
  * for the processors of small boxes `bin/box TARGET` (docs/BOX.md).
  *
  * Every call answers every input: no argument makes one panic, loop or read outside what is lent.

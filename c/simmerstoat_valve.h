@@ -1,5 +1,5 @@
 /* Valves that count in whole steps: four whole knots mixed at one of 257 places, in whole numbers alone, proved.
- * Link with libvalve.a: for x86-64 Linux `rt staticlib valve` writes it, for the processors of small boxes `bin/box TARGET`
+ * Link with libvalve.a: for x86-64 Linux `bin/archives valve` writes it, for the processors of small boxes `bin/box TARGET`
  * (docs/BOX.md). Its code names no floating-point register, and a call takes at most 256 bytes of stack; bin/link and bin/box
  * look. It has no state: the call may run in any thread, signal handler or interrupt.
  *

@@ -1,5 +1,5 @@
 /* Curves over whole numbers: whether one turns back, decided exactly, and a table whose curve cannot. Proved, and without
- * floating-point arithmetic. Link with libsimmerstoat_whole.a: for x86-64 Linux `rt staticlib simmerstoat_whole` writes it,
+ * floating-point arithmetic. Link with libsimmerstoat_whole.a: for x86-64 Linux `bin/archives simmerstoat_whole` writes it,
  * for the processors of small boxes `bin/box TARGET` (docs/BOX.md).
  *
  * Depths are whole numbers, of thousandths for a sheet's. Every call answers every input: none panics, loops or reads
