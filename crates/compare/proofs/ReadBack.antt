@@ -32,7 +32,7 @@ use Rattle.compare.specs.Differences.{
   places_in,
 }
 use Rattle.compare.specs.Comparison.{difference_text, lines_text, last_text, comparison_text}
-use Rattle.compare.specs.Printed.{Said, tells, nothing, said_by, said_in, said_over, read_of, tells_all, last_said}
+use Rattle.compare.specs.Printed.{Said, tells, said_by, said_in, said_over, read_of, tells_all, last_said}
 use Rattle.compare.proofs.Same.{places_counted}
 
 -- ---- names: no byte of one is a tab or an LF, and they read back

@@ -21,7 +21,7 @@ use native.Mathlib.Omega.{arith}
 use borrow.Author.Tests.{ne_eqb}
 use lib.Dec.{lit<, lit≤}
 use lib.Pow.{pow_pos}
-use lib.Ieee.{Float, nan, inf, fin, binary64, up, down, low, size, to_bits, of_bits, fits, round}
+use lib.Ieee.{Float, nan, inf, fin, binary64, up, down, size, to_bits, of_bits, round}
 use lib.Ieee.Bits.{of_bits-to_bits}
 use lib.Ieee.Digits.{size-le}
 use lib.Ieee.Fits.{down_pos, round-fits, kept-lt}

@@ -9,7 +9,7 @@ use borrow.Author.Tests.{le-leb, lt-leb, leb-true, leb-false, eqb-true}
 use lib.Dec.{eqb, leb}
 use lib.ListN.{length, take, drop, length-drop}
 use lib.Seq.{take_all}
-use Rattle.lines_machine.specs.Program.{widest, so, over}
+use Rattle.lines_machine.specs.Program.{widest}
 use Rattle.lines_machine.specs.Contract.{open_of}
 use Rattle.text.specs.declared.HexNumber.{HexNumber}
 use Rattle.text.specs.declared.HexNumber.TheVariants.{Is, Nothing}

@@ -26,7 +26,6 @@ use Rattle.inverse_segment.specs.declared.Method.{Method}
 use Rattle.inverse_segment.specs.Method.{rule_of}
 use Rattle.inverse_segment.proofs.Later.{is_end, More}
 use Rattle.inverse_search.specs.Search.{find}
-use Rattle.inverse_search.specs.Trial.{trial}
 use Rattle.inverse_search.specs.Twice.{trial_twice}
 use Rattle.inverse_search.proofs.Fewer as search
 use Rattle.inverse.specs.declared.Ends.{Ends}

@@ -1,7 +1,7 @@
 -- A lawful rule kept to the pace, on a curve: where N rounds are enough for the precision and the limit is above N, it is never told as spent; and the count is
 -- bounded by N as by a limit. Assumes nothing.
 use mathlib.Core.Bool.{Bool, true, false, not, cond}
-use Prim.Native.Nat.{ℕ, ◌+◌, ◌-◌, ◌*◌, ◌≤◌, ◌<◌}
+use Prim.Native.Nat.{ℕ, ◌+◌, ◌*◌, ◌≤◌, ◌<◌}
 use native.Mathlib.Nat.{le_trans, lt_of_le_of_lt}
 use native.Mathlib.Omega.{arith}
 use lib.Dec.{T, leb, lit<}
@@ -13,7 +13,7 @@ use Rattle.doubles.proofs.Units.{nought_in, one_in}
 use Rattle.inverse_segment.specs.declared.Inversion.{Inversion}
 use Rattle.inverse_segment.specs.Evaluations.{Evaluations}
 use Rattle.inverse_segment.specs.Rounds.{Arrival}
-use Rattle.inverse_segment.specs.Segment.{encloses, entered, enter, Outcome, off, placed}
+use Rattle.inverse_segment.specs.Segment.{encloses, enter, Outcome, off, placed}
 use Rattle.inverse_segment.specs.Answer.{answered, count_told}
 use Rattle.inverse_segment.proofs.Ends.{both}
 use Rattle.inverse_segment.proofs.Enclosing.{Numbers}

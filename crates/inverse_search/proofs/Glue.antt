@@ -26,19 +26,7 @@ use Rattle.inverse_search.specs.declared.SearchResult.TheVariants.{OffCurve, Ent
 use Rattle.inverse_search.specs.Bound.{bits_of}
 use Rattle.inverse_order.specs.Order.{before}
 use Rattle.inverse_search.specs.Search.{Trial, tries, last, halve, find}
-use Rattle.inverse_search.specs.Contract.{
-  result_of,
-  number_of,
-  ground_of,
-  doubles_of,
-  trial_by,
-  TrialIs,
-  TriesIs,
-  LastIs,
-  Halved,
-  HalveIs,
-  FindIs,
-}
+use Rattle.inverse_search.specs.Contract.{result_of, number_of, ground_of, doubles_of, trial_by, TrialIs, TriesIs, LastIs, HalveIs, FindIs}
 
 -- two cases of one type are never the same: `never (cc)`
 never : {A : Type 0} → ◌≡◌ {A = ℕ} 0 1 → A

@@ -24,7 +24,7 @@ use Rattle.turns_back.specs.declared.Turning.TheVariants.{Never}
 use Rattle.turns_back.proofs.Segment.{rises}
 use Rattle.turns_back.proofs.Everywhere.{NotAfter}
 use Rattle.whole.proofs.Held.{turned_long, same_all, small_all}
-use Rattle.turns_back.proofs.Verdicts.{passes, climbs}
+use Rattle.turns_back.proofs.Verdicts.{passes}
 use Rattle.turns_back.proofs.Answer as answer
 use Rattle.turns_back.proofs.Answer.{before, in_order_everywhere}
 use Rattle.turns_back.proofs.InOrder.{InOrder, back_order, turn_pair, none_turns}

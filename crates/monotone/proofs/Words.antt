@@ -5,7 +5,7 @@ use Prim.Native.Nat.{ℕ, zero, suc, min, ◌+◌, ◌*◌, ◌/◌, ◌≤◌}
 use native.Mathlib.Omega.{arith}
 use lib.IntN.{ℤ, pos, negsuc, neg_ℤ, nat_abs, ◌+ℤ◌, ◌*ℤ◌}
 use lib.Signed.{◌≤ℤ◌, ◌<ℤ◌, ≤ℤ_refl}
-use Rattle.whole.proofs.Differences.{down, itself, opposite, by, le, of_le, of_lt}
+use Rattle.whole.proofs.Differences.{itself, opposite, by, le, of_le, of_lt}
 use Rattle.monotone.specs.Slope.{limited, between}
 use Rattle.monotone.proofs.Negatives.{size_down}
 use Rattle.monotone.proofs.Limits.{limited_first, limited_second}

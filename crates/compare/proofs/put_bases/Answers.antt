@@ -5,7 +5,6 @@ use borrow.Author.Tests.{eq-eqb, ne_eqb}
 use Rattle.text.proofs.Writing.{then}
 use Rattle.compare.specs.Differences.{basis, rank_of, basis_difference}
 use Rattle.compare.proofs.Writing.{no_line, one_line}
-use borrow.Author.Rules.{rules}
 use Rattle.compare.proofs.put_bases.Goals as goal
 
 pub returns-then-rank : goal.returns-then-rank

@@ -1,7 +1,6 @@
 -- The parts one after the other; nothing was written before the last line exactly where nothing is listed (`compared`).
 use native.Mathlib.Omega.{arith}
 use Rattle.compare.proofs.Writing.{compared}
-use borrow.Author.Rules.{rules}
 use Rattle.compare.proofs.put_comparison.Goals as goal
 
 pub returns : goal.returns

@@ -1,7 +1,6 @@
 -- A word, the place, the old bits and the new, each where the last ended (`then`).
 use native.Mathlib.Omega.{arith}
 use Rattle.text.proofs.Writing.{then}
-use borrow.Author.Rules.{rules}
 use Rattle.compare.proofs.put_knot.Goals as goal
 
 pub returns : goal.returns

@@ -2,7 +2,6 @@
 use native.Mathlib.Omega.{arith}
 use Rattle.compare.specs.Differences.{places_in}
 use Rattle.compare.proofs.Writing.{no_line, one_line, place_same, place_knot, place_old, place_new}
-use borrow.Author.Rules.{rules}
 use Rattle.compare.proofs.put_place.Goals as goal
 
 pub returns-then-old-i : goal.returns-then-old-i

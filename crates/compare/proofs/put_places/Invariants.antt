@@ -1,8 +1,6 @@
 -- Invariant: the places below i have been told (`Upto`), in at most 44 bytes each.
-use borrow.Author.Rules.{rules}
-use native.Mathlib.Omega.{arith}
 use Prim.Native.Nat.{◌+◌, ◌*◌, ◌-◌, ◌≤◌}
-use Rattle.compare.proofs.Writing.{Upto, upto_none, upto_more, upto_all}
+use Rattle.compare.proofs.Writing.{Upto}
 use Rattle.compare.proofs.put_places.Given as goal
 
 abbrev pub invariant-loop-i : goal.invariant-loop-i

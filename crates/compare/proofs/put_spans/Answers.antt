@@ -4,7 +4,6 @@ use borrow.Author.Tests.{eq-eqb, ne_eqb}
 use Rattle.text.proofs.Writing.{then}
 use Rattle.compare.specs.Differences.{span, span_difference}
 use Rattle.compare.proofs.Writing.{no_line, one_line}
-use borrow.Author.Rules.{rules}
 use Rattle.compare.proofs.put_spans.Goals as goal
 
 pub returns-then-r-s : goal.returns-then-r-s

@@ -1,16 +1,15 @@
 -- By recursion on the open segments, which fall at each step. A step that goes on has made two evaluations and does what the definition
 -- does with one halving less.
 use mathlib.Core.Path.{refl, sym, ◌∙◌}
-use Prim.Native.Nat.{ℕ, ◌+◌, ◌-◌, ◌/◌, ◌<◌}
+use Prim.Native.Nat.{◌+◌, ◌-◌, ◌/◌}
 use native.Mathlib.Omega.{arith}
-use borrow.Author.Rules.{rules}
 use Rattle.inverse_search.proofs.Glue.{fits_le, fits_at, number_some, halve_over, halve_spent, halve_hit, halve_left, halve_right}
 use Rattle.inverse_search.proofs.+halve.Goals as goal
 
 pub returns-then-wide-eq0 : goal.returns-then-wide-eq0
 returns-then-wide-eq0 t c = let a = c.args in
     record {
-      answer = halve_over a.how a.b a.knots.now a.y a.precision a.limit a.rising a.halvings a.left a.wide c.requires.none
+      answer = halve_over a.how a.b a.knots.now.now a.y a.precision a.limit a.rising a.halvings a.left a.wide c.requires.none
           c.if-wide-eq0.true;
       left = omega arith;
       count_after = λ _. omega arith;
@@ -19,7 +18,7 @@ returns-then-wide-eq0 t c = let a = c.args in
 pub returns-then-halvings-eq0 : goal.returns-then-halvings-eq0
 returns-then-halvings-eq0 t c = let a = c.args in
     record {
-      answer = halve_spent a.how a.b a.knots.now a.y a.precision a.limit a.rising a.halvings a.left a.wide c.requires.none
+      answer = halve_spent a.how a.b a.knots.now.now a.y a.precision a.limit a.rising a.halvings a.left a.wide c.requires.none
           c.if-halvings-eq0.true;
       left = omega arith;
       count_after = λ _. omega arith;
@@ -75,7 +74,7 @@ halve-requires-else-lies_before t c = let a = c.args in (
 pub returns-in-Inside : goal.returns-in-Inside
 returns-in-Inside t c = let a = c.args in
     record {
-      answer = halve_hit a.how a.b a.knots.now a.y a.precision a.limit a.rising a.halvings a.left a.wide
+      answer = halve_hit a.how a.b a.knots.now.now a.y a.precision a.limit a.rising a.halvings a.left a.wide
           ((a.wide - 1) / 2) (omega arith) (omega arith) refl c.try_at-t.ensures c.in-Inside.is c.tell.ensures.ground c.tell.ensures.made
           c.tell.ensures.place;
       left = omega arith;
@@ -85,7 +84,7 @@ returns-in-Inside t c = let a = c.args in
 pub returns-then-lies_before : goal.returns-then-lies_before
 returns-then-lies_before t c = let a = c.args in
     record {
-      answer = halve_left a.how a.b a.knots.now a.y a.precision a.limit a.rising a.halvings a.left a.wide
+      answer = halve_left a.how a.b a.knots.now.now a.y a.precision a.limit a.rising a.halvings a.left a.wide
           ((a.wide - 1) / 2) (omega arith) (omega arith) refl c.try_at-t.ensures
           c.in-Outside.is
           (sym c.lies_before.ensures ∙ c.if-lies_before.true) c.halve.ensures.answer;
@@ -96,7 +95,7 @@ returns-then-lies_before t c = let a = c.args in
 pub returns-else-lies_before : goal.returns-else-lies_before
 returns-else-lies_before t c = let a = c.args in
     record {
-      answer = halve_right a.how a.b a.knots.now a.y a.precision a.limit a.rising a.halvings a.left a.wide
+      answer = halve_right a.how a.b a.knots.now.now a.y a.precision a.limit a.rising a.halvings a.left a.wide
           ((a.wide - 1) / 2) (omega arith) (omega arith) refl c.try_at-t.ensures
           c.in-Outside.is
           (sym c.lies_before.ensures ∙ c.if-lies_before.false) c.halve-else-lies_before.ensures.answer;

@@ -2,7 +2,6 @@
 -- that was entered, or else the last tries are where the halving ended.
 use native.Mathlib.Omega.{arith}
 use Rattle.inverse_search.proofs.Glue.{found_few, found_last, found_in}
-use borrow.Author.Rules.{rules}
 use Rattle.inverse_search.proofs.find.Goals as goal
 
 pub returns-then-k-le-IN_ORDER : goal.returns-then-k-le-IN_ORDER

@@ -1,7 +1,5 @@
 -- An arm knows its number, and the rest that it is none of the four.
 use mathlib.Core.Path.{sym, ap}
-use native.Mathlib.Omega.{arith}
-use borrow.Author.Tests.{ne_eqb}
 use Rattle.inverse_search.specs.Contract.{ground_of}
 use Rattle.inverse_search.proofs.ground_of.Goals as goal
 

@@ -1,7 +1,6 @@
 -- From left − 1, at least 0, at most two segments are tried; they lie below k.
 use native.Mathlib.Omega.{arith}
 use Rattle.inverse_search.proofs.Glue.{fits_le, last_tried}
-use borrow.Author.Rules.{rules}
 use Rattle.inverse_search.proofs.last_tries.Goals as goal
 
 pub tries-requires : goal.tries-requires

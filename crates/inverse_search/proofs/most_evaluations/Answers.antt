@@ -1,6 +1,5 @@
 -- A case for each side of 12; the sums fit 32 bits because the limit has 16 and the bits are at most 64.
 use borrow.Author.Tests.{le-leb, lt-leb}
-use borrow.Author.Rules.{rules}
 use Rattle.inverse_search.proofs.most_evaluations.Goals as goal
 
 pub returns-then-k-le-IN_ORDER : goal.returns-then-k-le-IN_ORDER

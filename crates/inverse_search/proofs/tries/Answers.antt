@@ -1,9 +1,7 @@
 -- The invariant: the segments before s do not enclose the target, two evaluations were made for each, and the tries left are those from s
 -- on.
-use Prim.Native.Nat.{◌+◌, ◌-◌, ◌*◌, ◌≤◌}
 use native.Mathlib.Omega.{arith}
-use borrow.Author.Rules.{rules}
-use Rattle.inverse_search.proofs.Glue.{fits_at, Carried, tries_start, tries_hit, tries_miss, tries_end}
+use Rattle.inverse_search.proofs.Glue.{fits_at, tries_start, tries_hit, tries_miss, tries_end}
 use Rattle.inverse_search.proofs.tries.Goals as goal
 
 pub loop-s-init : goal.loop-s-init

@@ -1,5 +1,4 @@
 -- The negative of a size fits. Assumes nothing.
-use borrow.Author.Rules.{rules}
 use Rattle.monotone.proofs.Negatives.{down_fits, down_is}
 use Rattle.monotone.proofs.down.Goals as goal
 

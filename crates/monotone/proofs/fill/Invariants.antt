@@ -1,18 +1,10 @@
 -- The invariant: the pairs of the rows until i stand at the front, and behind them the slice is as it was lent. Assumes nothing.
-use mathlib.Core.Path.{◌≡◌, refl, sym, ap, ◌∙◌}
-use mathlib.Core.List.{List, ◌++◌}
-use Prim.Native.Nat.{ℕ, ◌-◌, ◌*◌, ◌≤◌}
-use native.Mathlib.Omega.{arith}
-use lib.Dec.{lit<}
-use lib.IntN.{ℤ}
-use lib.ListN.{length, drop, length-set}
-use Rattle.whole.specs.Held.{held, held_all}
-use Rattle.whole.proofs.Held.{knot, long}
-use Rattle.monotone.specs.Slope.{slope_at}
+use mathlib.Core.Path.{◌≡◌}
+use mathlib.Core.List.{◌++◌}
+use Prim.Native.Nat.{◌-◌, ◌*◌, ◌≤◌}
+use lib.ListN.{length, drop}
+use Rattle.whole.specs.Held.{held_all}
 use Rattle.monotone.specs.Table.{pairs}
-use Rattle.whole.proofs.Held.{back}
-use Rattle.monotone.proofs.Sizes.{slope_le}
-use Rattle.monotone.proofs.Pairs.{none_written, next_pair}
 use Rattle.monotone.proofs.fill.Given as goal
 
 abbrev pub invariant-loop-i : goal.invariant-loop-i

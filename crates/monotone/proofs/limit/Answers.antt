@@ -1,6 +1,5 @@
 -- The code is the definition; a half of two sizes is no larger than they. Assumes nothing.
 use native.Mathlib.Omega.{arith}
-use borrow.Author.Rules.{rules}
 use Rattle.monotone.specs.Slope.{limited}
 use Rattle.monotone.proofs.limit.Goals as goal
 

@@ -5,7 +5,6 @@ use lib.ListN.{length}
 use Rattle.whole.specs.Held.{held_all}
 use Rattle.whole.proofs.Held.{long}
 use Rattle.monotone.proofs.Verdicts.{passed, refuses, writes}
-use borrow.Author.Rules.{rules}
 use Rattle.monotone.proofs.monotone.Goals as goal
 
 pub fill-requires : goal.fill-requires

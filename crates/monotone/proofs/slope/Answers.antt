@@ -3,7 +3,6 @@ use mathlib.Core.Path.{ap, ◌∙◌}
 use Prim.Native.Nat.{ℕ}
 use native.Mathlib.Omega.{arith}
 use lib.IntN.{pos, neg_ℤ}
-use borrow.Author.Rules.{rules}
 use Rattle.monotone.proofs.Negatives.{up_held, down_held}
 use Rattle.monotone.proofs.Limits.{both_up, up_down, down_up, both_down}
 use Rattle.monotone.proofs.slope.Goals as goal

@@ -5,7 +5,6 @@ use native.Mathlib.Omega.{arith}
 use Rattle.whole.proofs.Held.{small_at}
 use Rattle.monotone.specs.Table.{most}
 use Rattle.monotone.proofs.Sizes.{slope_held, slope_of}
-use borrow.Author.Rules.{rules}
 use Rattle.monotone.proofs.slope_at.Goals as goal
 
 pub raised-x-requires : goal.raised-x-requires

@@ -3,7 +3,6 @@ use lib.Dec.{lit<}
 use native.Mathlib.Nat.{lt_of_le_of_lt}
 use mir.Syntax.{w64}
 use mir.Facts.{to_z_pos}
-use borrow.Author.Rules.{rules}
 use Rattle.monotone.proofs.up.Goals as goal
 
 pub returns : goal.returns

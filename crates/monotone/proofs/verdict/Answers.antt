@@ -3,7 +3,6 @@ use native.Mathlib.Omega.{arith}
 use Rattle.whole.specs.Held.{held_all}
 use Rattle.whole.proofs.Held.{long}
 use Rattle.monotone.proofs.Verdicts.{too_few, too_many, too_short, too_large, passes}
-use borrow.Author.Rules.{rules}
 use Rattle.monotone.proofs.verdict.Goals as goal
 
 pub returns-then-rows-lt2 : goal.returns-then-rows-lt2
