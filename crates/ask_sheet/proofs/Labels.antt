@@ -1,14 +1,14 @@
 -- Labels in a lent slice: a label more leaves those before it. Assumes nothing.
 use mathlib.Core.Path.{◌≡◌, refl, sym, ap, ◌∙◌}
 use mathlib.Core.List.{List, [], ◌∷◌, ◌++◌, append_assoc}
-use Prim.Native.Nat.{ℕ, zero, suc, min, ◌+◌, ◌*◌, ◌-◌, ◌≤◌, ◌<◌}
+use Prim.Native.Nat.{ℕ, zero, suc, min, ◌+◌, ◌*◌, ◌-◌, ◌≤◌}
 use native.Mathlib.Omega.{arith}
 use native.Mathlib.Numerals.{add-one}
 use native.Mathlib.Nat.{add-zero, zero-add, suc-add}
 use lib.ListN.{length, take, drop, get_or, take-append-drop}
 use lib.Seq.{take-take, get_or-take, take_at, take-nil, length-take-le, take-append_seam, get_or-append-add, drop-append-add}
 use Rattle.text.specs.Wrote.{Wrote}
-use Rattle.ask_sheet.specs.Contract.{cells, label_at, labels_to}
+use Rattle.ask_sheet.specs.Contract.{label_at, labels_to}
 
 -- what is taken first and then passed over
 drop_take : (a m : ℕ) (l : List ℕ) → drop a (take (a + m) l) ≡ take m (drop a l)

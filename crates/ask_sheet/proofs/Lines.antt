@@ -1,12 +1,11 @@
 -- A sheet's lines, case by case. Assumes nothing.
 use mathlib.Core.Path.{◌≡◌, refl, sym, ap, ◌∙◌}
-use mathlib.Core.Bool.{Bool, true, false, cond}
-use mathlib.Core.List.{List, [], ◌∷◌, ◌++◌, map}
-use Prim.Native.Nat.{ℕ, zero, suc, ◌+◌, ◌-◌, ◌≤◌, ◌<◌, ◌^◌}
+use mathlib.Core.Bool.{Bool, true, false}
+use mathlib.Core.List.{List, [], ◌∷◌, ◌++◌}
+use Prim.Native.Nat.{ℕ, zero, suc, ◌+◌, ◌-◌, ◌≤◌, ◌<◌}
 use native.Mathlib.Numerals.{add-one}
 use native.Mathlib.Omega.{arith}
 use borrow.Author.Tests.{le-leb, lt-leb, lt-ltb, le-ltb}
-use lib.Dec.{leb, ltb}
 use lib.IntN.{ℤ, pos, neg_ℤ, nat_abs}
 use lib.ListN.{length, take, set}
 use lib.Seq.{take-suc-set, length-take-le}
@@ -25,7 +24,7 @@ use Rattle.ask_sheet.specs.declared.Kind.TheVariants.{Monotone}
 use Rattle.ask_sheet.specs.declared.KindName.{KindName}
 use Rattle.ask_sheet.specs.declared.KindName.TheVariants as K
 use Rattle.ask_sheet.specs.declared.Reason.{Reason}
-use Rattle.ask_sheet.specs.declared.Reason.TheVariants.{Long, NoBasis, NoLabel, NoDepth, Many}
+use Rattle.ask_sheet.specs.declared.Reason.TheVariants.{Long, NoLabel, NoDepth, Many}
 use Rattle.ask_sheet.specs.Sheet.{Sheet, unbegun, on, faulty, drawn, kind_of, named, whole_of, most_in, added, grown, after_of}
 
 -- ---- a number as it is held

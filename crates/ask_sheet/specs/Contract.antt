@@ -1,7 +1,6 @@
 -- How code holds a sheet: depths in one lent slice, labels in another. Definitions only.
-use Rattle.std.specs.Prelude.{List, [], ◌∷◌, ◌++◌, ℕ, zero, suc, min, ◌+◌, ◌*◌, ◌≤◌, ℤ, length, take, drop, get_or}
+use Rattle.std.specs.Prelude.{List, [], ◌∷◌, ◌++◌, ℕ, zero, suc, min, ◌+◌, ◌*◌, ℤ, take, drop, get_or}
 use Rattle.whole.specs.Held.{held_all, Small}
-use Rattle.sheet.specs.Sheet.{most}
 use Rattle.ask_sheet.specs.declared.SheetHeld.{SheetHeld}
 use Rattle.ask_sheet.specs.declared.SheetHeld.TheVariants.{Unbegun, On, Faulty}
 use Rattle.ask_sheet.specs.Sheet.{Sheet, unbegun, on, faulty, most_in}

@@ -1,11 +1,11 @@
 -- When a claim is accepted; and each answer of an inversion with ground `value` or `edge`, of a curve by either rule of the ends and of one segment, by any
 -- method, is accepted for its own segment, local place and precision: the edge's test is the claim's, and a value within the precision is within twice
 -- it. Assumes nothing.
-use mathlib.Core.Path.{◌≡◌, refl, sym, ap, subst, ◌∙◌}
+use mathlib.Core.Path.{◌≡◌, refl, sym, subst, ◌∙◌}
 use mathlib.Core.Logic.{◌⊎◌, inl, inr}
 use mathlib.Core.Bool.{Bool, true, false, not, ◌&&◌}
 use mathlib.Core.List.{List}
-use Prim.Native.Nat.{ℕ, ◌<◌, ◌-◌}
+use Prim.Native.Nat.{ℕ, ◌<◌}
 use native.Mathlib.Omega.{arith}
 use borrow.Author.Tests.{lt-ltb, not-false}
 use lib.Dec.{T, ltb}

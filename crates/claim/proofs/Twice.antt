@@ -2,9 +2,9 @@
 use mathlib.Core.Path.{◌≡◌, refl, sym}
 use mathlib.Core.Bool.{Bool, true, false, not}
 use Prim.Native.Nat.{ℕ, ◌*◌, ◌^◌, ◌≤◌, ◌<◌}
-use native.Mathlib.Nat.{le_trans, le_of_eq, lt_of_le_of_lt, mul-le-mul_right, mul-pos, one-mul}
+use native.Mathlib.Nat.{le_of_eq, lt_of_le_of_lt, mul-le-mul_right, mul-pos, one-mul}
 use native.Mathlib.Omega.{arith}
-use lib.IntN.{ℤ, pos}
+use lib.IntN.{ℤ}
 use lib.Dec.{T, lit<}
 use lib.Pow.{pow_pos}
 use lib.Ieee.{Float, nan, inf, fin, binary64, low, up, down, mul, round, lt, le, eq, is_nan, fits}
@@ -13,7 +13,7 @@ use lib.Ieee.Order.{round_mono, le_of_values}
 use lib.Ieee.Scale.{grid, round_val}
 use Rattle.doubles.specs.Numbers.{two}
 use Rattle.doubles.proofs.Rounding.{grid_short_le, grid_short_ge}
-use Rattle.doubles.proofs.Order.{le_trans_float, lt→le, not-lt→le, lt_le_absurd}
+use Rattle.doubles.proofs.Order.{le_trans_float, not-lt→le, lt_le_absurd}
 use Rattle.doubles.proofs.Units.{units_of}
 use Rattle.checks.specs.Checks.{precise}
 

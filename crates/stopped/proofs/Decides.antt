@@ -9,7 +9,6 @@ use lib.ListN.{length}
 use lib.Ieee.{Float}
 use Rattle.basis.specs.Basis.{segments_of}
 use Rattle.doubles.specs.Numbers.{nought, one}
-use Rattle.error.specs.declared.Refusal.{Refusal}
 use Rattle.error.specs.declared.Verdict.{Verdict}
 use Rattle.error.specs.declared.Verdict.TheVariants.{Passed, Failed}
 use Rattle.error.specs.Refusals.{first}
@@ -30,7 +29,6 @@ use Rattle.inverse_segment.specs.Round.{Rule}
 use Rattle.inverse_segment.specs.Steady.{steady}
 use Rattle.spline.specs.Segment.{segment_of}
 use Rattle.stopped.specs.declared.Job.{Job}
-use Rattle.stopped.specs.declared.Job.TheVariants.{Refused}
 use Rattle.stopped.specs.Contract.{by_end}
 use Rattle.stopped.specs.Stopped.{ends_of, between, said_of, stopped_uses, stopped_of}
 use Rattle.stopped.proofs.Between.{is_between, silent_between}

@@ -17,7 +17,7 @@ use Rattle.doubles.proofs.Units.{nought_in, one_in}
 use Rattle.error.specs.declared.Refusal.{Refusal}
 use Rattle.error.specs.declared.Verdict.{Verdict}
 use Rattle.error.specs.declared.Verdict.TheVariants.{Passed, Failed}
-use Rattle.error.specs.Refusals.{Uses, rows, first}
+use Rattle.error.specs.Refusals.{rows, first}
 use Rattle.error.proofs.First.{never, First, clear, first_sound, first_complete}
 use Rattle.inverse.specs.declared.Ends.{Ends}
 use Rattle.inverse.specs.Inverse.{inverse_by}
@@ -29,7 +29,6 @@ use Rattle.inverse_segment.specs.Method.{steady_limit}
 use Rattle.inverse_order.specs.declared.EndsBy.TheVariants.{Curve}
 use Rattle.inverse_segment.specs.declared.Inversion.{Inversion}
 use Rattle.inverse_segment.specs.declared.Inversion.TheVariants as I
-use Rattle.inverse_segment.specs.declared.Place.{Place}
 use Rattle.inverse_segment.specs.Answer.{default_precision}
 use Rattle.inverse_segment.proofs.Enclosing.{Numbers}
 use Rattle.spline.specs.Segment.{segment_of}

@@ -1,8 +1,8 @@
 -- The answers, by the tests as the code makes them. The count has room for one more, since the inversion's is bounded. Assumes nothing.
-use mathlib.Core.Path.{◌≡◌, refl, sym, ap, ◌∙◌, subst}
+use mathlib.Core.Path.{◌≡◌, refl, sym, ap, ◌∙◌}
 use mathlib.Core.Bool.{Bool, true, false, not}
 use mathlib.Core.List.{List}
-use Prim.Native.Nat.{ℕ, ◌+◌, ◌<◌}
+use Prim.Native.Nat.{ℕ, ◌<◌}
 use native.Mathlib.Omega.{arith}
 use lib.Dec.{ltb, eqb}
 use lib.ListN.{length}
@@ -24,7 +24,7 @@ use Rattle.inverse.specs.Inverse.{inverse_of}
 use Rattle.inverse.proofs.Most.{bound_small}
 use Rattle.inverse.proofs.Promises.{inverse_bounded}
 use Rattle.uneven.specs.declared.DepthAnswer.{DepthAnswer}
-use Rattle.uneven.specs.Uneven.{depth_uses, suited, sounded, depth_of}
+use Rattle.uneven.specs.Uneven.{depth_uses, sounded, depth_of}
 use Rattle.uneven.specs.Contract.{asked_at, verdict_of}
 use Rattle.uneven.proofs.Call.{asked_number}
 

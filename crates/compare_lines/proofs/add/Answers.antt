@@ -1,6 +1,5 @@
 -- The listing after a knot holds what the keeper keeps; whether it found a place decides what is told.
 use Rattle.compare_lines.proofs.Entering.{knot_held, knot_taken, knot_dropped}
-use borrow.Author.Rules.{rules}
 use Rattle.compare_lines.proofs.add.Goals as goal
 
 pub returns-then-k : goal.returns-then-k

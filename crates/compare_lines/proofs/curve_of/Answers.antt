@@ -1,6 +1,5 @@
 -- The field is a basis's name, or says nothing.
 use mathlib.Core.Path.{sym, ◌∙◌}
-use borrow.Author.Rules.{rules}
 use Rattle.compare_lines.proofs.curve_of.Goals as goal
 
 pub returns-in_default : goal.returns-in_default

@@ -3,7 +3,6 @@ use native.Mathlib.Omega.{arith}
 use Prim.Native.Nat.{◌≤◌, max}
 use Rattle.compare_lines.specs.Listings.{places, ends_of}
 use Rattle.compare_lines.specs.Contract.{knots_of}
-use borrow.Author.Rules.{rules}
 use Rattle.compare_lines.proofs.end.Goals as goal
 
 pub end_parted-requires : goal.end_parted-requires

@@ -4,7 +4,6 @@ use mathlib.Core.Path.{◌≡◌}
 use Prim.Native.Nat.{◌-◌, ◌≤◌}
 use lib.ListN.{length-take}
 use Rattle.compare_lines.specs.Listings.{places, ends_of}
-use borrow.Author.Rules.{rules}
 use Rattle.compare_lines.proofs.end_on.Goals as goal
 
 pub slice_bounds-put_comparison-end-in-On : goal.slice_bounds-put_comparison-end-in-On

@@ -2,7 +2,6 @@
 use native.Mathlib.Omega.{arith}
 use Prim.Native.Nat.{◌≤◌}
 use Rattle.compare_lines.specs.Listings.{places, ends_of}
-use borrow.Author.Rules.{rules}
 use Rattle.compare_lines.proofs.end_parted.Goals as goal
 
 pub end_on-requires : goal.end_on-requires

@@ -1,7 +1,6 @@
 -- Before the listing's `curve` (`first`), or after it (`later`).
 use Prim.Native.Nat.{◌≤◌}
 use Rattle.compare_lines.specs.Listings.{places}
-use borrow.Author.Rules.{rules}
 use Rattle.compare_lines.proofs.enter.Goals as goal
 
 pub later-requires : goal.later-requires

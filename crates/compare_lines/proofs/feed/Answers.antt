@@ -1,15 +1,7 @@
 -- Invariant: the bytes passed were fed, and the text in hand fits; it stops where `out` may not hold a further refusal.
-use mathlib.Core.Path.{◌≡◌}
-use Prim.Native.Nat.{◌+◌, ◌*◌, ◌≤◌, ◌<◌, ◌-◌, ◌^◌}
 use native.Mathlib.Omega.{arith}
-use lib.ListN.{length}
-use lib.Seq.{slice}
-use Rattle.compare_lines.specs.Contract.{both_of, count_of}
-use Rattle.lines_machine.specs.Program.{widest}
-use Rattle.lines_machine.specs.Bytes.{state_at}
-use Rattle.lines_machine.specs.Contract.{open_of, Fed}
 use Rattle.lines_machine.proofs.Feeding.{fed_from, fed_stretch, fed_line}
-use Rattle.compare_lines.specs.Listings.{places, compare_program}
+use Rattle.compare_lines.specs.Listings.{compare_program}
 use borrow.Author.Rules.{rules}
 use Rattle.compare_lines.proofs.feed.Goals as goal
 

@@ -1,6 +1,5 @@
 -- A line that was begun ends first, then the comparison is written.
 use native.Mathlib.Omega.{arith}
-use borrow.Author.Rules.{rules}
 use Rattle.lines_machine.proofs.Feeding.{end_none, end_some}
 use Rattle.compare_lines.specs.Listings.{compare_program}
 use Rattle.compare_lines.specs.Contract.{both_of}

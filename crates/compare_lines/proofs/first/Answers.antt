@@ -2,7 +2,6 @@
 use native.Mathlib.Omega.{arith}
 use mathlib.Core.Path.{refl}
 use Rattle.compare_lines.specs.Listings.{heard, entered}
-use borrow.Author.Rules.{rules}
 use Rattle.compare_lines.proofs.first.Goals as goal
 
 pub returns-in-Curve : goal.returns-in-Curve

@@ -1,6 +1,5 @@
 -- Sixteen digits are the knot's bits; anything else says nothing.
 use mathlib.Core.Path.{sym, ◌∙◌}
-use borrow.Author.Rules.{rules}
 use Rattle.compare_lines.proofs.knot_of.Goals as goal
 
 pub returns-in_default : goal.returns-in_default

@@ -1,7 +1,6 @@
 -- What the line says is taken in, and its refusal written.
 use Rattle.lines_machine.specs.Contract.{open_of}
 use Rattle.compare_lines.proofs.Entering.{line_state, line_wrote}
-use borrow.Author.Rules.{rules}
 use Rattle.compare_lines.proofs.line.Goals as goal
 
 pub returns : goal.returns

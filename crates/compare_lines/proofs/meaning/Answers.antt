@@ -1,7 +1,6 @@
 -- A case for each word, in the definition's order: the words before it did not fit.
 use mathlib.Core.Path.{sym, ◌∙◌}
 use Rattle.compare_lines.specs.CompareRecord.{meaning_of}
-use borrow.Author.Rules.{rules}
 use Rattle.compare_lines.proofs.meaning.Goals as goal
 
 pub returns-then-is_word : goal.returns-then-is_word

@@ -1,7 +1,6 @@
 -- A refusal is written, and nothing where there is none.
 use native.Mathlib.Omega.{arith}
 use Rattle.text.proofs.Writing.{nothing}
-use borrow.Author.Rules.{rules}
 use Rattle.compare_lines.proofs.put_verdict.Goals as goal
 
 pub returns-in-Passed : goal.returns-in-Passed

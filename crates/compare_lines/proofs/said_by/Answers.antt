@@ -2,7 +2,6 @@
 use native.Mathlib.Omega.{arith}
 use mathlib.Core.Path.{◌∙◌}
 use Rattle.compare_lines.proofs.Fields.{said_so, said_over_lem}
-use borrow.Author.Rules.{rules}
 use Rattle.compare_lines.proofs.said_by.Goals as goal
 
 pub returns-then-len-le-WIDEST : goal.returns-then-len-le-WIDEST

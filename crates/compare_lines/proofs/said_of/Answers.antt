@@ -2,7 +2,6 @@
 use native.Mathlib.Omega.{arith}
 use mathlib.Core.Path.{sym, ◌∙◌}
 use Rattle.compare_lines.proofs.Fields.{one_field, two_fields, no_record}
-use borrow.Author.Rules.{rules}
 use Rattle.compare_lines.proofs.said_of.Goals as goal
 
 pub field-requires : goal.field-requires

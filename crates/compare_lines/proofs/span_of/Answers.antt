@@ -3,7 +3,6 @@ use native.Mathlib.Omega.{arith}
 use mathlib.Core.Path.{sym, ◌∙◌}
 use Prim.Native.Nat.{◌<◌, ◌^◌}
 use Rattle.text_decimals.proofs.Digits.{number_small}
-use borrow.Author.Rules.{rules}
 use Rattle.compare_lines.proofs.span_of.Goals as goal
 
 pub returns-in_default : goal.returns-in_default

@@ -2,7 +2,6 @@
 use native.Mathlib.Omega.{arith}
 use mathlib.Core.Path.{sym, ◌∙◌}
 use Rattle.compare_lines.proofs.Entering.{span_taken, span_refused}
-use borrow.Author.Rules.{rules}
 use Rattle.compare_lines.proofs.spanned.Goals as goal
 
 pub returns-then-is_span : goal.returns-then-is_span

@@ -5,7 +5,6 @@ use Prim.Native.Nat.{◌≤◌, max}
 use Rattle.compare_lines.specs.Listings.{places, before, parted}
 use Rattle.compare_lines.specs.Contract.{listing_of, knots_of}
 use Rattle.compare_lines.proofs.Entering.{parting, entering, second}
-use borrow.Author.Rules.{rules}
 use Rattle.compare_lines.proofs.take_in.Goals as goal
 
 pub returns-then-is_other : goal.returns-then-is_other

@@ -26,12 +26,4 @@ pub returns-in-5 : goal.returns-in-5
 returns-in-5 c = ap chosen_of (sym c.in-5.is)
 
 pub returns-in_default : goal.returns-in_default
-returns-in_default c = sym (get_or-eq_default (map Known bases) Unknown {n = c.args.n} (omega (
-  arith,
-  c.in_default.not.0.0.0.0.0.1,
-  c.in_default.not.0.0.0.0.1,
-  c.in_default.not.0.0.0.1,
-  c.in_default.not.0.0.1,
-  c.in_default.not.0.1,
-  c.in_default.not.1,
-)))
+returns-in_default c = sym (get_or-eq_default (map Known bases) Unknown {n = c.args.n} (omega arith))

@@ -18,4 +18,4 @@ returns-in-2 c = ap (method_of c.args.ends) (sym c.in-2.is)
 
 pub returns-in_default : goal.returns-in_default
 returns-in_default c = sym (get_or-eq_default (map (Known c.args.ends) methods) Unknown {n = c.args.n}
-    (omega (arith, c.in_default.not.0.0.1, c.in_default.not.0.1, c.in_default.not.1)))
+    (omega arith))

@@ -4,7 +4,6 @@ use mathlib.Core.List.{map}
 use Prim.Native.Nat.{ℕ}
 use native.Mathlib.Omega.{arith}
 use lib.ListN.{get_or-eq_default}
-use borrow.Author.Rules.{rules}
 use Rattle.exports_reply.specs.declared.options.Way.TheVariants.{Unknown}
 use Rattle.exports_reply.specs.Options.{rules, method_of, way_of}
 use Rattle.exports_reply.proofs.options.way_of.Goals as goal
@@ -17,4 +16,4 @@ returns-in-1 c = c.by_method-in-1.ensures ∙ ap (λ (n : ℕ). way_of n c.args.
 
 pub returns-in_default : goal.returns-in_default
 returns-in_default c = sym (get_or-eq_default (map (λ e. method_of e c.args.method) rules) Unknown {n = c.args.ends}
-    (omega (arith, c.in_default.not.0.1, c.in_default.not.1)))
+    (omega arith))

@@ -1,0 +1,58 @@
+-- A number that is no basis writes nothing (`unfound`); for any other the call's contract is carried over to what C sees (`found`).
+use mathlib.Core.Path.{ap, ◌∙◌}
+use lib.ListN.{length}
+use Rattle.convert_strict.specs.Strict.{strict_of}
+use Rattle.convert.specs.Buffer.{answer_of, buffer_of}
+use Rattle.exports_reply.specs.Replies.{chosen_of, no_basis, chosen, length_left, converted_reply}
+use Rattle.exports_reply.proofs.Found.{found, unfound}
+use Rattle.exports_convert.proofs.convert_spline_strict.Goals as goal
+
+pub returns-in_default : goal.returns-in_default
+returns-in_default c = let args = c.args in
+    let written = args.written.now in
+    let out = args.out.now in
+    let unknown = c.in_default.is in record {
+      answer = unfound no_basis (λ f. chosen (chosen_of args.to) no_basis
+          (λ t. converted_reply (answer_of (strict_of f t args.knots.now args.allowance (length out))))) c.basis_of-c.ensures unknown;
+      length = unfound written (λ f. chosen (chosen_of args.to) written
+          (λ t. length_left (answer_of (strict_of f t args.knots.now args.allowance (length out))) written)) c.basis_of-c.ensures unknown;
+      buffer = unfound out (λ f. chosen (chosen_of args.to) out (λ t. buffer_of (strict_of f t args.knots.now args.allowance (length out)) out)) c.basis_of-c.ensures unknown;
+    }
+
+pub returns-in_default-d : goal.returns-in_default-d
+returns-in_default-d c = let args = c.args in
+    let written = args.written.now in
+    let out = args.out.now in
+    let known = c.in-Known.is in
+    let from = c.in-Known.f in
+    let unknown = c.in_default-d.is in record {
+      answer = found no_basis (λ f. chosen (chosen_of args.to) no_basis
+          (λ t. converted_reply (answer_of (strict_of f t args.knots.now args.allowance (length out))))) c.basis_of-c.ensures known
+          (unfound no_basis (λ t. converted_reply (answer_of (strict_of from t args.knots.now args.allowance (length out)))) c.basis_of-d.ensures unknown);
+      length = found written (λ f. chosen (chosen_of args.to) written
+          (λ t. length_left (answer_of (strict_of f t args.knots.now args.allowance (length out))) written)) c.basis_of-c.ensures known
+          (unfound written (λ t. length_left (answer_of (strict_of from t args.knots.now args.allowance (length out))) written) c.basis_of-d.ensures unknown);
+      buffer = found out (λ f. chosen (chosen_of args.to) out (λ t. buffer_of (strict_of f t args.knots.now args.allowance (length out)) out)) c.basis_of-c.ensures known
+          (unfound out (λ t. buffer_of (strict_of from t args.knots.now args.allowance (length out)) out) c.basis_of-d.ensures unknown);
+    }
+
+pub returns : goal.returns
+returns c = let args = c.args in
+    let written = args.written.now in
+    let out = args.out.now in
+    let known = c.in-Known.is in
+    let from = c.in-Known.f in
+    let known-to = c.in-Known-d.is in
+    let reply = c.length_told.ensures.answer ∙ ap converted_reply c.convert_spline_strict.ensures.answer in
+    let length-left = c.length_told.ensures.written ∙ ap (λ a. length_left a written) c.convert_spline_strict.ensures.answer in
+    record {
+      answer = found no_basis (λ f. chosen (chosen_of args.to) no_basis
+          (λ t. converted_reply (answer_of (strict_of f t args.knots.now args.allowance (length out))))) c.basis_of-c.ensures known
+          (found no_basis (λ t. converted_reply (answer_of (strict_of from t args.knots.now args.allowance (length out)))) c.basis_of-d.ensures known-to reply);
+      length = found written (λ f. chosen (chosen_of args.to) written
+          (λ t. length_left (answer_of (strict_of f t args.knots.now args.allowance (length out))) written)) c.basis_of-c.ensures known
+          (found written (λ t. length_left (answer_of (strict_of from t args.knots.now args.allowance (length out))) written) c.basis_of-d.ensures known-to
+          length-left);
+      buffer = found out (λ f. chosen (chosen_of args.to) out (λ t. buffer_of (strict_of f t args.knots.now args.allowance (length out)) out)) c.basis_of-c.ensures known
+          (found out (λ t. buffer_of (strict_of from t args.knots.now args.allowance (length out)) out) c.basis_of-d.ensures known-to c.convert_spline_strict.ensures.buffer);
+    }
