@@ -1,6 +1,6 @@
 //! Uniform cubic splines over doubles, proved.
 //!
-//! This package calls `libsimmerstoat.a`, which `rt staticlib simmerstoat` writes. Its functions have the names of the crate
+//! This package calls `libsimmerstoat.a`, which `bin/archives simmerstoat` writes. Its functions have the names of the crate
 //! uniform-cubic-splines 0.5.2, and where the crate answers and none of the [refusals](Refusal) comes first they answer the
 //! same bits. What they add are the refusals, which keep every input from a panic or an endless loop, and the record of an
 //! inversion ([`Place`]). [`moving`] says what to change in a program that calls the crate.
