@@ -1,29 +1,25 @@
 -- What is said of a row by the depths, case by case. Assumes nothing.
 use mathlib.Core.Path.{◌≡◌, refl, sym, ap, ◌∙◌}
-use mathlib.Core.Bool.{Bool, true, false, not, cond, ◌&&◌, ◌||◌}
-use mathlib.Core.List.{List, [], ◌∷◌, ◌++◌}
+use mathlib.Core.Bool.{Bool, true, false, not}
+use mathlib.Core.List.{List, []}
 use Prim.Native.Nat.{ℕ, suc, ◌+◌, ◌-◌, ◌*◌, ◌/◌, ◌%◌, ◌≤◌, ◌<◌}
-use native.Mathlib.Omega.{arith}
 use native.Mathlib.Numerals.{add-one}
 use borrow.Author.Tests.{le-leb, lt-leb, lt-ltb, le-ltb, eq-eqb, ne_eqb}
-use lib.Dec.{leb, ltb, eqb}
 use lib.IntN.{ℤ, pos}
-use lib.Signed.{lt_z}
 use lib.ListN.{length, drop, get_or}
 use Rattle.basis.specs.declared.Basis.{Basis}
 use Rattle.basis.specs.Basis.{step_of, segments_of}
 use Rattle.text.specs.Text.{bytes}
 use Rattle.whole.specs.Held.{held, held_all, turned_all}
-use Rattle.whole.proofs.Held.{long, knot, turned_long}
+use Rattle.whole.proofs.Held.{long, knot}
 use Rattle.turns_back.specs.Curve.{starts_no_lower}
 use Rattle.turns_back.specs.Four.{four_never_fall}
 use Rattle.ask_sheet.specs.declared.Kind.{Kind}
 use Rattle.ask_verdict.specs.Curve.{basis_of, knots_of, first_row, row_step, through_rows}
 use Rattle.turns_back.specs.declared.Way.{Way}
 use Rattle.turns_back.specs.Call.{start_of, end_of, way_of}
-use Rattle.ask_verdict.specs.Faults.{Fault, turns, falls, against, turns_at, falls_at, bend_of, bend_at, segments_in, way_in}
-use Rattle.ask_verdict.specs.Told.{number_text, fault_text, faults_text}
-use Rattle.ask_verdict.specs.Contract.{Drawing}
+use Rattle.ask_verdict.specs.Faults.{turns, falls, against, turns_at, falls_at, bend_of, bend_at, segments_in, way_in}
+use Rattle.ask_verdict.specs.Told.{number_text, faults_text}
 use Rattle.ask_verdict.proofs.Texts.{one_text, no_text}
 
 -- ---- rows that turn

@@ -3,12 +3,12 @@ use mathlib.Core.Path.{◌≡◌, refl, sym, ap, ◌∙◌}
 use mathlib.Core.Logic.{inl, inr}
 use mathlib.Core.Bool.{Bool, true, false}
 use mathlib.Core.List.{List, [], ◌∷◌, ◌++◌, map}
-use Prim.Native.Nat.{ℕ, zero, suc, ◌+◌, ◌-◌, ◌≤◌, ◌<◌, ◌^◌}
+use Prim.Native.Nat.{ℕ, ◌+◌, ◌-◌, ◌≤◌, ◌<◌}
 use native.Mathlib.Omega.{arith}
 use native.Mathlib.Numerals.{add-one}
 use lib.IntN.{ℤ, pos, negsuc, nat_abs}
-use lib.Ieee.{Float, nan, fin, binary64, div, neg, of_int, round}
-use lib.ListN.{length, take, drop, get_or, set, length-map, get_or-map}
+use lib.Ieee.{Float, fin, binary64, div, neg, of_int, round}
+use lib.ListN.{length, take, get_or, set, length-map, get_or-map}
 use lib.Seq.{take-suc, take-suc-set, take_all}
 use lib.Signed.{le_z}
 use borrow.Author.Tests.{leb-false}

@@ -11,8 +11,8 @@ use lib.ListN.{length, take, drop, get_or, length-append, get_or-append}
 use lib.Seq.{get_or-append_seam}
 use Rattle.text.specs.Text.{bytes, dec_text, same}
 use Rattle.ask_sheet.specs.Contract.{label_at, labels_to}
-use Rattle.ask_verdict.specs.Faults.{Fault, twice, same_from, first_same, twice_at}
-use Rattle.ask_verdict.specs.Told.{number_text, fault_text, faults_text}
+use Rattle.ask_verdict.specs.Faults.{twice, same_from, first_same, twice_at}
+use Rattle.ask_verdict.specs.Told.{number_text, faults_text}
 use Rattle.ask_verdict.proofs.Texts.{one_text, no_text}
 
 -- ---- in its place

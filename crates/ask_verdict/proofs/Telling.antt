@@ -1,24 +1,24 @@
 -- Faults or none: what is told, and what may be asked after it. Assumes nothing.
-use mathlib.Core.Path.{◌≡◌, refl, sym, ap, ◌∙◌, subst}
-use mathlib.Core.Bool.{Bool, true, false, cond, ◌&&◌}
-use mathlib.Core.List.{List, [], ◌∷◌, ◌++◌, map}
-use Prim.Native.Nat.{ℕ, zero, suc, ◌+◌, ◌-◌, ◌*◌, ◌≤◌, ◌<◌, ◌^◌}
+use mathlib.Core.Path.{◌≡◌, refl, ap, ◌∙◌, subst}
+use mathlib.Core.Bool.{Bool, true, false, ◌&&◌}
+use mathlib.Core.List.{List, [], ◌∷◌, map}
+use Prim.Native.Nat.{ℕ, suc, ◌*◌, ◌≤◌, ◌<◌}
 use native.Mathlib.Omega.{arith}
 use borrow.Author.Tests.{leb-true}
 use lib.Dec.{leb}
 use lib.IntN.{ℤ, pos, nat_abs}
 use lib.Ieee.{Float}
 use lib.ListN.{length, take, drop, get_or, length-take}
-use lib.Seq.{take_at, length-take-le}
+use lib.Seq.{take_at}
 use Rattle.basis.specs.declared.Basis.{Basis}
-use Rattle.basis.specs.Basis.{segments_of, regular, length_ok}
+use Rattle.basis.specs.Basis.{segments_of, regular}
 use Rattle.inverse.specs.declared.Ends.{Ends}
 use Rattle.inverse.specs.EndRule.{curve_rule}
 use Rattle.spline.specs.Segment.{segment_of}
 use Rattle.text.specs.Wrote.{Wrote}
-use Rattle.text.proofs.Writing.{then, nothing}
-use Rattle.whole.specs.Held.{held, held_all, Small}
-use Rattle.whole.proofs.Held.{back, long, knot, small_all}
+use Rattle.text.proofs.Writing.{then}
+use Rattle.whole.specs.Held.{held_all, Small}
+use Rattle.whole.proofs.Held.{back, small_all}
 use Rattle.turns_back.specs.Call as turns
 use Rattle.monotone.specs.Table as monotone
 use Rattle.monotone.specs.Table.{table_of, left_of}
@@ -32,7 +32,7 @@ use Rattle.ask_sheet.specs.declared.Reason.TheVariants.{Missing}
 use Rattle.ask_sheet.specs.Sheet.{unbegun, on, faulty}
 use Rattle.text.specs.Text.{bytes}
 use Rattle.ask_verdict.specs.Curve.{basis_of, knots_of, suits, double_of, doubles_of}
-use Rattle.ask_verdict.specs.Faults.{Fault, faults_of}
+use Rattle.ask_verdict.specs.Faults.{faults_of}
 use Rattle.ask_verdict.specs.Told.{faults_text, none, ends_in, fine_text, number_text, line_text, told_of, verdict_of, asked_by, asked_of, Asked, bad, fine}
 use Rattle.ask_verdict.specs.Contract.{Drawing, Asks}
 use Rattle.ask_verdict.proofs.Texts.{as_text, none_is, some_is}

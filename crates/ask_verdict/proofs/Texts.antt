@@ -1,8 +1,8 @@
 -- Texts of faults, one after another. Assumes nothing.
 use mathlib.Core.Path.{◌≡◌, refl, sym, ap, ◌∙◌, subst}
-use mathlib.Core.Bool.{Bool, true, false, cond}
+use mathlib.Core.Bool.{true, false}
 use mathlib.Core.List.{List, [], ◌∷◌, ◌++◌, append_assoc, append-nil}
-use Prim.Native.Nat.{ℕ, suc, ◌+◌, ◌≤◌, ◌<◌}
+use Prim.Native.Nat.{ℕ, ◌+◌, ◌<◌}
 use native.Mathlib.Omega.{arith}
 use native.Mathlib.Numerals.{add-one}
 use lib.IntN.{ℤ}
@@ -11,7 +11,7 @@ use Rattle.text.specs.Wrote.{Wrote}
 use Rattle.text.proofs.Writing.{then}
 use Rattle.turns_back.specs.declared.Way.{Way}
 use Rattle.ask_sheet.specs.declared.Kind.{Kind}
-use Rattle.ask_verdict.specs.Faults.{Fault, twice, turns, falls, flat, twice_at, bend_at, bent_at, faults_to, flat_by, way_in, faults_of}
+use Rattle.ask_verdict.specs.Faults.{Fault, twice, turns, falls, flat, twice_at, bent_at, faults_to, flat_by, way_in, faults_of}
 use Rattle.ask_verdict.specs.Told.{fault_text, faults_text, none}
 
 pub as_text : {o o' t t' : List ℕ} {at r : ℕ} → t ≡ t' → Wrote o at t o' r → Wrote o at t' o' r

@@ -1,5 +1,5 @@
 -- The curve that a sheet draws: its basis, its whole knots, and which of the sheet's rows its segments begin at. Definitions only.
-use Rattle.std.specs.Prelude.{Bool, true, false, cond, ◌&&◌, List, [], ◌∷◌, map, ℕ, suc, leb, eqb, ℤ, pos, negsuc, Float}
+use Rattle.std.specs.Prelude.{Bool, true, false, cond, ◌&&◌, List, map, ℕ, suc, leb, eqb, ℤ, pos, negsuc, Float}
 use Rattle.basis.specs.declared.Basis.{Basis}
 use Rattle.basis.specs.declared.Basis.TheVariants.{Bspline, Bezier, CatmullRom, Hermite, Linear, Power}
 use Rattle.basis.specs.Basis.{step_of, length_ok}
