@@ -117,7 +117,7 @@ def picture(basis, span, knots):
     global HEAD
     if HEAD is None:
         spec = open(os.path.join(ROOT, 'crates/picture/specs/Picture.antt'), encoding='utf-8').read()
-        part = spec[spec.index('headText =\n'):].split('\n\n')[0]
+        part = spec[spec.index('head_text =\n'):].split('\n\n')[0]
         HEAD = ''.join(bytes(w, 'ascii').decode('unicode_escape') for w in re.findall(r'bytes\s+"((?:[^"\\]|\\.)*)"', part))
     text = HEAD + ('hours from dusk' if span else 'parameter') + '</text>\n'
     stretch = span * 10 // 36 if span else 1000
