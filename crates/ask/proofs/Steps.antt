@@ -1,6 +1,6 @@
 -- A line, step by step: what it prints and what is held after it. Assumes nothing.
 use mathlib.Core.Path.{◌≡◌, refl, sym, ap, ◌∙◌, subst}
-use mathlib.Core.Bool.{Bool, true, false, cond}
+use mathlib.Core.Bool.{Bool, true, false}
 use mathlib.Core.List.{List, []}
 use Prim.Native.Nat.{ℕ, ◌-◌, ◌≤◌, ◌<◌}
 use native.Mathlib.Omega.{arith}
@@ -17,7 +17,7 @@ use Rattle.ask_verdict.specs.Told.{verdict_of, Asked, bad, fine, asked_of}
 use Rattle.ask_verdict.specs.Contract.{Asks}
 use Rattle.table_span.specs.Second.{day}
 use Rattle.ask_answers.specs.Answers.{answer_text, span_after}
-use Rattle.ask.specs.Ask.{Asking, reading, told, is_word, is_ask, answer_to, after_ask, tells_of, next_of, ends_of}
+use Rattle.ask.specs.Ask.{reading, told, is_word, is_ask, answer_to, after_ask, tells_of, next_of, ends_of}
 
 pub as_text : {o o' t t' : List ℕ} {at r : ℕ} → t ≡ t' → Wrote o at t o' r → Wrote o at t' o' r
 as_text {o} {o'} {t} {t'} {at} {r} e w = subst (λ (x : List ℕ). Wrote o at x o' r) e w

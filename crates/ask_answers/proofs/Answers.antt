@@ -20,7 +20,7 @@ use Rattle.spline.proofs.Parts.{inside}
 use Rattle.table_span.specs.declared.Table.{Table}
 use Rattle.table_span.specs.Second.{day, good_span}
 use Rattle.text.specs.Wrote.{Wrote}
-use Rattle.text.proofs.Writing.{nothing, then}
+use Rattle.text.proofs.Writing.{then}
 use Rattle.lines_reply.specs.Reply.{refused_text}
 use Rattle.ask_sheet.specs.declared.Kind.{Kind}
 use Rattle.ask_sheet.specs.Contract.{label_at, labels_to}

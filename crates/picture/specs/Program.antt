@@ -4,7 +4,7 @@ use Rattle.basis.specs.declared.Basis.TheVariants.{Linear}
 use Rattle.inverse_order.specs.declared.EndsBy.TheVariants.{Knots}
 use Rattle.lines_answer.specs.Answer.{Curve, none, on, bare, reply_to}
 use Rattle.lines_answer.specs.Answer.{after_of as curve_after}
-use Rattle.lines_machine.specs.Program.{Line, Program}
+use Rattle.lines_machine.specs.Program.{Program}
 use Rattle.lines.specs.Lines.{says}
 use Rattle.lines_record.specs.declared.Record.{Record}
 use Rattle.lines_record.specs.declared.Record.TheVariants.{Curve as CurveOf, Span, Knot, Ends, At, Find, Turn, Bad}

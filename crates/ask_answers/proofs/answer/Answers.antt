@@ -5,7 +5,6 @@ use Rattle.ask_verdict.proofs.Texts.{as_text}
 use lib.ListN.{length, take, length-take}
 use Rattle.ask_sheet.specs.Contract.{labels_to}
 use Rattle.ask_answers.specs.Answers.{text_by, span_by, answer_text, span_after}
-use borrow.Author.Rules.{rules}
 use Rattle.ask_answers.proofs.answer.Goals as goal
 
 pub returns : goal.returns

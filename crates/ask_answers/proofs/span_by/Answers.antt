@@ -7,7 +7,6 @@ use Rattle.ask_verdict.specs.Curve.{basis_of}
 use Rattle.table_span.proofs.Spans.{good_least}
 use Rattle.ask_answers.specs.Answers.{span_by}
 use Rattle.ask_answers.proofs.Answers.{span_good, span_kept}
-use borrow.Author.Rules.{rules}
 use Rattle.ask_answers.proofs.span_by.Goals as goal
 
 pub overflow_cast-result : goal.overflow_cast-result
