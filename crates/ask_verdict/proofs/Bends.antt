@@ -32,7 +32,8 @@ module _ (k : Kind) (up : Bool) (rows : List ℤ) (i : ℕ) {t : Bool} (is : t �
   unfolding turns_at
   last_row e h = rw (sym is ∙ e, le-ltb (suc i) (length (held_all rows)) (rw (long rows, ← add-one i) h)) refl
 
-  pub row_turns : t ≡ true → i + 1 < length rows → against up (held (get_or rows i (pos 0))) (held (get_or rows (i + 1) (pos 0))) ≡ turns_at k up (held_all rows) i
+  pub row_turns : t ≡ true → i + 1 < length rows
+      → against up (held (get_or rows i (pos 0))) (held (get_or rows (i + 1) (pos 0))) ≡ turns_at k up (held_all rows) i
   unfolding turns_at
   row_turns e h =
       rw (sym is ∙ e, lt-ltb (suc i) (length (held_all rows)) (rw (long rows, ← add-one i) h), knot rows i, knot rows (suc i))

@@ -33,7 +33,8 @@ no_text = refl
 
 -- a row more
 pub row_more : (k : Kind) (w : Way) (z : List ℤ) (ls : List (List ℕ)) (i : ℕ) {o o₁ o₂ o₃ : List ℕ} {at r₁ r₂ r₃ : ℕ}
-    → Wrote o at (faults_text (faults_to k w z ls i)) o₁ r₁ → Wrote o₁ r₁ (faults_text (twice_at ls i)) o₂ r₂ → Wrote o₂ r₂ (faults_text (bent_at k w z i)) o₃ r₃
+    → Wrote o at (faults_text (faults_to k w z ls i)) o₁ r₁ → Wrote o₁ r₁ (faults_text (twice_at ls i)) o₂ r₂
+    → Wrote o₂ r₂ (faults_text (bent_at k w z i)) o₃ r₃
     → Wrote o at (faults_text (faults_to k w z ls (i + 1))) o₃ r₃
 unfolding faults_to
 row_more k w z ls i a b c =
@@ -47,7 +48,8 @@ unfolding faults_to faults_text
 no_rows k w z ls = refl
 
 pub all_rows : (k : Kind) (w : Way) (z : List ℤ) (ls : List (List ℕ)) {o o₁ o₂ : List ℕ} {at r₁ r₂ : ℕ} → w ≡ way_in k z
-    → Wrote o at (faults_text (faults_to k w z ls (length z))) o₁ r₁ → Wrote o₁ r₁ (faults_text (flat_by w)) o₂ r₂ → Wrote o at (faults_text (faults_of k z ls)) o₂ r₂
+    → Wrote o at (faults_text (faults_to k w z ls (length z))) o₁ r₁ → Wrote o₁ r₁ (faults_text (flat_by w)) o₂ r₂
+    → Wrote o at (faults_text (faults_of k z ls)) o₂ r₂
 unfolding faults_of
 all_rows k w z ls e a b =
     as_text (texts_append (faults_to k w z ls (length z)) (flat_by w) ∙ ap (λ (v : Way). faults_text (faults_to k v z ls (length z) ++ flat_by v)) e) (then a b)

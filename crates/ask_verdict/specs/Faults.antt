@@ -1,5 +1,33 @@
 -- The faults of a sheet that draws a curve, row by row. Definitions only.
-use Rattle.std.specs.Prelude.{Bool, true, false, not, cond, ◌&&◌, ◌||◌, List, [], ◌∷◌, ◌++◌, ℕ, zero, suc, ◌+◌, ◌-◌, ◌*◌, ◌/◌, ◌%◌, leb, ltb, eqb, ℤ, pos, length, drop, get_or}
+use Rattle.std.specs.Prelude.{
+  Bool,
+  true,
+  false,
+  not,
+  cond,
+  ◌&&◌,
+  ◌||◌,
+  List,
+  [],
+  ◌∷◌,
+  ◌++◌,
+  ℕ,
+  zero,
+  suc,
+  ◌+◌,
+  ◌-◌,
+  ◌*◌,
+  ◌/◌,
+  ◌%◌,
+  leb,
+  ltb,
+  eqb,
+  ℤ,
+  pos,
+  length,
+  drop,
+  get_or,
+}
 use Rattle.std.specs.Int.Signed.{lt_z}
 use Rattle.basis.specs.declared.Basis.{Basis}
 use Rattle.basis.specs.Basis.{step_of, segments_of}

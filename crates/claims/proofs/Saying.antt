@@ -28,7 +28,8 @@ use Rattle.claims.specs.Claims.{of_table, claim_with, claim_in, said_in, says, c
 
 -- ---- the fields after the word: four, or not four
 pub four_fields : (l : List ℕ) → length (fields_of l) ≡ 5
-    → claim_with (hex_of (get_or (fields_of l) 1 [])) (number_in 4 (get_or (fields_of l) 2 [])) (hex_of (get_or (fields_of l) 3 [])) (hex_of (get_or (fields_of l) 4 []))
+    → claim_with (hex_of (get_or (fields_of l) 1 [])) (number_in 4 (get_or (fields_of l) 2 [])) (hex_of (get_or (fields_of l) 3 [])) (hex_of (get_or
+    (fields_of l) 4 []))
     ≡ claim_in (drop 1 (fields_of l))
 unfolding claim_in
 four_fields l h = go (fields_of l) h

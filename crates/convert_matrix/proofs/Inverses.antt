@@ -74,7 +74,8 @@ unfolding conversion_of
 tested = tt
 
 conversion_tame : (from to : Basis) → T (tame (conversion_of from to))
-conversion_tame from to = each (λ (t : Basis). tame (conversion_of from t)) (each (λ (f : Basis). on_all (λ (t : Basis). tame (conversion_of f t))) tested from) to
+conversion_tame from to =
+    each (λ (t : Basis). tame (conversion_of from t)) (each (λ (f : Basis). on_all (λ (t : Basis). tame (conversion_of f t))) tested from) to
 
 pub conversion_clean : (from to : Basis) → T (clean (conversion_of from to))
 conversion_clean from to = and_l (clean (conversion_of from to)) (small_matrix 3 (conversion_of from to)) (conversion_tame from to)

@@ -49,7 +49,8 @@ module _ (from to : Basis) (ks : List Float) where
 module _ (from to : Basis) (ks : List Float) (allowance : Float) where
   -- double j of segment s's window is apart from the one at its place of the output
   abbrev pub Apart : ℕ → ℕ → Bool
-  Apart s j = is_apart allowance (get_or (window_of (conversion_of from to) (step_of from) ks s) j nan) (get_or (spline_output from to ks) (s * step_of to + j) nan)
+  Apart s j = is_apart allowance (get_or (window_of (conversion_of from to) (step_of from) ks s) j nan) (get_or (spline_output from to ks) (s *
+      step_of to + j) nan)
 
   -- s is a later segment, and one of the doubles that it drops is so
   abbrev pub Loses : ℕ → Type 0
@@ -168,7 +169,8 @@ module _ (from to : Basis) (ks : List Float) (allowance : Float) (room : ℕ) wh
   -- where doubles are given, none that is dropped is apart from the one that stands in the buffer
   pub kept_within : (l out : List Float) → strict_of from to ks allowance room ≡ gives l → (s j : ℕ) → 0 < s → s < segments_of from (length ks) → j < 4
       - step_of to
-      → is_apart allowance (get_or (window_of (conversion_of from to) (step_of from) ks s) j nan) (get_or (buffer_of (gives l) out) (s * step_of to + j) nan) ≡ false
+      → is_apart allowance (get_or (window_of (conversion_of from to) (step_of from) ks s) j nan) (get_or (buffer_of (gives l) out) (s * step_of to +
+      j) nan) ≡ false
   unfolding strict_of
   kept_within l out e s j a b h =
       let g = given verdict e in

@@ -128,7 +128,8 @@ same_value (fin b m e) s t g S k l u v = (
 )
 
 -- ---- a depth
-back_some : (minus : Bool) (n : ℕ) → n ≤ greatest → 0 < n → (p : ℕ) → p ≡ to_bits binary64 (round binary64 minus n 1000) → rounded_text 3 p ≡ units_text 3 minus n
+back_some : (minus : Bool) (n : ℕ) → n ≤ greatest → 0 < n → (p : ℕ) → p ≡ to_bits binary64 (round binary64 minus n 1000)
+    → rounded_text 3 p ≡ units_text 3 minus n
 unfolding units_of double_of
 back_some minus n few some p is =
     let g = grid binary64 n 1000 in

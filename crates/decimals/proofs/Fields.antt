@@ -77,7 +77,8 @@ fields_last {o} {o₁} {at} {r} {k} d s e h w =
     let f : take (k - 0) s ≡ s = take_all (k - 0) s (omega arith) in
     rw (fields_one s (omega arith)) (subst (λ (x : List ℕ). Wrote o at (field_text d x) o₁ r) f w)
 
-pub fields_next : {o o₁ o₂ o₃ : List ℕ} {at r₁ r₂ r₃ k : ℕ} (d : ℕ) (s : List ℕ) → k ≡ tab_of s → k < length s → Wrote o at (field_text d (take (k - 0) s)) o₁ r₁
+pub fields_next : {o o₁ o₂ o₃ : List ℕ} {at r₁ r₂ r₃ k : ℕ} (d : ℕ) (s : List ℕ) → k ≡ tab_of s → k < length s
+    → Wrote o at (field_text d (take (k - 0) s)) o₁ r₁
     → Wrote o₁ r₁ (TAB ∷ []) o₂ r₂ → Wrote o₂ r₂ (fields_text d (fields_of (take (length s - (k + 1)) (drop (k + 1) s)))) o₃ r₃
     → Wrote o at (fields_text d (fields_of s)) o₃ r₃
 fields_next {o} {o₁} {o₂} {o₃} {at} {r₁} {r₂} {r₃} {k} d s e h u v w =

@@ -1,7 +1,50 @@
 -- How large a result can get. `Within a x`: x is finite, and at most 2 ^ a in magnitude. Rounding keeps such a bound, of either sign, since 2 ^ a is a value of
 -- the format.
 -- So a product is within the sum of the two exponents, and a sum within one more. Assumes nothing.
-use Rattle.std.proofs.Common.{◌≡◌, ℕ, suc, ◌+◌, ◌-◌, ◌*◌, ◌^◌, ◌<◌, ◌≤◌, Bool, true, false, cond, not, ◌&&◌, T, ltb, pos, sym, ap, ◌∙◌, subst, le_trans, le_of_eq, lt_of_le_of_lt, add-le-add, mul-le-mul_right, mul_assoc, mul_comm, add-mul, mul-le-mul, mul-pos, one-mul, mul-one, mul_right_comm, le_of_mul-le-mul_right, arith, lit<, lit≤, pow_pos, pow_mono, pow-add}
+use Rattle.std.proofs.Common.{
+  ◌≡◌,
+  ℕ,
+  suc,
+  ◌+◌,
+  ◌-◌,
+  ◌*◌,
+  ◌^◌,
+  ◌<◌,
+  ◌≤◌,
+  Bool,
+  true,
+  false,
+  cond,
+  not,
+  ◌&&◌,
+  T,
+  ltb,
+  pos,
+  sym,
+  ap,
+  ◌∙◌,
+  subst,
+  le_trans,
+  le_of_eq,
+  lt_of_le_of_lt,
+  add-le-add,
+  mul-le-mul_right,
+  mul_assoc,
+  mul_comm,
+  add-mul,
+  mul-le-mul,
+  mul-pos,
+  one-mul,
+  mul-one,
+  mul_right_comm,
+  le_of_mul-le-mul_right,
+  arith,
+  lit<,
+  lit≤,
+  pow_pos,
+  pow_mono,
+  pow-add,
+}
 use mathlib.Core.Bool.{beq}
 use native.Mathlib.Nat.{mul-mul-mul_comm, two-pow-succ}
 use lib.Pow.{pow-lt}

@@ -1,7 +1,50 @@
 -- lower + (upper - lower)·t, each operation rounded, lies between lower and upper, and so is no NaN, for doubles 0 ≤ lower ≤ upper with the sign clear and 0 ≤
 -- t < 0.99.
 -- What callers use of the interpolation is `lerp_inside` alone. Assumes nothing.
-use Rattle.std.proofs.Common.{◌≡◌, ℕ, suc, ◌+◌, ◌-◌, ◌*◌, ◌/◌, ◌%◌, ◌^◌, ◌<◌, ◌≤◌, true, false, T, ℤ, sym, ap, ◌∙◌, subst, inl, inr, le_trans, le_of_eq, lt_of_lt_of_le, lt_of_le_of_lt, mul-le-mul_right, mul_assoc, mul_comm, mul-le-mul, mul-le-mul_left, mul-pos, mul-one, mul_right_comm, div-mul-le_self, le_of_mul-le-mul_right, mul-div_cancel, arith, lit<, lit≤, ltb→lt, pow_pos, pow_mono}
+use Rattle.std.proofs.Common.{
+  ◌≡◌,
+  ℕ,
+  suc,
+  ◌+◌,
+  ◌-◌,
+  ◌*◌,
+  ◌/◌,
+  ◌%◌,
+  ◌^◌,
+  ◌<◌,
+  ◌≤◌,
+  true,
+  false,
+  T,
+  ℤ,
+  sym,
+  ap,
+  ◌∙◌,
+  subst,
+  inl,
+  inr,
+  le_trans,
+  le_of_eq,
+  lt_of_lt_of_le,
+  lt_of_le_of_lt,
+  mul-le-mul_right,
+  mul_assoc,
+  mul_comm,
+  mul-le-mul,
+  mul-le-mul_left,
+  mul-pos,
+  mul-one,
+  mul_right_comm,
+  div-mul-le_self,
+  le_of_mul-le-mul_right,
+  mul-div_cancel,
+  arith,
+  lit<,
+  lit≤,
+  ltb→lt,
+  pow_pos,
+  pow_mono,
+}
 use Prim.Native.Nat.{compare}
 use native.Mathlib.Nat.{div-div-eq-div-mul}
 use lib.Ieee.{Float, nan, inf, fin, Format, binary32, binary64, prec, low, up, down, size, add, sub, mul, lt, le, fits}

@@ -1,5 +1,34 @@
 -- (s + x) × (1/k), each operation rounded, lies in 0 to 1, for whole numbers s < k up to 4093 and x in 0 to 1. Assumes nothing.
-use Rattle.std.proofs.Common.{◌≡◌, ℕ, suc, ◌+◌, ◌*◌, ◌^◌, ◌<◌, ◌≤◌, true, false, T, pos, refl, le_trans, le_of_eq, lt_of_le_of_lt, mul-le-mul_right, mul_assoc, suc-mul, mul_comm, mul-le-mul_left, mul-pos, mul_left_comm, arith, lit<, lit≤, leb→le, pow_pos}
+use Rattle.std.proofs.Common.{
+  ◌≡◌,
+  ℕ,
+  suc,
+  ◌+◌,
+  ◌*◌,
+  ◌^◌,
+  ◌<◌,
+  ◌≤◌,
+  true,
+  false,
+  T,
+  pos,
+  refl,
+  le_trans,
+  le_of_eq,
+  lt_of_le_of_lt,
+  mul-le-mul_right,
+  mul_assoc,
+  suc-mul,
+  mul_comm,
+  mul-le-mul_left,
+  mul-pos,
+  mul_left_comm,
+  arith,
+  lit<,
+  lit≤,
+  leb→le,
+  pow_pos,
+}
 use lib.Ieee.{Float, nan, inf, fin, binary64, low, up, down, add, mul, div, lt, le, of_int, round}
 use lib.Ieee.Fits.{down_pos}
 use lib.Ieee.Exact.{HasValue}

@@ -1,5 +1,31 @@
 -- The whole part, by comparing: what one comparison with a whole number says of all others. Assumes nothing.
-use Rattle.std.proofs.Common.{◌≡◌, ℕ, zero, suc, ◌+◌, ◌-◌, ◌<◌, ◌≤◌, min, true, false, not, T, sym, refl, ap, ◌∙◌, subst, inl, inr, eq-or-lt_of_le, mul-one, arith, lit<, T_not}
+use Rattle.std.proofs.Common.{
+  ◌≡◌,
+  ℕ,
+  zero,
+  suc,
+  ◌+◌,
+  ◌-◌,
+  ◌<◌,
+  ◌≤◌,
+  min,
+  true,
+  false,
+  not,
+  T,
+  sym,
+  refl,
+  ap,
+  ◌∙◌,
+  subst,
+  inl,
+  inr,
+  eq-or-lt_of_le,
+  mul-one,
+  arith,
+  lit<,
+  T_not,
+}
 use native.Mathlib.Nat.{min-eq_left, min-eq_right}
 use lib.Dec.{not_T}
 use lib.Ieee.{Float, binary64, le, lt, of_int}

@@ -24,7 +24,12 @@ module _ (b : Basis) (n : ℕ) where
   segments_few h = omega (arith, few n (step_of b) h)
 
   pub segments_fit : 4 ≤ n → segments_of b n * step_of b + 4 ≤ n + step_of b
-  segments_fit h = omega (arith, inside ((n - 4) / step_of b) (step_of b) (n - 4) (omega arith), add-mul ((n - 4) / step_of b) 1 (step_of b), one-mul (step_of b))
+  segments_fit h = omega (
+    arith,
+    inside ((n - 4) / step_of b) (step_of b) (n - 4) (omega arith),
+    add-mul ((n - 4) / step_of b) 1 (step_of b),
+    one-mul (step_of b),
+  )
 
   pub segment_fits : (s : ℕ) → 4 ≤ n → s < segments_of b n → s * step_of b + 4 ≤ n
   segment_fits s h l = omega (arith, inside s (step_of b) (n - 4) (omega arith))

@@ -100,7 +100,8 @@ module _ (R : Rule) (f : Float → Float) (y ε : Float) (rising : Bool) (limit 
   unfolding rounds
   stop_of_lem s zero i (found g' x' b' ev) {g} {x} {b} {k} e = let p : g ≡ g' = cc in let q : x ≡ x' = cc in let r : b ≡ b' = cc in let w : k ≡ length ev = cc
       in rw (p, q, r, w)
-  stop_of_lem s (suc n) i (found g' x' b' ev) {g} {x} {b} {k} e = let p : g ≡ g' = cc in let q : x ≡ x' = cc in let r : b ≡ b' = cc in let w : k ≡ length ev = cc
+  stop_of_lem s (suc n) i (found g' x' b' ev) {g} {x} {b} {k} e = let p : g ≡ g' = cc in let q : x ≡ x' = cc in let r : b ≡ b' = cc in
+      let w : k ≡ length ev = cc
       in rw (p, q, r, w)
   stop_of_lem s zero i (on st ev) e = never (cc)
   stop_of_lem s (suc n) i (on st ev) e = never (cc)

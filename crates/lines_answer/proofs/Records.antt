@@ -94,7 +94,8 @@ unfolding reply_to after_of
 knot_refused t m ks x h = (rw (le-ltb (length ks) places h) refl, rw (le-ltb (length ks) places h) refl)
 
 -- ---- the ends touch `find` only: every other record is answered alike
-pub ends_only_find : (t : Table) (m k : EndsBy) (ks : List Float) (r : Record) → ((y : Float) → r ≡ Find y → ⊥) → reply_to (on t m ks) r ≡ reply_to (on t k ks) r
+pub ends_only_find : (t : Table) (m k : EndsBy) (ks : List Float) (r : Record) → ((y : Float) → r ≡ Find y → ⊥)
+    → reply_to (on t m ks) r ≡ reply_to (on t k ks) r
 unfolding reply_to
 ends_only_find t m k ks (CurveOf c) h = refl
 ends_only_find t m k ks (Span s) h = refl

@@ -1,6 +1,30 @@
 -- What the call comes to for each parameter: where values are written, what stands at i is what `spline` answers for the i-th, and places
 -- beyond stay; refusal 5 tells the first NaN; and whatever is refused, nothing is written. Assumes nothing.
-use Rattle.std.proofs.Common.{◌≡◌, ℕ, ◌+◌, ◌-◌, ◌<◌, ◌≤◌, Bool, true, false, cond, eqb, List, length, get_or, drop, sym, refl, ap, ◌∙◌, arith, get_or-drop, get_or-append-add, eqb-true}
+use Rattle.std.proofs.Common.{
+  ◌≡◌,
+  ℕ,
+  ◌+◌,
+  ◌-◌,
+  ◌<◌,
+  ◌≤◌,
+  Bool,
+  true,
+  false,
+  cond,
+  eqb,
+  List,
+  length,
+  get_or,
+  drop,
+  sym,
+  refl,
+  ap,
+  ◌∙◌,
+  arith,
+  get_or-drop,
+  get_or-append-add,
+  eqb-true,
+}
 use lib.ListN.{get_or-append}
 use lib.Ieee.{Float, nan, is_nan}
 use Rattle.error.specs.declared.Refusal.{Refusal}

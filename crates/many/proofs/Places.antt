@@ -1,6 +1,33 @@
 -- Where a scaled parameter lies: the guess that passes both comparisons is the whole part, and a scaled parameter lies from 0 to k. Assumes
 -- nothing.
-use Rattle.std.proofs.Common.{◌≡◌, ℕ, ◌+◌, ◌-◌, ◌*◌, ◌/◌, ◌<◌, ◌≤◌, Bool, true, false, not, T, List, length, take, drop, pos, sym, refl, ap, ◌∙◌, subst, arith, lit<, lit≤}
+use Rattle.std.proofs.Common.{
+  ◌≡◌,
+  ℕ,
+  ◌+◌,
+  ◌-◌,
+  ◌*◌,
+  ◌/◌,
+  ◌<◌,
+  ◌≤◌,
+  Bool,
+  true,
+  false,
+  not,
+  T,
+  List,
+  length,
+  take,
+  drop,
+  pos,
+  sym,
+  refl,
+  ap,
+  ◌∙◌,
+  subst,
+  arith,
+  lit<,
+  lit≤,
+}
 use native.Mathlib.Nat.{min-eq_left}
 use lib.Ieee.{Float, fin, binary64, add, sub, neg, le, lt, is_nan, of_int}
 use Rattle.basis.specs.declared.Basis.{Basis}

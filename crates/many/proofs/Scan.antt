@@ -1,5 +1,33 @@
 -- The scan of all parameters for a NaN, with a flag, and for the first. Assumes nothing.
-use Rattle.std.proofs.Common.{◌≡◌, ℕ, zero, suc, ◌+◌, ◌<◌, ◌≤◌, Bool, true, false, cond, ◌||◌, List, [], ◌∷◌, length, get_or, drop, sym, refl, ap, ◌∙◌, le_of_eq, add-one, arith, drop_of_length-le, drop-cons}
+use Rattle.std.proofs.Common.{
+  ◌≡◌,
+  ℕ,
+  zero,
+  suc,
+  ◌+◌,
+  ◌<◌,
+  ◌≤◌,
+  Bool,
+  true,
+  false,
+  cond,
+  ◌||◌,
+  List,
+  [],
+  ◌∷◌,
+  length,
+  get_or,
+  drop,
+  sym,
+  refl,
+  ap,
+  ◌∙◌,
+  le_of_eq,
+  add-one,
+  arith,
+  drop_of_length-le,
+  drop-cons,
+}
 use lib.Ieee.{Float, nan, ne, is_nan}
 use Rattle.error.proofs.First.{never}
 use Rattle.doubles.proofs.Order.{ne_itself}

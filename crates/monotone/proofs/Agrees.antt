@@ -122,7 +122,8 @@ module _ (z : List ℤ) (s : ℕ) (h : s + 3 < length z) (f : Free (step_at z s)
   half_2 : up m2 * 2 + (down (p 3) + up (p 1)) ≡ up (p 3) + down (p 1) + down m2 * 2
   half_2 =
       doubled m2 (p 1) (p 2) (p 3)
-      (ap (λ (v : ℤ). v *ℤ pos 2) slope_2 ∙ free_half (step_at z (suc s)) (step_at z (suc (suc s))) g ∙ sum (step_at_lem 1 (omega arith)) (step_at_lem 2 (omega arith)))
+      (ap (λ (v : ℤ). v *ℤ pos 2) slope_2 ∙ free_half (step_at z (suc s)) (step_at z (suc (suc s))) g
+      ∙ sum (step_at_lem 1 (omega arith)) (step_at_lem 2 (omega arith)))
 
   moved : {w c : ℤ} → w ≡ c → Is w (up c) (down c)
   moved {w} {c} q = subst (λ (v : ℤ). Is v (up c) (down c)) (sym q) (itself c)

@@ -52,7 +52,8 @@ module _ (v : List ℤ) (x y : ℤ) (a b d : ℕ) (u0 : at v 0 ≡ x) (u1 : at v
   abbrev r : ℕ → List ℤ
   r i = get_or (whole_of Hermite) i []
 
-  pub hermite_slopes : never_falls (sub_ℕ a 0) (sub_ℕ (3 * d) (a + b)) (sub_ℕ b 0) ≡ cubic_never_falls (whole_sum v (r 0)) (whole_sum v (r 1)) (whole_sum v (r 2))
+  pub hermite_slopes : never_falls (sub_ℕ a 0) (sub_ℕ (3 * d) (a + b)) (sub_ℕ b 0) ≡ cubic_never_falls (whole_sum v (r 0)) (whole_sum v (r 1))
+      (whole_sum v (r 2))
   unfolding cubic_never_falls
   hermite_slopes =
       let r0 = row_is (up x) (down x) a 0 (up y) (down y) b 0 v (moved u0) (moved u1) (moved u2) (moved u3) (r 0) in
@@ -135,7 +136,8 @@ module _ (z : List ℤ) (s : ℕ) (h : suc s < length z) (o : get_or z s (pos 0)
       let a = first_end in
       let b = second_end in
       and_i (starts_no_lower Hermite (table_of z) s)
-      (cubic_never_falls (whole_sum v (get_or (whole_of Hermite) 0 [])) (whole_sum v (get_or (whole_of Hermite) 1 [])) (whole_sum v (get_or (whole_of Hermite) 2 [])))
+      (cubic_never_falls (whole_sum v (get_or (whole_of Hermite) 0 [])) (whole_sum v (get_or (whole_of Hermite) 1 [])) (whole_sum v (get_or (whole_of
+      Hermite) 2 [])))
       (holds (hermite_starts (table_of z) s))
       (subst (λ (t : Bool). T t)
       (hermite_slopes v (get_or z s (pos 0)) (get_or z (suc s) (pos 0)) a.size b.size size (four_0 z s h) (four_1 z s h ∙ a.is) (four_2 z s h)

@@ -248,7 +248,8 @@ module _ (t : Bool) (z : List ℤ) (s : ℕ) (h : suc s < length z) (small : (i 
       (place_met j l) l)
 
   pub segment_doubles_in_order : (j j' : ℕ) → j ≤ j' → j' ≤ 256
-      → Ordered t (spline_segment_of Hermite (place_of j) (doubles_of (segment_knots z s))) (spline_segment_of Hermite (place_of j') (doubles_of (segment_knots z s)))
+      → Ordered t (spline_segment_of Hermite (place_of j) (doubles_of (segment_knots z s))) (spline_segment_of Hermite (place_of j') (doubles_of
+      (segment_knots z s)))
   segment_doubles_in_order j j' l m =
       let c = segment_answered j (omega arith) in
       let c' = segment_answered j' m in

@@ -54,7 +54,8 @@ rises_within z s h o n i j l m =
     let w3 = coefficient Hermite t s 3 in
     rises w0 w1 w2 w3 (and_r (starts_no_lower Hermite t s) (cubic_never_falls w0 w1 w2) (climbing.climbs z s h o)) n i j l m
 
-pub in_order_within : (t : Bool) (z : List ℤ) (s : ℕ) → suc s < length z → before t (get_or z s (pos 0)) (get_or z (suc s) (pos 0)) → (n i j : ℕ) → i ≤ j → j ≤ n
+pub in_order_within : (t : Bool) (z : List ℤ) (s : ℕ) → suc s < length z → before t (get_or z s (pos 0)) (get_or z (suc s) (pos 0)) → (n i j : ℕ)
+    → i ≤ j → j ≤ n
     → before t (curve_at Hermite (table_of z) s n i) (curve_at Hermite (table_of z) s n j)
 in_order_within t z s h o n i j l m =
     let r = rises_within (turned_all t z) s (omega (arith, turned_long t z)) (turn_pair t z s (suc s) o) n i j l m in
@@ -131,7 +132,8 @@ unfolding made_of
 wrote_never_turns t z o k e i = let p = passed z o (told (first (table_uses z o)) (2 * length z) k e) in never_turns z p.many p.few p.small t i
 
 -- of two places the later is never on the wrong side of the earlier: the values, each multiplied by both numbers of parts, cubed
-pub wrote_in_order : (t : Bool) (z : List ℤ) (o k : ℕ) → made_of z o ≡ Wrote k → InOrder t z → (s n j s' n' j' : ℕ) → suc s' < length z → NotAfter s n j s' n' j'
+pub wrote_in_order : (t : Bool) (z : List ℤ) (o k : ℕ) → made_of z o ≡ Wrote k → InOrder t z → (s n j s' n' j' : ℕ) → suc s' < length z
+    → NotAfter s n j s' n' j'
     → before t (curve_at Hermite (table_of z) s n j *ℤ pos (n' * n' * n')) (curve_at Hermite (table_of z) s' n' j' *ℤ pos (n * n * n))
 unfolding made_of
 wrote_in_order t z o k e i s n j s' n' j' l a =

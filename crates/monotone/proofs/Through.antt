@@ -82,7 +82,8 @@ module _ (z : List ℤ) (s : ℕ) (h : suc s < length z) where
   unfolding curve_at coefficient
   starts_at n =
       alike
-      (value_is (up x) (down x) (up (slope_at z s)) (down (slope_at z s)) (up y) (down y) (up (slope_at z (suc s))) (down (slope_at z (suc s))) four (moved four_0)
+      (value_is (up x) (down x) (up (slope_at z s)) (down (slope_at z s)) (up y) (down y) (up (slope_at z (suc s))) (down (slope_at z (suc s))) four
+      (moved four_0)
       (moved four_1) (moved four_2) (moved four_3)
       (whole_of Hermite) n 0)
       (times (n * n * n) (itself x))
@@ -92,7 +93,8 @@ module _ (z : List ℤ) (s : ℕ) (h : suc s < length z) where
   unfolding curve_at coefficient
   ends_at n =
       alike
-      (value_is (up x) (down x) (up (slope_at z s)) (down (slope_at z s)) (up y) (down y) (up (slope_at z (suc s))) (down (slope_at z (suc s))) four (moved four_0)
+      (value_is (up x) (down x) (up (slope_at z s)) (down (slope_at z s)) (up y) (down y) (up (slope_at z (suc s))) (down (slope_at z (suc s))) four
+      (moved four_0)
       (moved four_1) (moved four_2) (moved four_3)
       (whole_of Hermite) n n)
       (times (n * n * n) (itself y))

@@ -139,7 +139,8 @@ spent_place = record { parameter = quarter; ground = Spent; segment = 0; local =
 
 is_spent_lem : inverse_of Linear five_sixteenths ramp false 1 fine ≡ I.At spent_place
 unfolding inverse_by located find tries last halve bits_of enter entered rounds round_of probed settled moved fraction kept weighed halving chord narrow
-    ordered turns_at precise parameter_of in_range all_in_range first_bad magnitude_of lerp_of matrix_of of_bits of_int round add sub mul div lt le eq neg is_nan
+    ordered turns_at precise parameter_of in_range all_in_range first_bad magnitude_of lerp_of matrix_of of_bits of_int round add sub mul div lt le
+    eq neg is_nan
     count_leading_zeros
 is_spent_lem = refl
 

@@ -16,7 +16,18 @@ use Rattle.convert.specs.Conversion.{Conversion, gives, refuses, converted_of, c
 use Rattle.convert.specs.Buffer.{answer_of, buffer_of}
 use Rattle.exports_reply.specs.declared.BasisChoice.{BasisChoice}
 use Rattle.exports_reply.specs.declared.BasisChoice.TheVariants.{Known, Unknown}
-use Rattle.exports_reply.specs.Replies.{chosen_of, no_basis, chosen, evaluated_reply, value_left, inverted_reply, place_left, whole_left, converted_reply, length_left}
+use Rattle.exports_reply.specs.Replies.{
+  chosen_of,
+  no_basis,
+  chosen,
+  evaluated_reply,
+  value_left,
+  inverted_reply,
+  place_left,
+  whole_left,
+  converted_reply,
+  length_left,
+}
 use Rattle.simmerstoat.proofs.version.simmerstoat_version.Reads as version
 use Rattle.simmerstoat.proofs.simmerstoat_is_len_ok.Reads as is_len_ok
 use Rattle.simmerstoat.proofs.simmerstoat_spline.Reads as spline

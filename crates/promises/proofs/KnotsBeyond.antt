@@ -5,7 +5,7 @@ use mathlib.Core.Bool.{Bool, true, false, cond, ◌&&◌}
 use mathlib.Core.List.{List, ◌∷◌}
 use Prim.Native.Nat.{ℕ, zero, suc, ◌<◌, ◌≤◌}
 use native.Mathlib.Omega.{arith}
-use lib.Dec.{T, ltb}
+use lib.Dec.{T}
 use lib.IntN.{ℤ}
 use lib.ListN.{length}
 use lib.Ieee.{Float}
@@ -115,7 +115,8 @@ depth_at_first_bad_depth κs a z e p i h =
 abbrev pub FirstTurn : Bool → List Float → ℕ → Type 0
 FirstTurn check ks i = T check × AgainstAt ks i × ((j : ℕ) → AgainstAt ks j → i ≤ j)
 
-pub turn_first : (us : Uses) (check : Bool) (ks : List Float) (i : ℕ) → applies 10 us ≡ (check && turns_back ks) → refusal_by 10 us ≡ TurnsBack (turning_knot ks)
+pub turn_first : (us : Uses) (check : Bool) (ks : List Float) (i : ℕ) → applies 10 us ≡ (check && turns_back ks)
+    → refusal_by 10 us ≡ TurnsBack (turning_knot ks)
     → First us rows (TurnsBack i) → FirstTurn check ks i
 turn_first us check ks i a b f =
     let p = first_applies us rows (TurnsBack i) f in

@@ -162,7 +162,8 @@ module _ (tb : Basis) (ts : List Float) (db : Basis) (ds : List Float) (y : Floa
   depths = depth_uses tb (length ts) db ds
 
   sounded_owed : (z : DepthAnswer) → Sounds tb ts db ds y limit ε z → Owes (number_by_both times depths) (sounded_number z) (Counts S.OffCurve z)
-  sounded_owed (S.Refused Times r) s = inl (ap (λ (x : Verdict). number_in (either_of x (first depths))) (sym (first_complete rows times r ((s.times r).0 refl))))
+  sounded_owed (S.Refused Times r) s =
+      inl (ap (λ (x : Verdict). number_in (either_of x (first depths))) (sym (first_complete rows times r ((s.times r).0 refl))))
   sounded_owed (S.Refused Depths r) s = let f = (s.depths r).0 refl in inl (both times depths f.0 (first_complete rows depths r f.1))
   sounded_owed (S.OffCurve n) s =
       let e = none_passed times (λ r f. let h : S.OffCurve n ≡ S.Refused Times r = (s.times r).1 f in never (cc)) in

@@ -87,7 +87,8 @@ unfolding zeros
 jumping = nought ∷ nought ∷ one ∷ nought ∷ zeros 44 (nought ∷ nought ∷ one ∷ one ∷ [])
 
 pub premise_needed : T (Holds (segment_of Power jumping) half 13 0) × (inverse_of Power half jumping false default_limit default_precision ≡ OffCurve 12)
-unfolding zeros jumping matrix_of row frac round of_int of_bits add sub mul div lt le eq ne neg is_nan in_range all_in_range precise ordered bits_of count_leading_zeros
+unfolding zeros jumping matrix_of row frac round of_int of_bits add sub mul div lt le eq ne neg is_nan in_range all_in_range precise ordered bits_of
+    count_leading_zeros
     magnitude_of lerp_of narrow halving weighed kept fraction moved settled probed round_of rounds entered enter tries last halve find parameter_of located
     inverse_by
 premise_needed = (tt, refl)

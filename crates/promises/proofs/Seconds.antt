@@ -1,7 +1,7 @@
 -- What the calls on a table with a span promise: with a good span they are the base's, with the second beside a place and the span handed on; they refuse
 -- exactly by the first row that applies, 14 among them; and the second is the largest whole number not above parameter × span. Assumes nothing.
 use mathlib.Core.Path.{◌≡◌, refl, sym, ap, subst, ◌∙◌}
-use mathlib.Core.Bool.{Bool, true, false, not}
+use mathlib.Core.Bool.{Bool, true, false}
 use mathlib.Core.List.{List, ◌∷◌}
 use Prim.Native.Nat.{ℕ}
 use borrow.Author.Tests.{not-false}
@@ -28,7 +28,6 @@ use Rattle.inverse.specs.Inverse.{inverse_uses, inverse_by}
 use Rattle.inverse.proofs.Facts.{AtPlace, Proper}
 use Rattle.inverse.proofs.Promises.{inverse_proper}
 use Rattle.inverse.proofs.Refusing.{inverse_refused_only}
-use Rattle.convert.specs.declared.ConversionAnswer.{ConversionAnswer}
 use Rattle.convert.specs.declared.ConversionAnswer.TheVariants as C
 use Rattle.convert.specs.Conversion.{Conversion, gives, refuses, unless, convert_uses, converted_of}
 use Rattle.convert.specs.Buffer.{answer_of, buffer_of}
@@ -36,7 +35,6 @@ use Rattle.convert_strict.specs.Strict.{strict_uses, strict_of}
 use Rattle.table_span.specs.declared.Table.{Table}
 use Rattle.table.specs.declared.TableInversion.{TableInversion}
 use Rattle.table.specs.declared.TableInversion.TheVariants as T
-use Rattle.table.specs.declared.TableConversion.{TableConversion}
 use Rattle.table.specs.declared.TableConversion.TheVariants as H
 use Rattle.table_span.specs.Second.{good_span, bad_span, elapsed, second_of}
 use Rattle.table.specs.Calls.{

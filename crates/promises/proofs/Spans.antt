@@ -18,7 +18,6 @@ use Rattle.spline.specs.declared.Evaluation.TheVariants as E
 use Rattle.table.specs.declared.TableInversion.{TableInversion}
 use Rattle.table.specs.declared.TableInversion.TheVariants as T
 use Rattle.table.specs.declared.TableConversion.{TableConversion}
-use Rattle.table.specs.declared.TableConversion.TheVariants as H
 use Rattle.table.specs.Calls.{table_spline_of, table_inverse_by, table_converted_of, table_strict_of, handed_of}
 use Rattle.exports_reply.specs.declared.BasisChoice.{BasisChoice}
 use Rattle.exports_reply.specs.declared.BasisChoice.TheVariants.{Known, Unknown}

@@ -161,7 +161,8 @@ TableSteadyWithin b ks (T.At p n) = T (not (is_spent p.ground)) × (p.count ≤ 
 TableSteadyWithin b ks (T.OffCurve n) = n ≤ bound_of (segments_of b (length ks)) 39
 TableSteadyWithin b ks (T.Refused r) = Unit
 
-timed_within : (b : Basis) (ks : List Float) (s : ℕ) (v : Verdict) (i : Inversion) → SteadyWithin b ks i → TableSteadyWithin b ks (timed_unless v (timed_of s i))
+timed_within : (b : Basis) (ks : List Float) (s : ℕ) (v : Verdict) (i : Inversion) → SteadyWithin b ks i
+    → TableSteadyWithin b ks (timed_unless v (timed_of s i))
 timed_within b ks s Passed (I.At p) h = h
 timed_within b ks s Passed (I.OffCurve n) h = h.1
 timed_within b ks s Passed (I.Refused r) h = tt

@@ -8,7 +8,7 @@ use lib.ListN.{length, get_or}
 use lib.Ieee.{Float, nan}
 use Rattle.error.specs.declared.Refusal.{Refusal}
 use Rattle.error.specs.declared.Refusal.TheVariants.{BadAllowance, LostSeam}
-use Rattle.error.specs.Refusals.{rows, first}
+use Rattle.error.specs.Refusals.{rows}
 use Rattle.error.proofs.First.{never, First, first_sound, first_complete}
 use Rattle.basis.specs.declared.Basis.{Basis}
 use Rattle.basis.specs.declared.Basis.TheVariants.{Power}

@@ -1,7 +1,7 @@
 -- What the strict conversion of a table with a span promises, of its call: it refuses by the first row that applies, 14 among them; 15 exactly where the
 -- span is good and a seam is lost, with the lowest segment; otherwise reply and whole buffer are the table's plain conversion's. Assumes nothing.
 use mathlib.Core.Path.{◌≡◌, refl, sym, ap, ◌∙◌}
-use mathlib.Core.Bool.{Bool, true, false, not}
+use mathlib.Core.Bool.{Bool, true, false}
 use mathlib.Core.List.{List, [], ◌∷◌}
 use Prim.Native.Nat.{ℕ}
 use lib.Dec.{ltb}

@@ -88,7 +88,8 @@ module _ (tb : Basis) (ts : List Float) (db : Basis) (ds : List Float) (y : Floa
         off_made = λ n h. off_count tb ts db ds y limit ε n (off_only tb ts db ds y limit ε n (sym e ∙ h)).1;
         both_calls = λ d p f. (depth_told tb ts db ds y limit ε d p f, e ∙ in_turn tb ts db ds y limit ε d p f, found_count tb ts db ds y limit ε p f);
         few = λ h. subst (λ (s : DepthAnswer). count_of s ≤ limit + 25) (sym e) (few_bounded tb ts db ds y limit ε h);
-        many = λ h. subst (λ (s : DepthAnswer). count_of s ≤ limit + 2 * bits_of (segments_of tb (length ts)) + 5) (sym e) (many_bounded tb ts db ds y limit ε h);
+        many = λ h. subst (λ (s : DepthAnswer). count_of s ≤ limit + 2 * bits_of (segments_of tb (length ts)) + 5) (sym e) (many_bounded tb ts db ds
+            y limit ε h);
       }
 
 pub depth_at_sounds : Keeps depth_at.Learnt

@@ -13,7 +13,7 @@ use lib.Ieee.Fits.{and_l, and_r}
 use Rattle.error.specs.declared.Refusal.{Refusal}
 use Rattle.error.specs.declared.Verdict.{Verdict}
 use Rattle.error.specs.declared.Verdict.TheVariants.{Passed, Failed}
-use Rattle.error.specs.Refusals.{Uses, rows, first}
+use Rattle.error.specs.Refusals.{rows, first}
 use Rattle.error.proofs.First.{never, First, first_sound, first_complete}
 use Rattle.basis.specs.declared.Basis.TheVariants.{Bspline}
 use Rattle.basis.specs.Basis.{whole_of}

@@ -246,7 +246,8 @@ pub fine_never_turns : (k : Kind) (z : List ℤ) (ls : List (List ℕ)) → none
     → first (turning_uses (basis_of k) (knots_of k z)) ≡ Passed → turns_back_of (basis_of k) (knots_of k z) ≡ Never
 unfolding turns_back_of turns_back_by_of way_in
 fine_never_turns k z ls h taken =
-    go (lt_z (start_of (basis_of k) (knots_of k z)) (end_of (basis_of k) (knots_of k z))) (lt_z (end_of (basis_of k) (knots_of k z)) (start_of (basis_of k) (knots_of k z)))
+    go (lt_z (start_of (basis_of k) (knots_of k z)) (end_of (basis_of k) (knots_of k z))) (lt_z (end_of (basis_of k) (knots_of k z)) (start_of
+    (basis_of k) (knots_of k z)))
     (silent_rows k z ls h _ refl)
   where
     many : 4 ≤ length (knots_of k z)

@@ -2,15 +2,10 @@
 -- Assumes nothing.
 use mathlib.Core.Path.{◌≡◌, refl, sym, ◌∙◌}
 use mathlib.Core.List.{List}
-use Prim.Native.Nat.{ℕ, ◌≤◌}
-use native.Mathlib.Omega.{arith}
-use lib.Dec.{lit≤}
+use Prim.Native.Nat.{ℕ}
 use lib.Ieee.{Float}
 use Rattle.basis.specs.declared.Basis.{Basis}
 use Rattle.calls.specs.Calls.{AsksNothing, Keeps, OneReply}
-use Rattle.error.specs.declared.Refusal.{Refusal}
-use Rattle.error.specs.Refusals.{reply_of}
-use Rattle.error.proofs.Numbers.{reply_number}
 use Rattle.exports_reply.specs.declared.BasisChoice.{BasisChoice}
 use Rattle.exports_reply.specs.declared.BasisChoice.TheVariants.{Known, Unknown}
 use Rattle.exports_reply.specs.Replies.{chosen_of, no_basis, chosen}

@@ -1,6 +1,6 @@
 -- What the call `stopped` promises of whatever it replies: which of the eight answers is given, exactly; what holds of a job that is under way; the evaluations
 -- that it makes. Assumes nothing.
-use mathlib.Core.Path.{◌≡◌, refl, sym, ◌∙◌}
+use mathlib.Core.Path.{◌≡◌, sym, ◌∙◌}
 use mathlib.Core.Bool.{Bool, not}
 use mathlib.Core.List.{List, ◌∷◌}
 use mathlib.Core.Logic.{◌⊎◌, inl, inr}
@@ -11,7 +11,6 @@ use lib.Ieee.{Float, eq}
 use Rattle.basis.specs.Basis.{segments_of}
 use Rattle.calls.specs.Calls.{AsksNothing, Keeps, OneReply, Exactly}
 use Rattle.error.specs.declared.Refusal.{Refusal}
-use Rattle.error.specs.declared.Verdict.TheVariants.{Passed, Failed}
 use Rattle.error.specs.Refusals.{rows}
 use Rattle.error.proofs.First.{never, First, first_complete}
 use Rattle.inverse.specs.EndRule.{curve_rule}

@@ -3,7 +3,27 @@ use mathlib.Core.Path.{◌≡◌, refl, sym, ap, ◌∙◌, subst}
 use mathlib.Core.Logic.{◌⊎◌, inl, inr}
 use mathlib.Core.Bool.{Bool, true, false, cond, not, ◌&&◌, ◌||◌, beq}
 use Prim.Native.Nat.{ℕ, zero, suc, ◌+◌, ◌-◌, ◌*◌, ◌/◌, ◌%◌, ◌^◌, ◌≤◌, ◌<◌, compare, Ordering}
-use native.Mathlib.Nat.{le_trans, le_of_eq, lt_of_le_of_lt, lt_of_lt_of_le, mul_comm, mul_assoc, mul_right_comm, mul-sub, add-mul, suc-mul, zero-mul, mul-pos, mul-le-mul_right, mul-lt-mul_of_pos_right, lt_of_mul-lt-mul_right, eq_of_mul-eq-mul_right, div-add-mod', div-div-eq-div-mul, mod-lt}
+use native.Mathlib.Nat.{
+  le_trans,
+  le_of_eq,
+  lt_of_le_of_lt,
+  lt_of_lt_of_le,
+  mul_comm,
+  mul_assoc,
+  mul_right_comm,
+  mul-sub,
+  add-mul,
+  suc-mul,
+  zero-mul,
+  mul-pos,
+  mul-le-mul_right,
+  mul-lt-mul_of_pos_right,
+  lt_of_mul-lt-mul_right,
+  eq_of_mul-eq-mul_right,
+  div-add-mod',
+  div-div-eq-div-mul,
+  mod-lt,
+}
 use native.Mathlib.Omega.{arith}
 use lib.Arith.{lt_of_le-ne}
 use lib.IntN.{ℤ}

@@ -56,7 +56,8 @@ segment_exactly m h cv z t j s k u =
     let d = plus (lit< tt) (lit≤ tt) (times (lit< tt) (lit≤ tt) b u) (finer 16 w2) in
     let v = plus (lit< tt) (lit≤ tt) (times (lit< tt) (lit≤ tt) d u) (finer 24 w3) in
     subst (λ (y : ℤ). Exactly (segment_value m cv t) y 25 3377699720527872)
-    (horner (whole_sum z (get_or h 0 [])) (whole_sum z (get_or h 1 [])) (whole_sum z (get_or h 2 [])) (whole_sum z (get_or h 3 [])) 256 (256 * 256) (256 * 256 * 256) j) v
+    (horner (whole_sum z (get_or h 0 [])) (whole_sum z (get_or h 1 [])) (whole_sum z (get_or h 2 [])) (whole_sum z (get_or h 3 [])) 256 (256 * 256)
+    (256 * 256 * 256) j) v
 
 -- the double, multiplied by 2^25, is the whole number that the cubic gives
 pub segment_exact : (m : List (List Float)) (h : List (List ℤ)) (cv : List Float) (z : List ℤ) (t : Float) (j : ℕ) → Halves m h → Four 0 1048576 cv z

@@ -61,13 +61,15 @@ longest_hold = (refl, (refl, tt))
 
 places_hold : Hold places
 unfolding places inverse_by located find tries last halve bits_of enter entered rounds round_of probed settled moved fraction kept weighed halving chord narrow
-    ordered turns_at precise parameter_of in_range all_in_range first_bad magnitude_of lerp_of matrix_of of_bits of_int round add sub mul div lt le eq neg is_nan
+    ordered turns_at precise parameter_of in_range all_in_range first_bad magnitude_of lerp_of matrix_of of_bits of_int round add sub mul div lt le
+    eq neg is_nan
     count_leading_zeros
 places_hold = (refl, (refl, (refl, (refl, (refl, (refl, tt))))))
 
 halvings_hold : Hold halvings
 unfolding halvings inverse_by evaluations_by located evaluations find tries last halve bits_of enter entered rounds round_of probed settled moved fraction kept
-    weighed halving chord narrow ordered turns_at precise parameter_of in_range all_in_range first_bad magnitude_of lerp_of matrix_of of_bits of_int round add sub mul
+    weighed halving chord narrow ordered turns_at precise parameter_of in_range all_in_range first_bad magnitude_of lerp_of matrix_of of_bits of_int
+    round add sub mul
     div lt le eq neg is_nan count_leading_zeros
 halvings_hold = (refl, (refl, (refl, (refl, tt))))
 

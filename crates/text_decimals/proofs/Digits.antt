@@ -235,6 +235,7 @@ thousandths_small s n e = go (ltb (place_of POINT s) (length s)) e
         → cond t (joined (number_in 9 (take (place_of POINT s) s)) (behind_of (drop (suc (place_of POINT s)) s))) (joined (number_in 9 s) (Is 0)) ≡ Is n
         → n ≤ 999999999999
     go true h =
-        both (number_in 9 (take (place_of POINT s) s)) (behind_of (drop (suc (place_of POINT s)) s)) (take (place_of POINT s) s) (drop (suc (place_of POINT s)) s)
+        both (number_in 9 (take (place_of POINT s) s)) (behind_of (drop (suc (place_of POINT s)) s)) (take (place_of POINT s) s) (drop (suc (place_of
+        POINT s)) s)
         refl (behind_small (drop (suc (place_of POINT s)) s)) h
     go false h = both (number_in 9 s) (Is 0) s s refl none h

@@ -12,7 +12,19 @@ use lib.Ieee.{Float, nan, inf, fin, binary64, up, down, odd, of_fields, of_bits,
 use lib.Ieee.Exact.{HasValue, odd_sign}
 use lib.Ieee.Bits.{nan_bits_is, nan_bits_above, is_true}
 use Rattle.text.specs.Text.{bytes, dec_text, double_of}
-use Rattle.text_rounded.specs.Rounded.{minus_in, size_in, infinite, largest, significand_of, shift_of, units_of, fixed_text, sign_text, units_text, rounded_text}
+use Rattle.text_rounded.specs.Rounded.{
+  minus_in,
+  size_in,
+  infinite,
+  largest,
+  significand_of,
+  shift_of,
+  units_of,
+  fixed_text,
+  sign_text,
+  units_text,
+  rounded_text,
+}
 use Rattle.text_rounded.proofs.Closest.{NearestTo, closest_nearest}
 use Rattle.text_rounded.proofs.Parts.{small_significand, large_significand, small_shift, large_shift}
 

@@ -91,7 +91,8 @@ module _ (b : Basis) (z : List ℤ) (s n j : ℕ) where
   plain i = subst (λ (v : ℤ). Is v (up (get_or z (s * step_of b + i) (pos 0))) (down (get_or z (s * step_of b + i) (pos 0)))) (sym (at_place i))
       (itself (get_or z (s * step_of b + i) (pos 0)))
 
-  turned_is : (i : ℕ) → Is (at (drop (s * step_of b) (turned_all false z)) i) (down (get_or z (s * step_of b + i) (pos 0))) (up (get_or z (s * step_of b + i) (pos 0)))
+  turned_is : (i : ℕ) → Is (at (drop (s * step_of b) (turned_all false z)) i) (down (get_or z (s * step_of b + i) (pos 0))) (up (get_or z (s *
+      step_of b + i) (pos 0)))
   turned_is i =
       subst (λ (v : ℤ). Is v (down (get_or z (s * step_of b + i) (pos 0))) (up (get_or z (s * step_of b + i) (pos 0)))) (sym (turned_place i))
       (opposite (get_or z (s * step_of b + i) (pos 0)))
@@ -239,7 +240,8 @@ lower_in : (b : Basis) (z : List ℤ) (r : ℕ) → segment_never_falls b z r �
 unfolding segment_never_falls
 lower_in b z r e = go (starts_no_lower b z r) refl e
   where
-    go : (t : Bool) → starts_no_lower b z r ≡ t → (t && cubic_never_falls (coefficient b z r 0) (coefficient b z r 1) (coefficient b z r 2)) ≡ false → Lower b z r
+    go : (t : Bool) → starts_no_lower b z r ≡ t → (t && cubic_never_falls (coefficient b z r 0) (coefficient b z r 1) (coefficient b z r 2)) ≡ false
+        → Lower b z r
     go true p q = within b z r (falls (coefficient b z r 0) (coefficient b z r 1) (coefficient b z r 2) (coefficient b z r 3) q)
     go false p q = over_seam b z r p
 
@@ -252,7 +254,8 @@ falls_at b t z r e =
     let h = told_down (first (turning_uses b z)) (first_fall b y) k r e in
     one b y k (ap (λ (m : ℕ). segments_of b m) (sym (turned_long t z))) h.1 r h.0
   where
-    one : (b : Basis) (y : List ℤ) (k : ℕ) → k ≡ segments_of b (length y) → first_fall b y < k → (r : ℕ) → first_fall b y ≡ r → segment_never_falls b y r ≡ false
+    one : (b : Basis) (y : List ℤ) (k : ℕ) → k ≡ segments_of b (length y) → first_fall b y < k → (r : ℕ) → first_fall b y ≡ r
+        → segment_never_falls b y r ≡ false
     one b y k q h r p =
         let h' : falls_from b y 0 k < 0 + k = subst (λ (m : ℕ). falls_from b y 0 m < 0 + k) (sym q) (omega (arith, h)) in
         let f = one_falls b y k 0 h' in

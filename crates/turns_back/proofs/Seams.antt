@@ -58,11 +58,13 @@ module _ (p0 n0 p1 n1 p2 n2 p3 n3 : ℕ) where
     row_is r = plus (plus (plus (swapped (at r 0) u0) (swapped (at r 1) u1)) (swapped (at r 2) u2)) (swapped (at r 3) u3)
 
     pub value_is : (m : List (List ℤ)) (n j : ℕ)
-        → Is (value_at (whole_sum z (get_or m 0 [])) (whole_sum z (get_or m 1 [])) (whole_sum z (get_or m 2 [])) (whole_sum z (get_or m 3 [])) n j) (of_rows added m n j)
+        → Is (value_at (whole_sum z (get_or m 0 [])) (whole_sum z (get_or m 1 [])) (whole_sum z (get_or m 2 [])) (whole_sum z (get_or m 3 [])) n j)
+        (of_rows added m n j)
         (of_rows taken m n j)
     unfolding value_at
     value_is m n j =
-        plus (plus (plus (times (j * j * j) (row_is (get_or m 0 []))) (times (n * j * j) (row_is (get_or m 1 [])))) (times (n * n * j) (row_is (get_or m 2 []))))
+        plus (plus (plus (times (j * j * j) (row_is (get_or m 0 []))) (times (n * j * j) (row_is (get_or m 1 [])))) (times (n * n * j) (row_is
+        (get_or m 2 []))))
         (times (n * n * n) (row_is (get_or m 3 [])))
 
 -- ---- the knots of a segment and of the next
@@ -104,7 +106,8 @@ unfolding starts_no_lower curve_at coefficient
 bezier_starts z zero = refl
 bezier_starts z (suc s) =
     seam_of Bezier z s _ _ _ _
-    (value_is _ _ _ _ _ _ _ _ (drop (s * 3) z) (here_is Bezier z s 0) (here_is Bezier z s 1) (here_is Bezier z s 2) (here_is Bezier z s 3) (whole_of Bezier) 1 1)
+    (value_is _ _ _ _ _ _ _ _ (drop (s * 3) z) (here_is Bezier z s 0) (here_is Bezier z s 1) (here_is Bezier z s 2) (here_is Bezier z s 3) (whole_of
+    Bezier) 1 1)
     (value_is _ _ _ _ _ _ _ _ (drop (suc s * 3) z) (next_is Bezier z s 0) (next_is Bezier z s 1) (next_is Bezier z s 2) (next_is Bezier z s 3)
     (whole_of Bezier) 1 0)
     (omega arith)
@@ -136,7 +139,8 @@ unfolding starts_no_lower curve_at coefficient
 linear_starts z zero = refl
 linear_starts z (suc s) =
     seam_of Linear z s _ _ _ _
-    (value_is _ _ _ _ _ _ _ _ (drop (s * 1) z) (here_is Linear z s 0) (here_is Linear z s 1) (here_is Linear z s 2) (here_is Linear z s 3) (whole_of Linear) 1 1)
+    (value_is _ _ _ _ _ _ _ _ (drop (s * 1) z) (here_is Linear z s 0) (here_is Linear z s 1) (here_is Linear z s 2) (here_is Linear z s 3) (whole_of
+    Linear) 1 1)
     (value_is _ _ _ _ _ _ _ _ (drop (suc s * 1) z) (next_is Linear z s 0) (next_is Linear z s 1) (next_is Linear z s 2) (next_is Linear z s 3)
     (whole_of Linear) 1 0)
     (omega arith)
@@ -174,7 +178,8 @@ pub power_later : (t : Bool) (ks : List ℤ) (s a c d e f : ℕ) → (s ≡ 0 �
     → leb (a + c + d + e) (f + 3000000000000) ≡ starts_no_lower Power (turned_all t (held_all ks)) s
 power_later t ks zero a c d e f h ia ic id ie if' = absurd (h refl)
 power_later t ks (suc s) a c d e f h ia ic id ie if' =
-    power_starts (turned_all t (held_all ks)) s a c d e f (ia ∙ read (omega arith)) (ic ∙ read (omega arith)) (id ∙ read (omega arith)) (ie ∙ read (omega arith))
+    power_starts (turned_all t (held_all ks)) s a c d e f (ia ∙ read (omega arith)) (ic ∙ read (omega arith)) (id ∙ read (omega arith)) (ie
+    ∙ read (omega arith))
     (if' ∙ read (omega arith))
   where
     read : {m n : ℕ} → m ≡ n → turned t (held (get_or ks m (pos 0))) ≡ get_or (turned_all t (held_all ks)) n (pos 0)

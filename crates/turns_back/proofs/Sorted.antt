@@ -108,11 +108,13 @@ sorted_rises b t z o s h =
     let y = drop (s * step_of b) z in
     let next : (i : ℕ) → i < 3 → at y i ≤ℤ at y (suc i) = λ i l.
     rw (get_or-drop, get_or-drop) (rw (add-suc) (o (s * step_of b + i) (omega arith))) in
-    and_i (starts_no_lower b z s) (cubic_never_falls (whole_sum y (get_or (whole_of b) 0 [])) (whole_sum y (get_or (whole_of b) 1 [])) (whole_sum y (get_or (whole_of b) 2 [])))
+    and_i (starts_no_lower b z s) (cubic_never_falls (whole_sum y (get_or (whole_of b) 0 [])) (whole_sum y (get_or (whole_of b) 1 [])) (whole_sum y
+    (get_or (whole_of b) 2 [])))
     (subst (λ (x : Bool). T x) (starts_above b t z s) tt) (four_rise y (next 0 (omega arith)) (next 1 (omega arith)) (next 2 (omega arith)) b t)
 
 -- over knots in order they never turn back
-pub sorted_never_turns : (b : Basis) → T (keeps_order b) → (t : Bool) (z : List ℤ) → InOrder t z → first (turning_uses b z) ≡ Passed → turns_back_by_of b t z ≡ Never
+pub sorted_never_turns : (b : Basis) → T (keeps_order b) → (t : Bool) (z : List ℤ) → InOrder t z → first (turning_uses b z) ≡ Passed
+    → turns_back_by_of b t z ≡ Never
 sorted_never_turns b k t z o v =
     none_turns b t z v
     (λ s l. sorted_rises b k (turned_all t z) (λ i m. turn_pair t z i (suc i) (o.each i (omega (arith, m, turned_long t z)))) s

@@ -82,9 +82,11 @@ module _ (b : Basis) (z : List ℤ) (s : ℕ) where
   unfolding segment_never_falls
   starts_below e f = simp (sym e ∙ f)
 
-  pub segment_is : {t u : Bool} (m : ℕ) → t ≡ starts_no_lower b z s → t ≡ true → m ≡ s * step_of b → u ≡ four_never_fall b (drop m z) → u ≡ segment_never_falls b z s
+  pub segment_is : {t u : Bool} (m : ℕ) → t ≡ starts_no_lower b z s → t ≡ true → m ≡ s * step_of b → u ≡ four_never_fall b (drop m z)
+      → u ≡ segment_never_falls b z s
   unfolding segment_never_falls coefficient four_never_fall
-  segment_is m e f g h = h ∙ ap (λ (n : ℕ). four_never_fall b (drop n z)) g ∙ sym (ap (λ (t : Bool). t && four_never_fall b (drop (s * step_of b) z)) (sym e ∙ f))
+  segment_is m e f g h = h ∙ ap (λ (n : ℕ). four_never_fall b (drop n z)) g
+      ∙ sym (ap (λ (t : Bool). t && four_never_fall b (drop (s * step_of b) z)) (sym e ∙ f))
 
 -- ---- the segments, one after the other
 -- a segment up to the last has four knots

@@ -92,7 +92,8 @@ all_small : (ks : List ℤ) → 4 ≤ first_large ks → SmallKnots ks
 unfolding first_large
 all_small ks h = go (small (knot_of ks 0)) (small (knot_of ks 1)) (small (knot_of ks 2)) (small (knot_of ks 3)) refl refl refl refl h
   where
-    at : nat_abs (knot_of ks 0) ≤ 1000000 → nat_abs (knot_of ks 1) ≤ 1000000 → nat_abs (knot_of ks 2) ≤ 1000000 → nat_abs (knot_of ks 3) ≤ 1000000 → (i : ℕ) → i < 4
+    at : nat_abs (knot_of ks 0) ≤ 1000000 → nat_abs (knot_of ks 1) ≤ 1000000 → nat_abs (knot_of ks 2) ≤ 1000000 → nat_abs (knot_of ks 3) ≤ 1000000
+        → (i : ℕ) → i < 4
         → nat_abs (knot_of ks i) ≤ 1000000
     at p q r s zero l = p
     at p q r s (suc zero) l = q

@@ -22,10 +22,24 @@ loop-i-init c = (
 
 pub returns-then-out-at-lt-LONGEST : goal.returns-then-out-at-lt-LONGEST
 returns-then-out-at-lt-LONGEST c = let l = c.loop-i in
-    record { fed = l.invariant.5; kept = l.invariant.9; after = l.invariant.0; within = l.invariant.1; short = l.invariant.3; progress = λ p q. omega (arith, l.invariant.5.wrote.long, c.if-out-at-lt-LONGEST.true, l.invariant.4) }
+    record {
+      fed = l.invariant.5;
+      kept = l.invariant.9;
+      after = l.invariant.0;
+      within = l.invariant.1;
+      short = l.invariant.3;
+      progress = λ p q. omega (arith, l.invariant.5.wrote.long, c.if-out-at-lt-LONGEST.true, l.invariant.4);
+    }
 
 pub line-l-requires : goal.line-l-requires
-line-l-requires c = let l = c.loop-i in record { line = omega (arith, l.invariant.2); held = l.invariant.9; rows = l.invariant.6; labels = l.invariant.7; knots = l.invariant.8; room = omega (arith, c.if-out-at-lt-LONGEST.false, l.invariant.3) }
+line-l-requires c = let l = c.loop-i in record {
+  line = omega (arith, l.invariant.2);
+  held = l.invariant.9;
+  rows = l.invariant.6;
+  labels = l.invariant.7;
+  knots = l.invariant.8;
+  room = omega (arith, c.if-out-at-lt-LONGEST.false, l.invariant.3);
+}
 
 pub overflow_add-i : goal.overflow_add-i
 overflow_add-i c = omega (arith, c.if-i-chunk.true, c.loop-i.invariant.10)
@@ -64,4 +78,11 @@ loop-i-preserved c = let l = c.loop-i in (
 )
 
 pub returns : goal.returns
-returns c = let l = c.loop-i in record { fed = l.invariant.5; kept = l.invariant.9; after = l.invariant.0; within = l.invariant.1; short = l.invariant.3; progress = λ p q. omega arith }
+returns c = let l = c.loop-i in record {
+  fed = l.invariant.5;
+  kept = l.invariant.9;
+  after = l.invariant.0;
+  within = l.invariant.1;
+  short = l.invariant.3;
+  progress = λ p q. omega arith;
+}

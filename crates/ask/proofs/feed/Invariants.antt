@@ -15,7 +15,8 @@ use Rattle.ask.proofs.feed.Given as goal
 
 abbrev pub invariant-loop-i : goal.invariant-loop-i
 invariant-loop-i l = (l.from ≤ l.i) × (l.i ≤ length l.chunk) × (length l.begun ≡ widest) × (l.at ≤ length l.out) × (l.at + longest * l.from ≤ longest * l.i)
-    × Fed ask_program (state_at (open_of l.initial.n l.initial.begun) (asking_of l.initial.held l.initial.rows l.initial.labels l.initial.knots)) (slice l.from l.i l.chunk)
+    × Fed ask_program (state_at (open_of l.initial.n l.initial.begun) (asking_of l.initial.held l.initial.rows l.initial.labels l.initial.knots))
+    (slice l.from l.i l.chunk)
     (state_at (open_of l.n l.begun) (asking_of l.held l.rows l.labels l.knots)) l.initial.out 0 l.out l.at
     × (length l.rows ≡ most) × (length l.labels ≡ cells) × (length l.knots ≡ most) × Kept l.held l.rows l.labels × (length l.chunk < 2 ^ 64)
 

@@ -7,7 +7,13 @@ use borrow.Author.Rules.{rules}
 use Rattle.ask.proofs.finish.Goals as goal
 
 pub end-requires : goal.end-requires
-end-requires c = record { held = c.requires.held; rows = c.requires.rows; labels = c.requires.labels; knots = c.requires.knots; room = omega (arith, c.requires.room) }
+end-requires c = record {
+  held = c.requires.held;
+  rows = c.requires.rows;
+  labels = c.requires.labels;
+  knots = c.requires.knots;
+  room = omega (arith, c.requires.room);
+}
 
 pub returns-then-len-eq0 : goal.returns-then-len-eq0
 returns-then-len-eq0 c = record {
@@ -17,10 +23,23 @@ returns-then-len-eq0 c = record {
 }
 
 pub line-l-requires : goal.line-l-requires
-line-l-requires c = record { line = c.requires.begun; held = c.requires.held; rows = c.requires.rows; labels = c.requires.labels; knots = c.requires.knots; room = omega (arith, c.requires.room) }
+line-l-requires c = record {
+  line = c.requires.begun;
+  held = c.requires.held;
+  rows = c.requires.rows;
+  labels = c.requires.labels;
+  knots = c.requires.knots;
+  room = omega (arith, c.requires.room);
+}
 
 pub end-requires-2 : goal.end-requires-2
-end-requires-2 c = record { held = c.line-l.ensures.kept; rows = search rules; labels = search rules; knots = search rules; room = omega (arith, c.line-l.ensures.short, c.line-l.ensures.wrote.long, c.requires.room) }
+end-requires-2 c = record {
+  held = c.line-l.ensures.kept;
+  rows = search rules;
+  labels = search rules;
+  knots = search rules;
+  room = omega (arith, c.line-l.ensures.short, c.line-l.ensures.wrote.long, c.requires.room);
+}
 
 pub returns : goal.returns
 returns c = record {

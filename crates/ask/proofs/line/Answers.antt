@@ -51,4 +51,9 @@ returns-else-is_line c = let k : (line_in c.in-Reading.s ≤ last_line) × Sound
     })
 
 pub returns-in-Told : goal.returns-in-Told
-returns-in-Told c = rw c.in-Told.is (record { state = told_next _ (open_of c.args.len c.args.line.now) c.answer-r.ensures.held; kept = c.answer-r.ensures.askable; wrote = as_text (told_text _ (open_of c.args.len c.args.line.now)) c.answer-r.ensures.text; short = c.answer-r.ensures.short })
+returns-in-Told c = rw c.in-Told.is (record {
+  state = told_next _ (open_of c.args.len c.args.line.now) c.answer-r.ensures.held;
+  kept = c.answer-r.ensures.askable;
+  wrote = as_text (told_text _ (open_of c.args.len c.args.line.now)) c.answer-r.ensures.text;
+  short = c.answer-r.ensures.short;
+})

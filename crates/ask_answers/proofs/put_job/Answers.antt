@@ -12,7 +12,10 @@ pub returns-in-Refused : goal.returns-in-Refused
 returns-in-Refused c = rw c.in-Refused.is (record { text = c.put_refused.ensures.text; short = omega (arith, c.put_refused.ensures.short) })
 
 pub returns-in-OffCurve : goal.returns-in-OffCurve
-returns-in-OffCurve c = rw c.in-OffCurve.is (record { text = c.put_refused-in-OffCurve.ensures.text; short = omega (arith, c.put_refused-in-OffCurve.ensures.short) })
+returns-in-OffCurve c = rw c.in-OffCurve.is (record {
+  text = c.put_refused-in-OffCurve.ensures.text;
+  short = omega (arith, c.put_refused-in-OffCurve.ensures.short);
+})
 
 pub returns-in-Flat : goal.returns-in-Flat
 returns-in-Flat c = rw c.in-Flat.is (record { text = c.put_word.ensures; short = omega (arith, c.put_word.ensures.next) })

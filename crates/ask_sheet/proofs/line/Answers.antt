@@ -6,13 +6,22 @@ use native.Mathlib.Omega.{arith}
 use Rattle.ask_sheet.proofs.line.Goals as goal
 
 pub returns-then-len-le-WIDEST : goal.returns-then-len-le-WIDEST
-returns-then-len-le-WIDEST c = rw c.in-Unbegun.is (record { sheet = named_line c.args.len c.args.line.now (omega arith) (c.first.ensures.sheet c.args.rows.now c.args.labels.now); line_after = c.first.ensures.line_after })
+returns-then-len-le-WIDEST c = rw c.in-Unbegun.is (record {
+  sheet =
+      named_line c.args.len c.args.line.now (omega arith) (c.first.ensures.sheet c.args.rows.now c.args.labels.now);
+  line_after = c.first.ensures.line_after;
+})
 
 pub add-requires : goal.add-requires
-add-requires c = let k : c.in-On.n + 2 ≤ last_line = rw c.in-On.is at c.requires.held in record { count = omega arith; rows = c.requires.rows; labels = c.requires.labels }
+add-requires c = let k : c.in-On.n + 2 ≤ last_line = rw c.in-On.is at c.requires.held in
+    record { count = omega arith; rows = c.requires.rows; labels = c.requires.labels }
 
 pub returns-then-len-le-WIDEST-2 : goal.returns-then-len-le-WIDEST-2
-returns-then-len-le-WIDEST-2 c = rw c.in-On.is (record { sheet = grown_line _ _ _ c.args.len c.args.line.now (omega (arith, c.if-len-le-WIDEST-2.true)) c.add.ensures.sheet; line_after = c.add.ensures.line_after })
+returns-then-len-le-WIDEST-2 c = rw c.in-On.is (record {
+  sheet =
+      grown_line _ _ _ c.args.len c.args.line.now (omega (arith, c.if-len-le-WIDEST-2.true)) c.add.ensures.sheet;
+  line_after = c.add.ensures.line_after;
+})
 
 pub overflow_add-result : goal.overflow_add-result
 overflow_add-result c = let k : c.in-On.n + 2 ≤ last_line = rw c.in-On.is at c.requires.held in omega arith

@@ -29,4 +29,7 @@ loop-j-preserved c = let a = c.args in
     )
 
 pub returns : goal.returns
-returns c = record { first = none_found (labels_to c.args.labels.now c.args.n) _ c.args.i c.loop-j.j (omega arith) c.loop-j.invariant.1; within = c.loop-j.invariant.0 }
+returns c = record {
+  first = none_found (labels_to c.args.labels.now c.args.n) _ c.args.i c.loop-j.j (omega arith) c.loop-j.invariant.1;
+  within = c.loop-j.invariant.0;
+}

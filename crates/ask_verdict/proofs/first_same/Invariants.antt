@@ -8,7 +8,8 @@ use Rattle.ask_verdict.specs.Faults.{same_from, first_same}
 use Rattle.ask_verdict.proofs.first_same.Given as goal
 
 abbrev pub invariant-loop-j : goal.invariant-loop-j
-invariant-loop-j l = (l.j ≤ l.i) × (same_from (labels_to l.labels l.n) (get_or (labels_to l.labels l.n) l.i []) l.j (l.i - l.j) ≡ first_same (labels_to l.labels l.n) l.i)
+invariant-loop-j l = (l.j ≤ l.i)
+    × (same_from (labels_to l.labels l.n) (get_or (labels_to l.labels l.n) l.i []) l.j (l.i - l.j) ≡ first_same (labels_to l.labels l.n) l.i)
 
 abbrev pub decreases-loop-j : goal.decreases-loop-j
 decreases-loop-j l = l.i - l.j

@@ -32,7 +32,12 @@ pub segments-requires : goal.segments-requires
 segments-requires c = omega (arith, c.requires.curve.enough, long c.args.knots.now)
 
 pub put_bend_of-requires : goal.put_bend_of-requires
-put_bend_of-requires c = record { inside = c.requires.inside; curve = c.requires.curve; segment = rw (← c.basis_of.ensures) (omega (arith, c.segments.ensures, c.if-s-segments.true)); room = c.requires.room }
+put_bend_of-requires c = record {
+  inside = c.requires.inside;
+  curve = c.requires.curve;
+  segment = rw (← c.basis_of.ensures) (omega (arith, c.segments.ensures, c.if-s-segments.true));
+  room = c.requires.room;
+}
 
 pub returns-then-s-segments : goal.returns-then-s-segments
 returns-then-s-segments c = let e = c.segments.ensures ∙ ap (λ (b : Basis). segments_of b (length c.args.knots.now)) c.basis_of.ensures ∙ ap (λ

@@ -11,7 +11,11 @@ pub overflow_add-i : goal.overflow_add-i
 overflow_add-i c = omega (arith, c.requires.inside, c.requires.curve.rows, long c.args.rows.now)
 
 pub put_number-requires : goal.put_number-requires
-put_number-requires c = record { word = omega arith; number = omega (arith, c.requires.inside, c.requires.curve.rows, long c.args.rows.now); room = omega arith }
+put_number-requires c = record {
+  word = omega arith;
+  number = omega (arith, c.requires.inside, c.requires.curve.rows, long c.args.rows.now);
+  room = omega arith;
+}
 
 pub returns-then-is_turning : goal.returns-then-is_turning
 returns-then-is_turning c = record {
@@ -22,13 +26,22 @@ returns-then-is_turning c = record {
 
 pub is_falling-requires : goal.is_falling-requires
 is_falling-requires c = let e = long c.args.knots.now in
-    record { enough = omega (arith, c.requires.curve.enough, e); few = omega (arith, c.requires.curve.few, e); small = c.requires.curve.small; segment = (rw c.basis_of.ensures c.requires.segment) }
+    record {
+      enough = omega (arith, c.requires.curve.enough, e);
+      few = omega (arith, c.requires.curve.few, e);
+      small = c.requires.curve.small;
+      segment = (rw c.basis_of.ensures c.requires.segment);
+    }
 
 pub overflow_add-i-then-is_falling : goal.overflow_add-i-then-is_falling
 overflow_add-i-then-is_falling c = omega (arith, c.requires.inside, c.requires.curve.rows, long c.args.rows.now)
 
 pub put_number-requires-then-is_falling : goal.put_number-requires-then-is_falling
-put_number-requires-then-is_falling c = record { word = omega arith; number = omega (arith, c.requires.inside, c.requires.curve.rows, long c.args.rows.now); room = omega arith }
+put_number-requires-then-is_falling c = record {
+  word = omega arith;
+  number = omega (arith, c.requires.inside, c.requires.curve.rows, long c.args.rows.now);
+  room = omega arith;
+}
 
 pub returns-then-is_falling : goal.returns-then-is_falling
 returns-then-is_falling c = record {

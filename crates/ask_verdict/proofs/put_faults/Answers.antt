@@ -13,7 +13,11 @@ use native.Mathlib.Omega.{arith}
 use Rattle.ask_verdict.proofs.put_faults.Goals as goal
 
 pub way_taken-w-requires : goal.way_taken-w-requires
-way_taken-w-requires c = let e = long c.args.knots.now in record { enough = omega (arith, c.requires.curve.enough, e); few = omega (arith, c.requires.curve.few, e); small = c.requires.curve.small }
+way_taken-w-requires c = let e = long c.args.knots.now in record {
+  enough = omega (arith, c.requires.curve.enough, e);
+  few = omega (arith, c.requires.curve.few, e);
+  small = c.requires.curve.small;
+}
 
 pub put_flat-requires : goal.put_flat-requires
 put_flat-requires c = omega (arith, c.put_rows-r.ensures.short, c.put_rows-r.ensures.text.long, c.requires.curve.rows, long c.args.rows.now)

@@ -20,7 +20,12 @@ loop-i-init c = (
 )
 
 pub put_twice-r-requires : goal.put_twice-r-requires
-put_twice-r-requires c = let d = c.requires.curve.rows in record { inside = omega arith; few = omega (arith, d, long c.args.rows.now); labels = c.requires.labels; room = omega (arith, d, long c.args.rows.now, c.loop-i.invariant.1.1, c.loop-i.invariant.1.0.long, c.requires.room) }
+put_twice-r-requires c = let d = c.requires.curve.rows in record {
+  inside = omega arith;
+  few = omega (arith, d, long c.args.rows.now);
+  labels = c.requires.labels;
+  room = omega (arith, d, long c.args.rows.now, c.loop-i.invariant.1.1, c.loop-i.invariant.1.0.long, c.requires.room);
+}
 
 pub put_bent-r-requires : goal.put_bent-r-requires
 put_bent-r-requires c = let d = c.requires.curve.rows in record {

@@ -25,7 +25,16 @@ told_of-requires c = let e : c.args.n - 0 ≡ c.args.n = omega arith in let l : 
     })
 
 pub told_monotone-requires : goal.told_monotone-requires
-told_monotone-requires c = record { few = c.requires.few; suited = (rw c.in-Monotone.is at c.requires.suited); rows = c.requires.rows; sound = (rw c.in-Monotone.is at c.requires.sound); whole = search rules; labels = c.requires.labels; knots = c.requires.knots; room = c.requires.room }
+told_monotone-requires c = record {
+  few = c.requires.few;
+  suited = (rw c.in-Monotone.is at c.requires.suited);
+  rows = c.requires.rows;
+  sound = (rw c.in-Monotone.is at c.requires.sound);
+  whole = search rules;
+  labels = c.requires.labels;
+  knots = c.requires.knots;
+  room = c.requires.room;
+}
 
 pub returns-in-Drawn : goal.returns-in-Drawn
 returns-in-Drawn c =
@@ -41,4 +50,9 @@ returns-in-Drawn c =
     })
 
 pub returns-in-Monotone : goal.returns-in-Monotone
-returns-in-Monotone c = rw c.in-Monotone.is (record { text = c.told_monotone.ensures.text; short = c.told_monotone.ensures.short; held = c.told_monotone.ensures.held; few = c.told_monotone.ensures.few })
+returns-in-Monotone c = rw c.in-Monotone.is (record {
+  text = c.told_monotone.ensures.text;
+  short = c.told_monotone.ensures.short;
+  held = c.told_monotone.ensures.held;
+  few = c.told_monotone.ensures.few;
+})

@@ -63,4 +63,9 @@ returns c = let e : c.args.n - 0 ≡ c.args.n = omega arith in let d : 2 * c.arg
     held_all (take (2 * x) c.monotone.new.out) ≡ table_of z) q (table_there z s c.requires.sound c.args.whole.now
     c.monotone.new.out c.requires.whole j) in let w : length (take (2 * c.args.n) c.monotone.new.out) ≡
     2 * c.args.n = sym (long (take (2 * c.args.n) c.monotone.new.out)) ∙ ap length t ∙ table_long z ∙ ap (λ (x : ℕ). 2 * x) q
-    in record { text = rw (e, l) at c.told_of.ensures.text; short = c.told_of.ensures.short; held = rw (e, l) at c.told_of.ensures.held; few = c.told_of.ensures.few }
+    in record {
+      text = rw (e, l) at c.told_of.ensures.text;
+      short = c.told_of.ensures.short;
+      held = rw (e, l) at c.told_of.ensures.held;
+      few = c.told_of.ensures.few;
+    }

@@ -34,10 +34,18 @@ pub segments-requires : goal.segments-requires
 segments-requires c = omega (arith, c.requires.curve.enough, long c.args.whole.now)
 
 pub curve_ends-e-requires : goal.curve_ends-e-requires
-curve_ends-e-requires c = let l = cut_long c.args.whole.now _ c.fill.ensures.knots in record { segments = c.segments.ensures ∙ ap (λ (n : ℕ). segments_of c.basis_of-b.result n) (sym l); enough = omega (arith, l, c.requires.curve.enough, long c.args.whole.now); most = omega (arith, l, c.requires.curve.few, long c.args.whole.now) }
+curve_ends-e-requires c = let l = cut_long c.args.whole.now _ c.fill.ensures.knots in
+    record {
+      segments = c.segments.ensures ∙ ap (λ (n : ℕ). segments_of c.basis_of-b.result n) (sym l);
+      enough = omega (arith, l, c.requires.curve.enough, long c.args.whole.now);
+      most = omega (arith, l, c.requires.curve.few, long c.args.whole.now);
+    }
 
 pub put_fine-f-requires : goal.put_fine-f-requires
-put_fine-f-requires c = record { number = omega (arith, c.requires.curve.rows, long c.args.rows.now); room = omega (arith, c.put_faults-r.ensures.text.long, c.requires.room) }
+put_fine-f-requires c = record {
+  number = omega (arith, c.requires.curve.rows, long c.args.rows.now);
+  room = omega (arith, c.put_faults-r.ensures.text.long, c.requires.room);
+}
 
 pub returns : goal.returns
 returns c = let z = held_all c.args.rows.now in

@@ -11,7 +11,16 @@ use native.Mathlib.Omega.{arith}
 use Rattle.ask_verdict.proofs.verdict.Goals as goal
 
 pub told_if-requires : goal.told_if-requires
-told_if-requires c = let m : c.in-On.n + 2 ≤ last_line = rw c.in-On.is at c.requires.held in record { few = omega arith; suited = sym c.is_suited.ensures ∙ c.if-is_suited.true; rows = c.requires.rows; sound = (rw c.in-On.is at c.requires.sound); labels = c.requires.labels; knots = c.requires.knots; room = c.requires.room }
+told_if-requires c = let m : c.in-On.n + 2 ≤ last_line = rw c.in-On.is at c.requires.held in
+    record {
+      few = omega arith;
+      suited = sym c.is_suited.ensures ∙ c.if-is_suited.true;
+      rows = c.requires.rows;
+      sound = (rw c.in-On.is at c.requires.sound);
+      labels = c.requires.labels;
+      knots = c.requires.knots;
+      room = c.requires.room;
+    }
 
 pub returns-then-is_suited : goal.returns-then-is_suited
 returns-then-is_suited c = let m : c.in-On.n + 2 ≤ last_line = rw c.in-On.is at c.requires.held in
@@ -19,7 +28,12 @@ returns-then-is_suited c = let m : c.in-On.n + 2 ≤ last_line = rw c.in-On.is a
     let l : length (held_all (take n c.args.rows.now)) ≡ n =
     long (take n c.args.rows.now) ∙ length-take-le n c.args.rows.now (omega (arith, c.requires.rows)) in
     let s = sym c.is_suited.ensures ∙ c.if-is_suited.true in
-    rw c.in-On.is (record { text = suited_text _ _ _ n l s c.told_if.ensures.text; short = c.told_if.ensures.short; asked = suited_asked _ _ _ n l s c.told_if.ensures.held; few = c.told_if.ensures.few })
+    rw c.in-On.is (record {
+      text = suited_text _ _ _ n l s c.told_if.ensures.text;
+      short = c.told_if.ensures.short;
+      asked = suited_asked _ _ _ n l s c.told_if.ensures.held;
+      few = c.told_if.ensures.few;
+    })
 
 pub put_number-requires : goal.put_number-requires
 put_number-requires c = let m : c.in-On.n + 2 ≤ last_line = rw c.in-On.is at c.requires.held in
@@ -38,7 +52,17 @@ returns-else-is_suited c = let m : c.in-On.n + 2 ≤ last_line = rw c.in-On.is a
     let l : length (held_all (take n c.args.rows.now)) ≡ n =
     long (take n c.args.rows.now) ∙ length-take-le n c.args.rows.now (omega (arith, c.requires.rows)) in
     let s = sym c.is_suited.ensures ∙ c.if-is_suited.false in
-    rw c.in-On.is (record { text = unsuited_text _ _ _ n l s c.put_number.ensures.text; short = omega (arith, c.put_number.ensures.short); asked = unsuited_asked _ _ _ n l s; few = tt })
+    rw c.in-On.is (record {
+      text = unsuited_text _ _ _ n l s c.put_number.ensures.text;
+      short = omega (arith, c.put_number.ensures.short);
+      asked = unsuited_asked _ _ _ n l s;
+      few = tt;
+    })
 
 pub returns-in-Faulty : goal.returns-in-Faulty
-returns-in-Faulty c = rw c.in-Faulty.is (record { text = faulty_text _ _ c.put_line-in-Faulty.ensures.text; short = c.put_line-in-Faulty.ensures.short; asked = faulty_asked _ _; few = tt })
+returns-in-Faulty c = rw c.in-Faulty.is (record {
+  text = faulty_text _ _ c.put_line-in-Faulty.ensures.text;
+  short = c.put_line-in-Faulty.ensures.short;
+  asked = faulty_asked _ _;
+  few = tt;
+})

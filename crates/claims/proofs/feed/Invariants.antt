@@ -14,7 +14,8 @@ use Rattle.claims.proofs.feed.Given as goal
 
 abbrev pub invariant-loop-i : goal.invariant-loop-i
 invariant-loop-i l = (l.from ≤ l.i) × (l.i ≤ length l.chunk) × (length l.begun ≡ widest) × (l.at ≤ length l.out) × (l.at + longest * l.from ≤ longest * l.i)
-    × Fed claims_program (state_at (open_of l.initial.n l.initial.begun) (curve_of l.initial.held l.initial.table)) (slice l.from l.i l.chunk) (state_at (open_of l.n l.begun) (curve_of l.held l.table)) l.initial.out 0 l.out l.at
+    × Fed claims_program (state_at (open_of l.initial.n l.initial.begun) (curve_of l.initial.held l.initial.table)) (slice l.from l.i l.chunk)
+    (state_at (open_of l.n l.begun) (curve_of l.held l.table)) l.initial.out 0 l.out l.at
     × (length l.table ≡ places) × (length l.converted ≡ places) × (count_of l.held ≤ places) × (length l.chunk < 2 ^ 64)
 
 abbrev pub decreases-loop-i : goal.decreases-loop-i

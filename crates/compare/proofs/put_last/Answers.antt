@@ -5,7 +5,10 @@ use Rattle.text.proofs.Writing.{then}
 use Rattle.compare.proofs.put_last.Goals as goal
 
 pub returns-then-at-start : goal.returns-then-at-start
-returns-then-at-start c = record { wrote = rw (eq-eqb c.args.c.at c.args.start c.if-at-start.true) c.put_word.ensures; short = omega (arith, c.put_word.ensures.next) }
+returns-then-at-start c = record {
+  wrote = rw (eq-eqb c.args.c.at c.args.start c.if-at-start.true) c.put_word.ensures;
+  short = omega (arith, c.put_word.ensures.next);
+}
 
 pub returns : goal.returns
 returns c = record {

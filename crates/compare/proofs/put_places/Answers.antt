@@ -7,7 +7,12 @@ pub loop-i-init : goal.loop-i-init
 loop-i-init c = (omega arith, omega arith, omega arith, upto_none _ _ _ _)
 
 pub put_place-c-requires : goal.put_place-c-requires
-put_place-c-requires c = record { behind = c.loop-i.invariant.2; number = omega (arith, c.longer-end.ensures); room = omega (arith, c.longer-end.ensures, c.loop-i.invariant.3.wrote.long); either = λ h. omega (arith, c.longer-end.ensures) }
+put_place-c-requires c = record {
+  behind = c.loop-i.invariant.2;
+  number = omega (arith, c.longer-end.ensures);
+  room = omega (arith, c.longer-end.ensures, c.loop-i.invariant.3.wrote.long);
+  either = λ h. omega (arith, c.longer-end.ensures);
+}
 
 pub loop-i-smaller : goal.loop-i-smaller
 loop-i-smaller c = omega arith

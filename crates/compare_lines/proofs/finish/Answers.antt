@@ -6,7 +6,11 @@ use Rattle.compare_lines.specs.Contract.{both_of}
 use Rattle.compare_lines.proofs.finish.Goals as goal
 
 pub returns-then-len-eq0 : goal.returns-then-len-eq0
-returns-then-len-eq0 c = let a = c.args in record { text = end_none compare_program a.st.len a.begun.now (both_of a.st.held a.old.now a.new.now) (omega arith) c.end.ensures.text; short = omega (arith, c.end.ensures.short) }
+returns-then-len-eq0 c = let a = c.args in
+    record {
+      text = end_none compare_program a.st.len a.begun.now (both_of a.st.held a.old.now a.new.now) (omega arith) c.end.ensures.text;
+      short = omega (arith, c.end.ensures.short);
+    }
 
 pub returns : goal.returns
 returns c = let a = c.args in

@@ -36,7 +36,15 @@ put_windows-requires c = let a = c.args in
     let h =
     spline_passed a.from a.to a.knots.now (length a.out.now)
     (plain_passes a.from a.to a.knots.now a.allowance (length a.out.now) p) in
-    record { step = c.step-step.ensures.positive; some = c.step-stride.ensures.positive; few = c.step-stride.ensures.most; enough = h.0.least; most = h.0.most; room = le_trans (le_of_eq (output_steps a.from a.to (length a.knots.now) _ _ c.step-step.ensures.answer c.step-stride.ensures.answer)) h.1.enough }
+    record {
+      step = c.step-step.ensures.positive;
+      some = c.step-stride.ensures.positive;
+      few = c.step-stride.ensures.most;
+      enough = h.0.least;
+      most = h.0.most;
+      room =
+          le_trans (le_of_eq (output_steps a.from a.to (length a.knots.now) _ _ c.step-step.ensures.answer c.step-stride.ensures.answer)) h.1.enough;
+    }
 
 pub returns-in-Failed : goal.returns-in-Failed
 returns-in-Failed c = let a = c.args in
@@ -52,6 +60,7 @@ returns-else-s-gt0 c = let a = c.args in
     let e = strict_passes a.from a.to a.knots.now a.allowance (length a.out.now) (seam_kept a.from a.to a.knots.now
     a.allowance (length a.out.now) p _ s (omega (arith, c.if-s-gt0.false))) in
     let t = spline_written a.from a.to a.knots.now a.out.now _ _ _ _ _
-    (plain_passes a.from a.to a.knots.now a.allowance (length a.out.now) p) c.conversion_matrix-m.ensures c.step-step.ensures.answer c.step-stride.ensures.answer c.step-stride.ensures.most c.put_windows.ensures.answer
+    (plain_passes a.from a.to a.knots.now a.allowance (length a.out.now) p) c.conversion_matrix-m.ensures c.step-step.ensures.answer
+    c.step-stride.ensures.answer c.step-stride.ensures.most c.put_windows.ensures.answer
     c.put_windows.ensures.out in
     record { answer = t.answer ∙ sym (ap answer_of e); buffer = t.buffer ∙ sym (ap (λ (x : Conversion). buffer_of x a.out.now) e) }

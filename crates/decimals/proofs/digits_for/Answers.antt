@@ -7,7 +7,10 @@ pub returns-then-is_word : goal.returns-then-is_word
 returns-then-is_word c = record { answer = by_place c.args.w.now c.is_word.ensures c.if-is_word.true; most = omega arith }
 
 pub returns-then-is_word-2 : goal.returns-then-is_word-2
-returns-then-is_word-2 c = record { answer = by_at c.args.w.now c.is_word.ensures c.if-is_word.false c.is_word-2.ensures c.if-is_word-2.true; most = omega arith }
+returns-then-is_word-2 c = record {
+  answer = by_at c.args.w.now c.is_word.ensures c.if-is_word.false c.is_word-2.ensures c.if-is_word-2.true;
+  most = omega arith;
+}
 
 pub returns-then-is_word-3 : goal.returns-then-is_word-3
 returns-then-is_word-3 c = record {

@@ -10,7 +10,13 @@ loop-i-init c = let a = c.args in
     (omega arith, omega arith, omega arith, omega arith, omega arith, fed_from decimals_program a.chunk.now a.from _ _ 0)
 
 pub returns-then-out-at-lt129 : goal.returns-then-out-at-lt129
-returns-then-out-at-lt129 c = let l = c.loop-i in record { fed = l.invariant.5; after = l.invariant.0; within = l.invariant.1; short = l.invariant.3; progress = λ p q. omega (arith, l.invariant.5.wrote.long) }
+returns-then-out-at-lt129 c = let l = c.loop-i in record {
+  fed = l.invariant.5;
+  after = l.invariant.0;
+  within = l.invariant.1;
+  short = l.invariant.3;
+  progress = λ p q. omega (arith, l.invariant.5.wrote.long);
+}
 
 pub loop-i-preserved-then-i-chunk : goal.loop-i-preserved-then-i-chunk
 loop-i-preserved-then-i-chunk c = let a = c.args in
@@ -37,4 +43,10 @@ loop-i-preserved c = let a = c.args in
     )
 
 pub returns : goal.returns
-returns c = let l = c.loop-i in record { fed = l.invariant.5; after = l.invariant.0; within = l.invariant.1; short = l.invariant.3; progress = λ p q. omega arith }
+returns c = let l = c.loop-i in record {
+  fed = l.invariant.5;
+  after = l.invariant.0;
+  within = l.invariant.1;
+  short = l.invariant.3;
+  progress = λ p q. omega arith;
+}

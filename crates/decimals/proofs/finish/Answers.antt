@@ -11,4 +11,7 @@ returns-then-len-eq0 c = let a = c.args in record { text = end_none decimals_pro
 
 pub returns : goal.returns
 returns c = let a = c.args in
-    record { text = end_some decimals_program a.len a.begun.now tt {h' = tt} (omega arith) c.requires.begun refl c.line.ensures.text (nothing _ _); short = omega (arith, c.line.ensures.short) }
+    record {
+      text = end_some decimals_program a.len a.begun.now tt {h' = tt} (omega arith) c.requires.begun refl c.line.ensures.text (nothing _ _);
+      short = omega (arith, c.line.ensures.short);
+    }

@@ -7,7 +7,10 @@ pub put_rounded-requires : goal.put_rounded-requires
 put_rounded-requires c = record { digits = omega arith; room = omega (arith, sixteen c.args.s.now _ c.hex.ensures c.in-Is.is) }
 
 pub returns-in-Is : goal.returns-in-Is
-returns-in-Is c = record { text = field_number c.args.d _ c.args.s.now c.hex.ensures c.in-Is.is c.put_rounded.ensures.text; short = omega (arith, c.put_rounded.ensures.short, sixteen c.args.s.now _ c.hex.ensures c.in-Is.is) }
+returns-in-Is c = record {
+  text = field_number c.args.d _ c.args.s.now c.hex.ensures c.in-Is.is c.put_rounded.ensures.text;
+  short = omega (arith, c.put_rounded.ensures.short, sixteen c.args.s.now _ c.hex.ensures c.in-Is.is);
+}
 
 pub returns-in-Nothing : goal.returns-in-Nothing
 returns-in-Nothing c = record {

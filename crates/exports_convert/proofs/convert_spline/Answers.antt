@@ -12,11 +12,13 @@ returns-in_default c = let args = c.args in
     let written = args.written.now in
     let out = args.out.now in
     let unknown = c.in_default.is in record {
-      answer = unfound no_basis (λ f. chosen (chosen_of args.to) no_basis (λ t. converted_reply (answer_of (converted_of f t args.knots.now (length out))))) c.basis_of-c.ensures
+      answer = unfound no_basis (λ f. chosen (chosen_of args.to) no_basis (λ t. converted_reply (answer_of (converted_of f t args.knots.now (length
+          out))))) c.basis_of-c.ensures
           unknown;
       length = unfound written (λ f. chosen (chosen_of args.to) written (λ t. length_left (answer_of (converted_of f t args.knots.now (length out))) written))
           c.basis_of-c.ensures unknown;
-      buffer = unfound out (λ f. chosen (chosen_of args.to) out (λ t. buffer_of (converted_of f t args.knots.now (length out)) out)) c.basis_of-c.ensures unknown;
+      buffer = unfound out (λ f. chosen (chosen_of args.to) out (λ t. buffer_of (converted_of f t args.knots.now (length out)) out))
+          c.basis_of-c.ensures unknown;
     }
 
 pub returns-in_default-d : goal.returns-in_default-d
@@ -26,10 +28,12 @@ returns-in_default-d c = let args = c.args in
     let known = c.in-Known.is in
     let from = c.in-Known.f in
     let unknown = c.in_default-d.is in record {
-      answer = found no_basis (λ f. chosen (chosen_of args.to) no_basis (λ t. converted_reply (answer_of (converted_of f t args.knots.now (length out))))) c.basis_of-c.ensures
+      answer = found no_basis (λ f. chosen (chosen_of args.to) no_basis (λ t. converted_reply (answer_of (converted_of f t args.knots.now (length
+          out))))) c.basis_of-c.ensures
           known (unfound no_basis (λ t. converted_reply (answer_of (converted_of from t args.knots.now (length out)))) c.basis_of-d.ensures unknown);
       length = found written (λ f. chosen (chosen_of args.to) written (λ t. length_left (answer_of (converted_of f t args.knots.now (length out))) written))
-          c.basis_of-c.ensures known (unfound written (λ t. length_left (answer_of (converted_of from t args.knots.now (length out))) written) c.basis_of-d.ensures unknown);
+          c.basis_of-c.ensures known (unfound written (λ t. length_left (answer_of (converted_of from t args.knots.now (length out))) written)
+          c.basis_of-d.ensures unknown);
       buffer = found out (λ f. chosen (chosen_of args.to) out (λ t. buffer_of (converted_of f t args.knots.now (length out)) out)) c.basis_of-c.ensures known
           (unfound out (λ t. buffer_of (converted_of from t args.knots.now (length out)) out) c.basis_of-d.ensures unknown);
     }
@@ -44,7 +48,8 @@ returns c = let args = c.args in
     let reply = c.length_told.ensures.answer ∙ ap converted_reply c.convert_spline.ensures.answer in
     let length-left = c.length_told.ensures.written ∙ ap (λ a. length_left a written) c.convert_spline.ensures.answer in
     record {
-      answer = found no_basis (λ f. chosen (chosen_of args.to) no_basis (λ t. converted_reply (answer_of (converted_of f t args.knots.now (length out))))) c.basis_of-c.ensures
+      answer = found no_basis (λ f. chosen (chosen_of args.to) no_basis (λ t. converted_reply (answer_of (converted_of f t args.knots.now (length
+          out))))) c.basis_of-c.ensures
           known (found no_basis (λ t. converted_reply (answer_of (converted_of from t args.knots.now (length out)))) c.basis_of-d.ensures known-to reply);
       length = found written (λ f. chosen (chosen_of args.to) written (λ t. length_left (answer_of (converted_of f t args.knots.now (length out))) written))
           c.basis_of-c.ensures known

@@ -16,7 +16,8 @@ returns-in_default c = let args = c.args in
           (λ t. converted_reply (answer_of (strict_of f t args.knots.now args.allowance (length out))))) c.basis_of-c.ensures unknown;
       length = unfound written (λ f. chosen (chosen_of args.to) written
           (λ t. length_left (answer_of (strict_of f t args.knots.now args.allowance (length out))) written)) c.basis_of-c.ensures unknown;
-      buffer = unfound out (λ f. chosen (chosen_of args.to) out (λ t. buffer_of (strict_of f t args.knots.now args.allowance (length out)) out)) c.basis_of-c.ensures unknown;
+      buffer = unfound out (λ f. chosen (chosen_of args.to) out (λ t. buffer_of (strict_of f t args.knots.now args.allowance (length out)) out))
+          c.basis_of-c.ensures unknown;
     }
 
 pub returns-in_default-d : goal.returns-in_default-d
@@ -32,7 +33,8 @@ returns-in_default-d c = let args = c.args in
       length = found written (λ f. chosen (chosen_of args.to) written
           (λ t. length_left (answer_of (strict_of f t args.knots.now args.allowance (length out))) written)) c.basis_of-c.ensures known
           (unfound written (λ t. length_left (answer_of (strict_of from t args.knots.now args.allowance (length out))) written) c.basis_of-d.ensures unknown);
-      buffer = found out (λ f. chosen (chosen_of args.to) out (λ t. buffer_of (strict_of f t args.knots.now args.allowance (length out)) out)) c.basis_of-c.ensures known
+      buffer = found out (λ f. chosen (chosen_of args.to) out (λ t. buffer_of (strict_of f t args.knots.now args.allowance (length out)) out))
+          c.basis_of-c.ensures known
           (unfound out (λ t. buffer_of (strict_of from t args.knots.now args.allowance (length out)) out) c.basis_of-d.ensures unknown);
     }
 
@@ -53,6 +55,8 @@ returns c = let args = c.args in
           (λ t. length_left (answer_of (strict_of f t args.knots.now args.allowance (length out))) written)) c.basis_of-c.ensures known
           (found written (λ t. length_left (answer_of (strict_of from t args.knots.now args.allowance (length out))) written) c.basis_of-d.ensures known-to
           length-left);
-      buffer = found out (λ f. chosen (chosen_of args.to) out (λ t. buffer_of (strict_of f t args.knots.now args.allowance (length out)) out)) c.basis_of-c.ensures known
-          (found out (λ t. buffer_of (strict_of from t args.knots.now args.allowance (length out)) out) c.basis_of-d.ensures known-to c.convert_spline_strict.ensures.buffer);
+      buffer = found out (λ f. chosen (chosen_of args.to) out (λ t. buffer_of (strict_of f t args.knots.now args.allowance (length out)) out))
+          c.basis_of-c.ensures known
+          (found out (λ t. buffer_of (strict_of from t args.knots.now args.allowance (length out)) out) c.basis_of-d.ensures known-to
+          c.convert_spline_strict.ensures.buffer);
     }

@@ -11,7 +11,10 @@ returns-in_default c = let a = c.args in
     let w = way_of a.ends a.method in
     let most = a.most.now in
     let unknown = c.in_default.is in
-    record { answer = unfound no_basis (λ b. way w no_basis (λ e m. 0)) c.basis_of-c.ensures unknown; most = unfound most (λ b. way w most (λ e m. most_of e m b a.n a.limit)) c.basis_of-c.ensures unknown }
+    record {
+      answer = unfound no_basis (λ b. way w no_basis (λ e m. 0)) c.basis_of-c.ensures unknown;
+      most = unfound most (λ b. way w most (λ e m. most_of e m b a.n a.limit)) c.basis_of-c.ensures unknown;
+    }
 
 pub returns-in_default-w : goal.returns-in_default-w
 returns-in_default-w c = let a = c.args in

@@ -10,7 +10,15 @@ pub returns-in_default : goal.returns-in_default
 returns-in_default c = let args = c.args in
     let place = args.place.now in
     let whole = args.whole.now in
-    let unknown = c.in_default.is in record { answer = unfound no_basis (λ b. inverted_reply (inverse_of b args.y args.knots.now args.check default_limit default_precision)) c.basis_of-c.ensures unknown; place = unfound place (λ b. place_left (inverse_of b args.y args.knots.now args.check default_limit default_precision) place) c.basis_of-c.ensures unknown; whole = unfound whole (λ b. whole_left (inverse_of b args.y args.knots.now args.check default_limit default_precision) whole) c.basis_of-c.ensures unknown }
+    let unknown = c.in_default.is in
+    record {
+      answer = unfound no_basis (λ b. inverted_reply (inverse_of b args.y args.knots.now args.check default_limit default_precision))
+          c.basis_of-c.ensures unknown;
+      place = unfound place (λ b. place_left (inverse_of b args.y args.knots.now args.check default_limit default_precision) place)
+          c.basis_of-c.ensures unknown;
+      whole = unfound whole (λ b. whole_left (inverse_of b args.y args.knots.now args.check default_limit default_precision) whole)
+          c.basis_of-c.ensures unknown;
+    }
 
 pub returns : goal.returns
 returns c = let args = c.args in

@@ -9,7 +9,12 @@ pub returns-in_default : goal.returns-in_default
 returns-in_default c = let args = c.args in
     let place = args.place.now in
     let whole = args.whole.now in
-    let unknown = c.in_default.is in record { answer = unfound no_basis (λ b. inverted_reply (steady_segment_of b args.y args.cv.now)) c.basis_of-c.ensures unknown; place = unfound place (λ b. place_left (steady_segment_of b args.y args.cv.now) place) c.basis_of-c.ensures unknown; whole = unfound whole (λ b. whole_left (steady_segment_of b args.y args.cv.now) whole) c.basis_of-c.ensures unknown }
+    let unknown = c.in_default.is in
+    record {
+      answer = unfound no_basis (λ b. inverted_reply (steady_segment_of b args.y args.cv.now)) c.basis_of-c.ensures unknown;
+      place = unfound place (λ b. place_left (steady_segment_of b args.y args.cv.now) place) c.basis_of-c.ensures unknown;
+      whole = unfound whole (λ b. whole_left (steady_segment_of b args.y args.cv.now) whole) c.basis_of-c.ensures unknown;
+    }
 
 pub returns : goal.returns
 returns c = let args = c.args in
@@ -17,7 +22,8 @@ returns c = let args = c.args in
     let whole = args.whole.now in
     let known = c.in-Known.is in
     record {
-      answer = found no_basis (λ b. inverted_reply (steady_segment_of b args.y args.cv.now)) c.basis_of-c.ensures known (c.place_told.ensures.answer ∙ ap inverted_reply c.spline_inverse_segment_steady.ensures);
+      answer = found no_basis (λ b. inverted_reply (steady_segment_of b args.y args.cv.now)) c.basis_of-c.ensures known (c.place_told.ensures.answer
+          ∙ ap inverted_reply c.spline_inverse_segment_steady.ensures);
       place = found place (λ b. place_left (steady_segment_of b args.y args.cv.now) place) c.basis_of-c.ensures known
           (c.place_told.ensures.place ∙ ap (λ a. place_left a place) c.spline_inverse_segment_steady.ensures);
       whole = found whole (λ b. whole_left (steady_segment_of b args.y args.cv.now) whole) c.basis_of-c.ensures known

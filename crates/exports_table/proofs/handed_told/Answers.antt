@@ -6,8 +6,16 @@ use Rattle.exports_table.proofs.handed_told.Goals as goal
 pub returns-in-On : goal.returns-in-On
 returns-in-On c = let args = c.args in
     let is = c.in-On.is in
-    record { answer = sym (ap handed_reply is); handed = sym (ap (λ a. handed_span a args.handed.now) is); written = sym (ap (λ a. handed_length a args.written.now) is) }
+    record {
+      answer = sym (ap handed_reply is);
+      handed = sym (ap (λ a. handed_span a args.handed.now) is);
+      written = sym (ap (λ a. handed_length a args.written.now) is);
+    }
 
 pub returns-in-Refused : goal.returns-in-Refused
 returns-in-Refused c = let args = c.args in
-    let is = c.in-Refused.is in record { answer = c.reply.ensures ∙ sym (ap handed_reply is); handed = sym (ap (λ a. handed_span a args.handed.now) is); written = sym (ap (λ a. handed_length a args.written.now) is) }
+    let is = c.in-Refused.is in record {
+      answer = c.reply.ensures ∙ sym (ap handed_reply is);
+      handed = sym (ap (λ a. handed_span a args.handed.now) is);
+      written = sym (ap (λ a. handed_length a args.written.now) is);
+    }

@@ -9,7 +9,8 @@ use Rattle.exports_table.proofs.table_convert_spline.Goals as goal
 pub returns-in_default : goal.returns-in_default
 returns-in_default c = let pair = let args = c.args in
     left_unknown args.span (λ f t. table_converted_of (table_of args.span f) t args.knots.now (length args.out.now)) (chosen_of args.from)
-    (chosen_of args.to) args.handed.now args.written.now args.out.now c.basis_of-c.ensures c.in_default.is in record { answer = pair.0; span = pair.1.0; length = pair.1.1.0; buffer = pair.1.1.1 }
+    (chosen_of args.to) args.handed.now args.written.now args.out.now c.basis_of-c.ensures c.in_default.is in
+    record { answer = pair.0; span = pair.1.0; length = pair.1.1.0; buffer = pair.1.1.1 }
 
 pub returns-in_default-d : goal.returns-in_default-d
 returns-in_default-d c = let pair = let args = c.args in
@@ -24,5 +25,6 @@ returns c = let pair = let args =
     let known = c.in-Known.is in
     let known-to = c.in-Known-d.is in
     left args.span (λ f t. table_converted_of (table_of args.span f) t args.knots.now (length args.out.now)) (chosen_of args.from)
-    (chosen_of args.to) args.handed.now args.written.now args.out.now c.basis_of-c.ensures known c.basis_of-d.ensures known-to c.table_convert_spline.ensures.answer c.table_convert_spline.ensures.buffer c.handed_told.ensures.answer
+    (chosen_of args.to) args.handed.now args.written.now args.out.now c.basis_of-c.ensures known c.basis_of-d.ensures known-to
+    c.table_convert_spline.ensures.answer c.table_convert_spline.ensures.buffer c.handed_told.ensures.answer
     c.handed_told.ensures.handed c.handed_told.ensures.written in record { answer = pair.0; span = pair.1.0; length = pair.1.1.0; buffer = pair.1.1.1 }

@@ -25,5 +25,7 @@ returns c = let pair = let args =
     let known = c.in-Known.is in
     let known-to = c.in-Known-d.is in
     left args.span (λ f t. table_strict_of (table_of args.span f) t args.knots.now args.allowance (length args.out.now))
-    (chosen_of args.from) (chosen_of args.to) args.handed.now args.written.now args.out.now c.basis_of-c.ensures known c.basis_of-d.ensures known-to c.table_convert_spline_strict.ensures.answer
-    c.table_convert_spline_strict.ensures.buffer c.handed_told.ensures.answer c.handed_told.ensures.handed c.handed_told.ensures.written in record { answer = pair.0; span = pair.1.0; length = pair.1.1.0; buffer = pair.1.1.1 }
+    (chosen_of args.from) (chosen_of args.to) args.handed.now args.written.now args.out.now c.basis_of-c.ensures known c.basis_of-d.ensures known-to
+    c.table_convert_spline_strict.ensures.answer
+    c.table_convert_spline_strict.ensures.buffer c.handed_told.ensures.answer c.handed_told.ensures.handed c.handed_told.ensures.written in
+    record { answer = pair.0; span = pair.1.0; length = pair.1.1.0; buffer = pair.1.1.1 }

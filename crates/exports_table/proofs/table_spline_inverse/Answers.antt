@@ -15,7 +15,8 @@ returns-in_default c = let args = c.args in
     let whole = args.whole.now in
     let unknown = c.in_default.is in record {
       answer = unfound no_basis (λ b. timed_reply
-          (table_inverse_by Knots AsCrate (table_of args.span b) args.y args.knots.now args.check default_limit default_precision)) c.basis_of-c.ensures unknown;
+          (table_inverse_by Knots AsCrate (table_of args.span b) args.y args.knots.now args.check default_limit default_precision))
+          c.basis_of-c.ensures unknown;
       place = unfound place (λ b. timed_place
           (table_inverse_by Knots AsCrate (table_of args.span b) args.y args.knots.now args.check default_limit default_precision) place) c.basis_of-c.ensures
           unknown;

@@ -10,7 +10,15 @@ pub returns-in_default : goal.returns-in_default
 returns-in_default c = let args = c.args in
     let place = args.place.now in
     let whole = args.whole.now in
-    let unknown = c.in_default.is in record { answer = unfound no_basis (λ b. timed_reply (table_steady_of (table_of args.span b) args.y args.knots.now args.check)) c.basis_of-c.ensures unknown; place = unfound place (λ b. timed_place (table_steady_of (table_of args.span b) args.y args.knots.now args.check) place) c.basis_of-c.ensures unknown; whole = unfound whole (λ b. timed_whole (table_steady_of (table_of args.span b) args.y args.knots.now args.check) whole) c.basis_of-c.ensures unknown }
+    let unknown = c.in_default.is in
+    record {
+      answer = unfound no_basis (λ b. timed_reply (table_steady_of (table_of args.span b) args.y args.knots.now args.check))
+          c.basis_of-c.ensures unknown;
+      place = unfound place (λ b. timed_place (table_steady_of (table_of args.span b) args.y args.knots.now args.check) place) c.basis_of-c.ensures
+          unknown;
+      whole = unfound whole (λ b. timed_whole (table_steady_of (table_of args.span b) args.y args.knots.now args.check) whole)
+          c.basis_of-c.ensures unknown;
+    }
 
 pub returns : goal.returns
 returns c = let args = c.args in

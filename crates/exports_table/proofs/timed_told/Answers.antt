@@ -19,9 +19,17 @@ returns-in-At c = let args = c.args in
 pub returns-in-OffCurve : goal.returns-in-OffCurve
 returns-in-OffCurve c = let args = c.args in
     let is = c.in-OffCurve.is in
-    record { answer = c.reply.ensures ∙ sym (ap timed_reply is); place = sym (ap (λ a. timed_place a args.place.now) is); whole = sym (ap (λ a. timed_whole a args.whole.now) is) }
+    record {
+      answer = c.reply.ensures ∙ sym (ap timed_reply is);
+      place = sym (ap (λ a. timed_place a args.place.now) is);
+      whole = sym (ap (λ a. timed_whole a args.whole.now) is);
+    }
 
 pub returns-in-Refused : goal.returns-in-Refused
 returns-in-Refused c = let args = c.args in
     let is = c.in-Refused.is in
-    record { answer = c.reply-in-Refused.ensures ∙ sym (ap timed_reply is); place = sym (ap (λ a. timed_place a args.place.now) is); whole = sym (ap (λ a. timed_whole a args.whole.now) is) }
+    record {
+      answer = c.reply-in-Refused.ensures ∙ sym (ap timed_reply is);
+      place = sym (ap (λ a. timed_place a args.place.now) is);
+      whole = sym (ap (λ a. timed_whole a args.whole.now) is);
+    }

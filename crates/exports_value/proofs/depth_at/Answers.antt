@@ -12,7 +12,13 @@ pub returns-in_default : goal.returns-in_default
 returns-in_default c = let a = c.args in
     let g : Basis → Basis → DepthAnswer = λ t d. depth_of t a.times.now d a.depths.now a.y a.limit a.precision in
     let to = chosen_of a.db in
-    let unknown = c.in_default.is in record { answer = unfound no_basis (λ t. chosen to no_basis (λ d. sounded_reply (g t d))) c.basis_of-c.ensures unknown; value = unfound a.depth.now (λ t. chosen to a.depth.now (λ d. depth_left (g t d) a.depth.now)) c.basis_of-c.ensures unknown; place = unfound a.place.now (λ t. chosen to a.place.now (λ d. depth_place_left (g t d) a.place.now)) c.basis_of-c.ensures unknown; whole = unfound a.whole.now (λ t. chosen to a.whole.now (λ d. depth_whole_left (g t d) a.whole.now)) c.basis_of-c.ensures unknown }
+    let unknown = c.in_default.is in
+    record {
+      answer = unfound no_basis (λ t. chosen to no_basis (λ d. sounded_reply (g t d))) c.basis_of-c.ensures unknown;
+      value = unfound a.depth.now (λ t. chosen to a.depth.now (λ d. depth_left (g t d) a.depth.now)) c.basis_of-c.ensures unknown;
+      place = unfound a.place.now (λ t. chosen to a.place.now (λ d. depth_place_left (g t d) a.place.now)) c.basis_of-c.ensures unknown;
+      whole = unfound a.whole.now (λ t. chosen to a.whole.now (λ d. depth_whole_left (g t d) a.whole.now)) c.basis_of-c.ensures unknown;
+    }
 
 pub returns-in_default-e : goal.returns-in_default-e
 returns-in_default-e c = let a = c.args in
@@ -21,7 +27,8 @@ returns-in_default-e c = let a = c.args in
     let known = c.in-Known.is in
     let t = c.in-Known.t in
     let unknown = c.in_default-e.is in record {
-      answer = found no_basis (λ t. chosen to no_basis (λ d. sounded_reply (g t d))) c.basis_of-c.ensures known (unfound no_basis (λ d. sounded_reply (g t d)) c.basis_of-e.ensures unknown);
+      answer = found no_basis (λ t. chosen to no_basis (λ d. sounded_reply (g t d))) c.basis_of-c.ensures known (unfound no_basis (λ d. sounded_reply
+          (g t d)) c.basis_of-e.ensures unknown);
       value = found a.depth.now (λ t. chosen to a.depth.now (λ d. depth_left (g t d) a.depth.now)) c.basis_of-c.ensures known
           (unfound a.depth.now (λ d. depth_left (g t d) a.depth.now) c.basis_of-e.ensures unknown);
       place = found a.place.now (λ t. chosen to a.place.now (λ d. depth_place_left (g t d) a.place.now)) c.basis_of-c.ensures known

@@ -19,8 +19,18 @@ returns-in-At c = let a = c.args in
 
 pub returns-in-OffCurve : goal.returns-in-OffCurve
 returns-in-OffCurve c = let a = c.args in
-    let is = c.in-OffCurve.is in record { answer = c.reply.ensures ∙ sym (ap sounded_reply is); value = sym (ap (λ (s : DepthAnswer). depth_left s a.depth.now) is); place = sym (ap (λ (s : DepthAnswer). depth_place_left s a.place.now) is); whole = sym (ap (λ (s : DepthAnswer). depth_whole_left s a.whole.now) is) }
+    let is = c.in-OffCurve.is in record {
+      answer = c.reply.ensures ∙ sym (ap sounded_reply is);
+      value = sym (ap (λ (s : DepthAnswer). depth_left s a.depth.now) is);
+      place = sym (ap (λ (s : DepthAnswer). depth_place_left s a.place.now) is);
+      whole = sym (ap (λ (s : DepthAnswer). depth_whole_left s a.whole.now) is);
+    }
 
 pub returns-in-Refused : goal.returns-in-Refused
 returns-in-Refused c = let a = c.args in
-    let is = c.in-Refused.is in record { answer = c.named_reply.ensures ∙ sym (ap sounded_reply is); value = sym (ap (λ (s : DepthAnswer). depth_left s a.depth.now) is); place = sym (ap (λ (s : DepthAnswer). depth_place_left s a.place.now) is); whole = sym (ap (λ (s : DepthAnswer). depth_whole_left s a.whole.now) is) }
+    let is = c.in-Refused.is in record {
+      answer = c.named_reply.ensures ∙ sym (ap sounded_reply is);
+      value = sym (ap (λ (s : DepthAnswer). depth_left s a.depth.now) is);
+      place = sym (ap (λ (s : DepthAnswer). depth_place_left s a.place.now) is);
+      whole = sym (ap (λ (s : DepthAnswer). depth_whole_left s a.whole.now) is);
+    }

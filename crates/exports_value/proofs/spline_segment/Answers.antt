@@ -9,4 +9,9 @@ pub returns : goal.returns
 returns c = let args = c.args in
     let known = c.in-Known.is in
     let old = args.value.now in
-    record { answer = found no_basis (λ b. evaluated_reply (spline_segment_of b args.x args.cv.now)) c.basis_of-c.ensures known (c.value_told.ensures.answer ∙ ap evaluated_reply c.spline_segment.ensures); value = found old (λ b. value_left (spline_segment_of b args.x args.cv.now) old) c.basis_of-c.ensures known (c.value_told.ensures.value ∙ ap (λ e. value_left e old) c.spline_segment.ensures) }
+    record {
+      answer = found no_basis (λ b. evaluated_reply (spline_segment_of b args.x args.cv.now)) c.basis_of-c.ensures known
+          (c.value_told.ensures.answer ∙ ap evaluated_reply c.spline_segment.ensures);
+      value = found old (λ b. value_left (spline_segment_of b args.x args.cv.now) old) c.basis_of-c.ensures known (c.value_told.ensures.value
+          ∙ ap (λ e. value_left e old) c.spline_segment.ensures);
+    }

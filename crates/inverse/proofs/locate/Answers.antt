@@ -4,7 +4,14 @@ use Rattle.inverse.proofs.Glue.{by_rule}
 use Rattle.inverse.proofs.locate.Goals as goal
 
 pub located-requires : goal.located-requires
-located-requires c = record { segments = c.segments-k.ensures; enough = c.requires.enough; most = c.requires.most; number = c.requires.number; range = c.requires.range; count = omega (arith, c.evaluations.ensures.most) }
+located-requires c = record {
+  segments = c.segments-k.ensures;
+  enough = c.requires.enough;
+  most = c.requires.most;
+  number = c.requires.number;
+  range = c.requires.range;
+  count = omega (arith, c.evaluations.ensures.most);
+}
 
 pub returns : goal.returns
 returns c = by_rule c.args.ends c.args.b c.args.knots.now c.segments-k.result c.segments-k.ensures

@@ -13,7 +13,13 @@ use Rattle.inverse.proofs.searched.Goals as goal
 
 pub find-a-requires : goal.find-a-requires
 find-a-requires c = let a = c.args in
-    record { inside = k_fits a.b a.y a.precision a.knots.now a.limit a.k c.requires.segments c.requires.enough c.requires.most; most = c.requires.most; some = k_some a.b a.y a.precision a.knots.now a.limit a.k c.requires.segments c.requires.enough c.requires.most; segments = le_trans (k_few a.b a.y a.precision a.knots.now a.limit a.k c.requires.segments c.requires.enough c.requires.most) (lit≤ tt); count = c.requires.count }
+    record {
+      inside = k_fits a.b a.y a.precision a.knots.now a.limit a.k c.requires.segments c.requires.enough c.requires.most;
+      most = c.requires.most;
+      some = k_some a.b a.y a.precision a.knots.now a.limit a.k c.requires.segments c.requires.enough c.requires.most;
+      segments = le_trans (k_few a.b a.y a.precision a.knots.now a.limit a.k c.requires.segments c.requires.enough c.requires.most) (lit≤ tt);
+      count = c.requires.count;
+    }
 
 pub returns-in_default : goal.returns-in_default
 returns-in_default c = λ ev l. let a = c.args in off_kept (parameter_of a.k)

@@ -15,7 +15,8 @@ returns-then-in_range-3 c = c.keeps.ensures ∙ (ap (λ (z : Bool). kept z (drop
     (sym c.in_range-then-in_range-2.ensures ∙ c.if-in_range-3.true))
 
 pub returns-else-in_range-3 : goal.returns-else-in_range-3
-returns-else-in_range-3 c = sound_out c.args.knots.now (length c.args.knots.now - 1) (omega arith) (sym c.in_range-then-in_range-2.ensures ∙ c.if-in_range-3.false)
+returns-else-in_range-3 c = sound_out c.args.knots.now (length c.args.knots.now - 1) (omega arith) (sym c.in_range-then-in_range-2.ensures
+    ∙ c.if-in_range-3.false)
 
 pub returns-else-in_range-2 : goal.returns-else-in_range-2
 returns-else-in_range-2 c = sound_out c.args.knots.now 1 (omega arith)

@@ -47,8 +47,13 @@ pub overflow_sub-halvings : goal.overflow_sub-halvings
 overflow_sub-halvings t c = omega arith
 
 pub halve-requires : goal.halve-requires
-halve-requires t c = let a = c.args in
-    (omega arith, (fits_le (a.left + (a.wide - 1) / 2) (a.left + a.wide) _ _ (omega arith) c.requires.inside, (c.requires.most, (omega arith, (c.requires.none, omega arith)))))
+halve-requires t c = let a = c.args in (
+  omega arith,
+  (
+    fits_le (a.left + (a.wide - 1) / 2) (a.left + a.wide) _ _ (omega arith) c.requires.inside,
+    (c.requires.most, (omega arith, (c.requires.none, omega arith))),
+  ),
+)
 
 pub overflow_add-mid-else-lies_before : goal.overflow_add-mid-else-lies_before
 overflow_add-mid-else-lies_before t c = omega arith

@@ -10,7 +10,14 @@ returns-then-k-le-IN_ORDER c = let a = c.args in
 
 pub last_tries-requires : goal.last_tries-requires
 last_tries-requires c = let few = c.halve-s.ensures.count_after c.if-ground-eq0.true in
-    record { inside = c.requires.inside; most = c.requires.most; some = c.requires.some; segments = c.requires.segments; left = omega (arith, c.halve-s.ensures.left); count = omega (arith, few, c.bits.ensures.most) }
+    record {
+      inside = c.requires.inside;
+      most = c.requires.most;
+      some = c.requires.some;
+      segments = c.requires.segments;
+      left = omega (arith, c.halve-s.ensures.left);
+      count = omega (arith, few, c.bits.ensures.most);
+    }
 
 pub returns-then-ground-eq0 : goal.returns-then-ground-eq0
 returns-then-ground-eq0 c = let a = c.args in

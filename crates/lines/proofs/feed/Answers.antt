@@ -21,7 +21,14 @@ loop-i-init c = let a = c.args in (
 
 pub returns-then-out-at-lt-LONGEST : goal.returns-then-out-at-lt-LONGEST
 returns-then-out-at-lt-LONGEST c = let l = c.loop-i in
-    record { fed = l.invariant.5; few = l.invariant.8; after = l.invariant.0; within = l.invariant.1; short = l.invariant.3; progress = λ p q. omega (arith, l.invariant.5.wrote.long) }
+    record {
+      fed = l.invariant.5;
+      few = l.invariant.8;
+      after = l.invariant.0;
+      within = l.invariant.1;
+      short = l.invariant.3;
+      progress = λ p q. omega (arith, l.invariant.5.wrote.long);
+    }
 
 pub overflow_add-i : goal.overflow_add-i
 overflow_add-i c = omega (arith, c.if-i-chunk.true, c.loop-i.invariant.9)
@@ -36,7 +43,8 @@ loop-i-preserved-then-i-chunk c = let a = c.args in
       omega (arith, c.line-l.ensures.wrote.long, c.line-l.ensures.short),
       omega (arith, c.line-l.ensures.short, l.invariant.4, c.cut-c.ensures.after),
       fed_line line_program a.chunk.now a.from c.cut-c.result.stop (omega (arith, l.invariant.0, c.cut-c.ensures.after)) t
-          (fed_stretch line_program a.chunk.now a.from l.i c.cut-c.result.stop l.invariant.0 l.invariant.1 l.invariant.5 c.cut-c.ensures) (c.cut-c.ensures.end t)
+          (fed_stretch line_program a.chunk.now a.from l.i c.cut-c.result.stop l.invariant.0 l.invariant.1 l.invariant.5 c.cut-c.ensures)
+          (c.cut-c.ensures.end t)
           c.line-l.ensures.state c.line-l.ensures.wrote,
       omega (arith, l.invariant.6),
       omega (arith, l.invariant.7),
@@ -60,4 +68,11 @@ loop-i-preserved c = let a = c.args in
     )
 
 pub returns : goal.returns
-returns c = let l = c.loop-i in record { fed = l.invariant.5; few = l.invariant.8; after = l.invariant.0; within = l.invariant.1; short = l.invariant.3; progress = λ p q. omega arith }
+returns c = let l = c.loop-i in record {
+  fed = l.invariant.5;
+  few = l.invariant.8;
+  after = l.invariant.0;
+  within = l.invariant.1;
+  short = l.invariant.3;
+  progress = λ p q. omega arith;
+}

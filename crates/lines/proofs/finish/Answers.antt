@@ -13,7 +13,8 @@ returns-then-len-eq0 c = let a = c.args in
 pub returns : goal.returns
 returns c = let a = c.args in
     record {
-      text = end_some line_program a.st.len a.begun.now (curve_of a.st.held a.table.now) c.if-len-eq0.false c.requires.begun c.line-l.ensures.state c.line-l.ensures.wrote
+      text = end_some line_program a.st.len a.begun.now (curve_of a.st.held a.table.now) c.if-len-eq0.false c.requires.begun c.line-l.ensures.state
+          c.line-l.ensures.wrote
           (nothing _ _);
       short = omega (arith, c.line-l.ensures.short);
     }

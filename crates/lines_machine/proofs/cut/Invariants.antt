@@ -9,7 +9,8 @@ use Rattle.lines_machine.specs.Contract.{open_of}
 use Rattle.lines_machine.proofs.cut.Given as goal
 
 abbrev pub invariant-loop-i : goal.invariant-loop-i
-invariant-loop-i l = (l.from ≤ l.i) × (l.i ≤ length l.chunk) × (length l.line ≡ widest) × Grown (open_of l.len l.initial.line) (slice l.from l.i l.chunk) (open_of l.n l.line)
+invariant-loop-i l = (l.from ≤ l.i) × (l.i ≤ length l.chunk) × (length l.line ≡ widest)
+    × Grown (open_of l.len l.initial.line) (slice l.from l.i l.chunk) (open_of l.n l.line)
 
 abbrev pub decreases-loop-i : goal.decreases-loop-i
 decreases-loop-i l = length l.chunk - l.i

@@ -5,19 +5,19 @@ use Rattle.many.proofs.Many.{written, refused}
 use Rattle.many.proofs.spline_many.Goals as goal
 
 pub put_values-requires : goal.put_values-requires
-put_values-requires c =     let a = c.args in
+put_values-requires c = let a = c.args in
     let h = many_sound a.b a.xs.now a.knots.now (length a.out.now)
     (sym c.verdict-v.ensures ∙ c.in-Passed.is) in
     record { enough = h.enough; most = h.most; numbers = h.numbers; room = h.fits }
 
 pub returns-in-Failed : goal.returns-in-Failed
-returns-in-Failed c =     let a = c.args in
+returns-in-Failed c = let a = c.args in
     let t = refused a.b a.xs.now a.knots.now a.out.now _ (sym
     c.verdict-v.ensures ∙ c.in-Failed.is) c.told.ensures in
     record { answer = t.answer; out = t.left }
 
 pub returns-in-Passed : goal.returns-in-Passed
-returns-in-Passed c =     let a = c.args in
+returns-in-Passed c = let a = c.args in
     let t = written a.b a.xs.now a.knots.now a.out.now _ (sym
     c.verdict-v.ensures ∙ c.in-Passed.is)
     c.put_values.ensures in

@@ -17,7 +17,8 @@ returns-then-x-x1 c = let a = c.args in up_down a.x a.x1 a.y a.y1 (omega arith) 
 
 pub returns-then-y1-y : goal.returns-then-y1-y
 returns-then-y1-y c = let a = c.args in
-    down_held c.limit-then-y1-y.result c.limit-then-y1-y.ensures.most c.down.result c.down.ensures ∙ ap (λ (n : ℕ). neg_ℤ (pos n)) c.limit-then-y1-y.ensures.is ∙ both_down a.x
+    down_held c.limit-then-y1-y.result c.limit-then-y1-y.ensures.most c.down.result c.down.ensures
+    ∙ ap (λ (n : ℕ). neg_ℤ (pos n)) c.limit-then-y1-y.ensures.is ∙ both_down a.x
     a.x1 a.y a.y1 (omega arith) (omega arith)
 
 pub returns : goal.returns

@@ -20,6 +20,8 @@ pub raised-y1-requires : goal.raised-y1-requires
 raised-y1-requires c = small_at most c.args.rows.now c.requires.small (c.within-h.result + 1) (omega arith)
 
 pub returns : goal.returns
-returns c = slope_held c.raised-x.result c.raised-x1.result c.raised-y.result c.raised-y1.result c.raised-x.ensures.most c.raised-x1.ensures.most c.raised-y.ensures.most c.raised-y1.ensures.most c.slope.result
+returns c = slope_held c.raised-x.result c.raised-x1.result c.raised-y.result c.raised-y1.result c.raised-x.ensures.most c.raised-x1.ensures.most
+    c.raised-y.ensures.most c.raised-y1.ensures.most c.slope.result
     c.slope.ensures ∙ slope_of c.args.rows.now c.args.i c.previous-l.result c.within-h.result c.raised-x.result c.raised-x1.result
-    c.raised-y.result c.raised-y1.result c.previous-l.ensures c.within-h.ensures c.raised-x.ensures.is c.raised-x1.ensures.is c.raised-y.ensures.is c.raised-y1.ensures.is
+    c.raised-y.result c.raised-y1.result c.previous-l.ensures c.within-h.ensures c.raised-x.ensures.is c.raised-x1.ensures.is c.raised-y.ensures.is
+    c.raised-y1.ensures.is

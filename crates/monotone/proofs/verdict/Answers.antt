@@ -23,7 +23,10 @@ returns-then-room-rows c = let a = c.args in
 pub returns-then-i-rows : goal.returns-then-i-rows
 returns-then-i-rows c = let a = c.args in
     let e = long a.rows.now in
-    too_large (held_all a.rows.now) a.room (omega (arith, e)) (omega (arith, e)) (omega (arith, e)) c.first_large-i.result c.first_large-i.ensures.first (omega (arith, e))
+    too_large (held_all a.rows.now) a.room (omega (arith, e)) (omega (arith, e)) (omega (
+      arith,
+      e,
+    )) c.first_large-i.result c.first_large-i.ensures.first (omega (arith, e))
 
 pub returns : goal.returns
 returns c = let a = c.args in

@@ -25,7 +25,8 @@ loop-i-preserved-then-i-chunk c = let x =
       omega arith,
       c.line-held.ensures.few,
       fed_line picture_program x 0 c.cut-c.result.stop (omega arith) (omega arith)
-          (fed_stretch picture_program x 0 l.i c.cut-c.result.stop (omega arith) l.invariant.0 l.invariant.4 c.cut-c.ensures) (c.cut-c.ensures.end (omega arith))
+          (fed_stretch picture_program x 0 l.i c.cut-c.result.stop (omega arith) l.invariant.0 l.invariant.4 c.cut-c.ensures) (c.cut-c.ensures.end
+          (omega arith))
           c.line-held.ensures.state (nothing [] 0),
       l.invariant.5,
     )

@@ -13,7 +13,8 @@ use Rattle.picture.proofs.feed.Given as goal
 
 abbrev pub invariant-loop-i : goal.invariant-loop-i
 invariant-loop-i l = (l.i ≤ length l.chunk) × (length l.begun ≡ widest) × (length l.table ≡ places) × (count_of l.held ≤ places)
-    × Fed picture_program (state_at (open_of l.initial.len l.initial.begun) (drawing_of l.initial.held l.initial.table)) (take l.i l.chunk) (state_at (open_of l.len l.begun) (drawing_of l.held l.table)) [] 0 [] 0
+    × Fed picture_program (state_at (open_of l.initial.len l.initial.begun) (drawing_of l.initial.held l.initial.table)) (take l.i l.chunk) (state_at
+    (open_of l.len l.begun) (drawing_of l.held l.table)) [] 0 [] 0
     × (length l.chunk < 2 ^ 64)
 
 abbrev pub decreases-loop-i : goal.decreases-loop-i

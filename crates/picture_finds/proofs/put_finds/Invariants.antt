@@ -6,7 +6,8 @@ use Rattle.picture_finds.specs.Finds.{finds_text}
 use Rattle.picture_finds.proofs.put_finds.Given as goal
 
 abbrev pub invariant-loop-i : goal.invariant-loop-i
-invariant-loop-i l = (l.i ≤ l.n) × (l.n ≤ 8) × (l.a ≤ l.at + 288 * l.i) × Wrote l.initial.out l.at (finds_text l.span l.m l.b l.knots l.e (take l.n l.ys) l.i) l.out l.a
+invariant-loop-i l = (l.i ≤ l.n) × (l.n ≤ 8) × (l.a ≤ l.at + 288 * l.i)
+    × Wrote l.initial.out l.at (finds_text l.span l.m l.b l.knots l.e (take l.n l.ys) l.i) l.out l.a
 
 abbrev pub decreases-loop-i : goal.decreases-loop-i
 decreases-loop-i l = l.n - l.i

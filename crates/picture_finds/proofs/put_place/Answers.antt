@@ -4,7 +4,11 @@ use Rattle.text.proofs.Writing.{then}
 use Rattle.picture_finds.proofs.put_place.Goals as goal
 
 pub put_told-requires : goal.put_told-requires
-put_told-requires c = record { height = omega (arith, c.height-h.ensures.between.1); time = c.time-v.ensures.most; room = omega (arith, c.requires.room, c.put_mark-a.ensures.short, c.put_mark-a.ensures.text.long) }
+put_told-requires c = record {
+  height = omega (arith, c.height-h.ensures.between.1);
+  time = c.time-v.ensures.most;
+  room = omega (arith, c.requires.room, c.put_mark-a.ensures.short, c.put_mark-a.ensures.text.long);
+}
 
 pub returns : goal.returns
 returns c = record {

@@ -10,10 +10,20 @@ pub returns-then-r-le5 : goal.returns-then-r-le5
 returns-then-r-le5 t c = record { answer = step_5 _ _ c.if-k-eq0.false (omega arith); positive = omega arith; divides = (λ h. omega arith); most = omega arith }
 
 pub returns-then-r-le10 : goal.returns-then-r-le10
-returns-then-r-le10 t c = record { answer = step_10 _ _ c.if-k-eq0.false (omega arith) (omega arith); positive = omega arith; divides = (λ h. omega arith); most = omega arith }
+returns-then-r-le10 t c = record {
+  answer = step_10 _ _ c.if-k-eq0.false (omega arith) (omega arith);
+  positive = omega arith;
+  divides = (λ h. omega arith);
+  most = omega arith;
+}
 
 pub returns-then-r-le25 : goal.returns-then-r-le25
-returns-then-r-le25 t c = record { answer = step_25 _ _ c.if-k-eq0.false (omega arith) (omega arith); positive = omega arith; divides = (λ h. omega arith); most = omega arith }
+returns-then-r-le25 t c = record {
+  answer = step_25 _ _ c.if-k-eq0.false (omega arith) (omega arith);
+  positive = omega arith;
+  divides = (λ h. omega arith);
+  most = omega arith;
+}
 
 pub overflow_sub-k : goal.overflow_sub-k
 overflow_sub-k t c = omega arith
@@ -25,4 +35,9 @@ pub overflow_mul-result : goal.overflow_mul-result
 overflow_mul-result t c = omega (arith, c.step.ensures.divides (omega arith))
 
 pub returns : goal.returns
-returns t c = record { answer = step_more _ _ c.if-k-eq0.false (omega arith) c.step.ensures.answer; positive = omega (arith, c.step.ensures.positive); divides = (λ h. omega (arith, c.step.ensures.divides (omega arith))); most = omega (arith, c.step.ensures.divides (omega arith)) }
+returns t c = record {
+  answer = step_more _ _ c.if-k-eq0.false (omega arith) c.step.ensures.answer;
+  positive = omega (arith, c.step.ensures.positive);
+  divides = (λ h. omega (arith, c.step.ensures.divides (omega arith)));
+  most = omega (arith, c.step.ensures.divides (omega arith));
+}

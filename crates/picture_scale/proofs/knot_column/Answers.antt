@@ -9,21 +9,33 @@ returns-in-Bspline c = rw c.in-Bspline.is
 
 pub returns-in-Bezier : goal.returns-in-Bezier
 unfolding knot_column
-returns-in-Bezier c = rw c.in-Bezier.is (record { answer = rw c.above-in-Bezier.ensures at c.column-in-Bezier.ensures.answer; most = c.column-in-Bezier.ensures.most })
+returns-in-Bezier c = rw c.in-Bezier.is (record {
+  answer = rw c.above-in-Bezier.ensures at c.column-in-Bezier.ensures.answer;
+  most = c.column-in-Bezier.ensures.most;
+})
 
 pub returns-in-CatmullRom : goal.returns-in-CatmullRom
 unfolding knot_column
 returns-in-CatmullRom c = rw c.in-CatmullRom.is
-    (record { answer = rw (c.above-in-CatmullRom.ensures, c.above-in-CatmullRom-2.ensures) at c.column-in-CatmullRom.ensures.answer; most = c.column-in-CatmullRom.ensures.most })
+    (record {
+      answer = rw (c.above-in-CatmullRom.ensures, c.above-in-CatmullRom-2.ensures) at c.column-in-CatmullRom.ensures.answer;
+      most = c.column-in-CatmullRom.ensures.most;
+    })
 
 pub returns-in-Hermite : goal.returns-in-Hermite
 unfolding knot_column
-returns-in-Hermite c = rw c.in-Hermite.is (record { answer = rw c.above-in-Hermite.ensures at c.column-in-Hermite.ensures.answer; most = c.column-in-Hermite.ensures.most })
+returns-in-Hermite c = rw c.in-Hermite.is (record {
+  answer = rw c.above-in-Hermite.ensures at c.column-in-Hermite.ensures.answer;
+  most = c.column-in-Hermite.ensures.most;
+})
 
 pub returns-in-Linear : goal.returns-in-Linear
 unfolding knot_column
 returns-in-Linear c = rw c.in-Linear.is
-    (record { answer = rw (c.above-in-Linear.ensures, c.above-in-Linear-2.ensures) at c.column-in-Linear.ensures.answer; most = c.column-in-Linear.ensures.most })
+    (record {
+      answer = rw (c.above-in-Linear.ensures, c.above-in-Linear-2.ensures) at c.column-in-Linear.ensures.answer;
+      most = c.column-in-Linear.ensures.most;
+    })
 
 pub returns-in-Power : goal.returns-in-Power
 unfolding knot_column

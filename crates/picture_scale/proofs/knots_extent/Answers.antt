@@ -21,4 +21,7 @@ pub loop-j-preserved : goal.loop-j-preserved
 loop-j-preserved c = (omega arith, knots_go_on _ _ _ c.loop-j.j c.loop-j.invariant.1 c.with_knot-e.ensures.answer, c.with_knot-e.ensures.narrow_after)
 
 pub returns : goal.returns
-returns c = record { answer = c.loop-j.invariant.1 ∙ ap (knots_extent c.args.b c.args.knots.now c.args.first) (omega arith); narrow_after = c.loop-j.invariant.2 }
+returns c = record {
+  answer = c.loop-j.invariant.1 ∙ ap (knots_extent c.args.b c.args.knots.now c.args.first) (omega arith);
+  narrow_after = c.loop-j.invariant.2;
+}

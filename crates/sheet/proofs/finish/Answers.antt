@@ -7,7 +7,11 @@ use Rattle.sheet.specs.Contract.{sheet_of}
 use Rattle.sheet.proofs.finish.Goals as goal
 
 pub returns-then-len-eq0 : goal.returns-then-len-eq0
-returns-then-len-eq0 c = let a = c.args in record { text = end_none sheet_program a.st.len a.begun.now (sheet_of a.st.held a.table.now) (omega arith) c.end.ensures.text; short = omega (arith, c.end.ensures.short) }
+returns-then-len-eq0 c = let a = c.args in
+    record {
+      text = end_none sheet_program a.st.len a.begun.now (sheet_of a.st.held a.table.now) (omega arith) c.end.ensures.text;
+      short = omega (arith, c.end.ensures.short);
+    }
 
 pub returns : goal.returns
 returns c = let a = c.args in record {

@@ -15,7 +15,10 @@ add-requires c = let k : c.in-On.n ≤ most =
     in record { count = k; table = c.requires.table }
 
 pub returns-then-len-le-WIDEST-2 : goal.returns-then-len-le-WIDEST-2
-returns-then-len-le-WIDEST-2 c = rw c.in-On.is (record { sheet = added_line _ _ c.args.len c.args.line.now (omega arith) c.add.ensures.sheet; count_after = c.add.ensures.count_after })
+returns-then-len-le-WIDEST-2 c = rw c.in-On.is (record {
+  sheet = added_line _ _ c.args.len c.args.line.now (omega arith) c.add.ensures.sheet;
+  count_after = c.add.ensures.count_after;
+})
 
 pub returns-else-len-le-WIDEST : goal.returns-else-len-le-WIDEST
 returns-else-len-le-WIDEST c = rw c.in-Unbegun.is (record { sheet = over_first c.args.len c.args.line.now (omega arith); count_after = omega arith })

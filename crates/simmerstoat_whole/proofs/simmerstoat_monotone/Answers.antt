@@ -5,4 +5,9 @@ use Rattle.simmerstoat_whole.proofs.simmerstoat_monotone.Goals as goal
 
 pub returns : goal.returns
 returns c = let args = c.args in
-    record { answer = c.written_told.ensures.answer ∙ ap made_reply c.monotone.ensures.answer; written = c.written_told.ensures.written ∙ ap (λ a. written_left a args.written.now) c.monotone.ensures.answer; out = c.monotone.ensures.out }
+    record {
+      answer = c.written_told.ensures.answer ∙ ap made_reply c.monotone.ensures.answer;
+      written = c.written_told.ensures.written
+          ∙ ap (λ a. written_left a args.written.now) c.monotone.ensures.answer;
+      out = c.monotone.ensures.out;
+    }

@@ -11,4 +11,9 @@ pub returns : goal.returns
 returns c = let args = c.args in
     let old = args.turning.now in
     let known = c.in-Known.is in
-    record { answer = found no_basis (λ b. turning_reply (turns_back_by_of b args.up (held_all args.knots.now))) c.basis_of-c.ensures known (c.turning_told.ensures.answer ∙ ap turning_reply c.turns_back_by.ensures); turning = found old (λ b. turning_left (turns_back_by_of b args.up (held_all args.knots.now)) old) c.basis_of-c.ensures known (c.turning_told.ensures.turning ∙ ap (λ t. turning_left t old) c.turns_back_by.ensures) }
+    record {
+      answer = found no_basis (λ b. turning_reply (turns_back_by_of b args.up (held_all args.knots.now))) c.basis_of-c.ensures known
+          (c.turning_told.ensures.answer ∙ ap turning_reply c.turns_back_by.ensures);
+      turning = found old (λ b. turning_left (turns_back_by_of b args.up (held_all args.knots.now)) old) c.basis_of-c.ensures known
+          (c.turning_told.ensures.turning ∙ ap (λ t. turning_left t old) c.turns_back_by.ensures);
+    }

@@ -33,5 +33,7 @@ returns-then-is_beyond c = let a = c.args in
     (sym c.is_before.ensures ∙ c.if-is_before.false) (sym c.is_beyond.ensures ∙ c.if-is_beyond.true)
 
 pub returns : goal.returns
-returns c = let a = c.args in let x = timed_of a.span a.i in said_between a.b a.knots.now a.y x c.segments-k.ensures c.curve_ends-e.ensures c.if-e.false c.if-y-e.false c.if-y-e-2.false (sym c.is_before.ensures ∙
+returns c = let a = c.args in let x = timed_of a.span a.i in
+    said_between a.b a.knots.now a.y x c.segments-k.ensures c.curve_ends-e.ensures c.if-e.false c.if-y-e.false c.if-y-e-2.false (sym
+    c.is_before.ensures ∙
     c.if-is_before.false) (sym c.is_beyond.ensures ∙ c.if-is_beyond.false) c.found.ensures

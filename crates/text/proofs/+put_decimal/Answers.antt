@@ -21,4 +21,8 @@ put_byte-requires-2 t c = let z : 0 < c.args.k = dec_room c.args.n c.args.k (ome
     omega (arith, c.put_decimal-r.ensures.text.long, c.put_decimal-r.ensures.short)
 
 pub returns : goal.returns
-returns t c = let z : 0 < c.args.k = dec_room c.args.n c.args.k (omega arith) (omega arith) in record { text = dec_more _ _ (omega arith) z c.put_decimal-r.ensures.text c.put_byte-2.ensures; short = omega (arith, c.put_byte-2.ensures.next, c.put_decimal-r.ensures.short) }
+returns t c = let z : 0 < c.args.k = dec_room c.args.n c.args.k (omega arith) (omega arith) in
+    record {
+      text = dec_more _ _ (omega arith) z c.put_decimal-r.ensures.text c.put_byte-2.ensures;
+      short = omega (arith, c.put_byte-2.ensures.next, c.put_decimal-r.ensures.short);
+    }

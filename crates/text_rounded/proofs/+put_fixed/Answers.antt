@@ -7,10 +7,16 @@ pub put_whole-r-requires : goal.put_whole-r-requires
 put_whole-r-requires t c = record { digits = whole_short c.args.n c.args.d (omega arith) c.if-d-eq0.true; room = omega arith }
 
 pub returns-then-d-eq0 : goal.returns-then-d-eq0
-returns-then-d-eq0 t c = record { text = fixed_none c.args.d c.args.n c.if-d-eq0.true c.put_whole-r.ensures.text c.put_byte.ensures; short = omega (arith, c.put_whole-r.ensures.short, c.put_byte.ensures.next) }
+returns-then-d-eq0 t c = record {
+  text = fixed_none c.args.d c.args.n c.if-d-eq0.true c.put_whole-r.ensures.text c.put_byte.ensures;
+  short = omega (arith, c.put_whole-r.ensures.short, c.put_byte.ensures.next);
+}
 
 pub put_fixed-r-requires : goal.put_fixed-r-requires
 put_fixed-r-requires t c = (omega arith, (fixed_less c.args.n c.args.d (omega arith) c.if-d-eq0.false, omega arith))
 
 pub returns : goal.returns
-returns t c = record { text = fixed_more c.args.d c.args.n c.if-d-eq0.false c.put_fixed-r.ensures.text c.put_byte-2.ensures; short = omega (arith, c.put_fixed-r.ensures.short, c.put_byte-2.ensures.next) }
+returns t c = record {
+  text = fixed_more c.args.d c.args.n c.if-d-eq0.false c.put_fixed-r.ensures.text c.put_byte-2.ensures;
+  short = omega (arith, c.put_fixed-r.ensures.short, c.put_byte-2.ensures.next);
+}

@@ -19,4 +19,8 @@ put_byte-requires-2 t c = let z : 0 < c.args.k = dec_room c.args.n c.args.k (ome
     omega (arith, c.put_whole-r.ensures.text.long, c.put_whole-r.ensures.short)
 
 pub returns : goal.returns
-returns t c = let z : 0 < c.args.k = dec_room c.args.n c.args.k (omega arith) (omega arith) in record { text = dec_more _ _ (omega arith) z c.put_whole-r.ensures.text c.put_byte-2.ensures; short = omega (arith, c.put_byte-2.ensures.next, c.put_whole-r.ensures.short) }
+returns t c = let z : 0 < c.args.k = dec_room c.args.n c.args.k (omega arith) (omega arith) in
+    record {
+      text = dec_more _ _ (omega arith) z c.put_whole-r.ensures.text c.put_byte-2.ensures;
+      short = omega (arith, c.put_byte-2.ensures.next, c.put_whole-r.ensures.short);
+    }

@@ -5,7 +5,10 @@ use Rattle.text_rounded.proofs.Writing.{is_nan_lem, is_infinite, is_large, is_nu
 use Rattle.text_rounded.proofs.put_rounded.Goals as goal
 
 pub returns-then-a-gt9218868437227405312 : goal.returns-then-a-gt9218868437227405312
-returns-then-a-gt9218868437227405312 c = record { text = is_nan_lem c.args.d c.args.n (omega arith) c.put_word.ensures; short = omega (arith, c.put_word.ensures.next) }
+returns-then-a-gt9218868437227405312 c = record {
+  text = is_nan_lem c.args.d c.args.n (omega arith) c.put_word.ensures;
+  short = omega (arith, c.put_word.ensures.next);
+}
 
 pub returns-then-a-eq9218868437227405312 : goal.returns-then-a-eq9218868437227405312
 returns-then-a-eq9218868437227405312 c = record {

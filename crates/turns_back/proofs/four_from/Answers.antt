@@ -13,13 +13,13 @@ pub raised-k1-requires : goal.raised-k1-requires
 raised-k1-requires c = small_at most c.args.knots.now c.requires.small (c.args.at + 1) (omega arith)
 
 pub raised-k2-requires : goal.raised-k2-requires
-raised-k2-requires c =     small_at most c.args.knots.now c.requires.small (c.args.at + 2) (omega arith)
+raised-k2-requires c = small_at most c.args.knots.now c.requires.small (c.args.at + 2) (omega arith)
 
 pub raised-k3-requires : goal.raised-k3-requires
-raised-k3-requires c =     small_at most c.args.knots.now c.requires.small (c.args.at + 3) (omega arith)
+raised-k3-requires c = small_at most c.args.knots.now c.requires.small (c.args.at + 3) (omega arith)
 
 pub returns : goal.returns
-returns c =     let ks = c.args.knots.now in
+returns c = let ks = c.args.knots.now in
     let u = c.args.up in
     let m = c.args.at in
     record {

@@ -14,19 +14,19 @@ pub raised-a-requires : goal.raised-a-requires
 raised-a-requires c = small_at most c.args.knots.now c.requires.small (4 * c.args.s - 4) (omega arith)
 
 pub raised-b-requires : goal.raised-b-requires
-raised-b-requires c =     small_at most c.args.knots.now c.requires.small (4 * c.args.s - 3) (omega arith)
+raised-b-requires c = small_at most c.args.knots.now c.requires.small (4 * c.args.s - 3) (omega arith)
 
 pub raised-c-requires : goal.raised-c-requires
-raised-c-requires c =     small_at most c.args.knots.now c.requires.small (4 * c.args.s - 2) (omega arith)
+raised-c-requires c = small_at most c.args.knots.now c.requires.small (4 * c.args.s - 2) (omega arith)
 
 pub raised-d-requires : goal.raised-d-requires
-raised-d-requires c =     small_at most c.args.knots.now c.requires.small (4 * c.args.s - 1) (omega arith)
+raised-d-requires c = small_at most c.args.knots.now c.requires.small (4 * c.args.s - 1) (omega arith)
 
 pub raised-e-requires : goal.raised-e-requires
-raised-e-requires c =     small_at most c.args.knots.now c.requires.small (4 * c.args.s + 3) (omega arith)
+raised-e-requires c = small_at most c.args.knots.now c.requires.small (4 * c.args.s + 3) (omega arith)
 
 pub returns : goal.returns
-returns c =     power_later c.args.up c.args.knots.now c.args.s c.raised-a.result
+returns c = power_later c.args.up c.args.knots.now c.args.s c.raised-a.result
     c.raised-b.result c.raised-c.result
     c.raised-d.result c.raised-e.result c.if-s-eq0.false
     c.raised-a.ensures.is

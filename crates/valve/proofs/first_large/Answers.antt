@@ -27,7 +27,10 @@ returns-then-is_small-2 c = let knots = c.args.knots.now in record {
 
 pub returns-then-is_small : goal.returns-then-is_small
 returns-then-is_small c = let knots = c.args.knots.now in
-    record { answer = large_1 knots (sym c.is_small.ensures ∙ c.if-is_small.true) (sym c.is_small-then-is_small.ensures ∙ c.if-is_small-2.false); most = lit≤ tt }
+    record {
+      answer = large_1 knots (sym c.is_small.ensures ∙ c.if-is_small.true) (sym c.is_small-then-is_small.ensures ∙ c.if-is_small-2.false);
+      most = lit≤ tt;
+    }
 
 pub returns : goal.returns
 returns c = let knots = c.args.knots.now in record { answer = large_0 knots (sym c.is_small.ensures ∙ c.if-is_small.false); most = lit≤ tt }

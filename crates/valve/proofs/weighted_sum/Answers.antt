@@ -20,12 +20,14 @@ pub plus-requires : goal.plus-requires
 plus-requires c = plus_fit c.term-a.result c.term-b.result 67108864000000 67108864000000 c.term-a.ensures.small_after c.term-b.ensures.small_after (lit< tt)
 
 pub plus-requires-2 : goal.plus-requires-2
-plus-requires-2 c = let p = plus_is c.term-a.result c.term-b.result 67108864000000 67108864000000 c.term-a.ensures.small_after c.term-b.ensures.small_after (lit< tt)
+plus-requires-2 c = let p =
+    plus_is c.term-a.result c.term-b.result 67108864000000 67108864000000 c.term-a.ensures.small_after c.term-b.ensures.small_after (lit< tt)
     c.plus.result c.plus.ensures in
     plus_fit c.plus.result c.term-c.result 134217728000000 67108864000000 p.1 c.term-c.ensures.small_after (lit< tt)
 
 pub plus-requires-3 : goal.plus-requires-3
-plus-requires-3 c = let p = plus_is c.term-a.result c.term-b.result 67108864000000 67108864000000 c.term-a.ensures.small_after c.term-b.ensures.small_after (lit< tt)
+plus-requires-3 c = let p =
+    plus_is c.term-a.result c.term-b.result 67108864000000 67108864000000 c.term-a.ensures.small_after c.term-b.ensures.small_after (lit< tt)
     c.plus.result c.plus.ensures in
     let q = plus_is c.plus.result c.term-c.result 134217728000000 67108864000000 p.1 c.term-c.ensures.small_after (lit< tt)
     c.plus-2.result c.plus-2.ensures in
@@ -36,4 +38,7 @@ returns c = let w = c.args.w in
     summed c.args.knots.now w.w0 w.w1 w.w2 w.w3
     c.term-a.result c.term-b.result c.term-c.result c.term-d.result c.plus.result c.plus-2.result c.plus-3.result
     (c.term-a.ensures.answer, c.term-a.ensures.small_after) (c.term-b.ensures.answer, c.term-b.ensures.small_after)
-    (c.term-c.ensures.answer, c.term-c.ensures.small_after) (c.term-d.ensures.answer, c.term-d.ensures.small_after) c.plus.ensures c.plus-2.ensures c.plus-3.ensures
+    (c.term-c.ensures.answer, c.term-c.ensures.small_after) (
+      c.term-d.ensures.answer,
+      c.term-d.ensures.small_after,
+    ) c.plus.ensures c.plus-2.ensures c.plus-3.ensures

@@ -71,10 +71,12 @@ loop-s-preserved c = let l = c.loop-s in (
 )
 
 pub overflow_mul-result : goal.overflow_mul-result
-overflow_mul-result c = let h : (length c.args.knots.now - 4) / c.args.step * c.args.stride ≤ 16384 = few_steps _ _ _ c.requires.most c.requires.few in omega arith
+overflow_mul-result c = let h : (length c.args.knots.now - 4) / c.args.step * c.args.stride ≤ 16384 =
+    few_steps _ _ _ c.requires.most c.requires.few in omega arith
 
 pub overflow_add-result : goal.overflow_add-result
-overflow_add-result c = let h : (length c.args.knots.now - 4) / c.args.step * c.args.stride ≤ 16384 = few_steps _ _ _ c.requires.most c.requires.few in omega arith
+overflow_add-result c = let h : (length c.args.knots.now - 4) / c.args.step * c.args.stride ≤ 16384 =
+    few_steps _ _ _ c.requires.most c.requires.few in omega arith
 
 pub shape_of-out : goal.shape_of-out
 shape_of-out c = c.loop-s.invariant.1 ∙ c.put_last.auto.out

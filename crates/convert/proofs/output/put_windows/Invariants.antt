@@ -7,7 +7,8 @@ use Rattle.convert.specs.Output.{windows}
 use Rattle.convert.proofs.output.put_windows.Given as goal
 
 abbrev pub invariant-loop-s : goal.invariant-loop-s
-invariant-loop-s l = (l.s ≤ l.last) × (length l.out ≡ length l.initial.out) × (l.out ≡ windows l.m l.step l.stride l.knots l.s ++ drop (4 + l.s * l.stride) l.initial.out)
+invariant-loop-s l = (l.s ≤ l.last) × (length l.out ≡ length l.initial.out)
+    × (l.out ≡ windows l.m l.step l.stride l.knots l.s ++ drop (4 + l.s * l.stride) l.initial.out)
 
 abbrev pub decreases-loop-s : goal.decreases-loop-s
 decreases-loop-s l = l.last - l.s

@@ -43,7 +43,8 @@ loop-i-smaller c = omega arith
 pub loop-i-preserved : goal.loop-i-preserved
 unfolding of_bits
 loop-i-preserved c = let a = c.args in let h : count_after c.round-t.result ≤
-    c.loop-i.count + 1 = c.round-t.ensures.count_after in let g : repeats_after c.round-t.result ≤ c.loop-i.st.repeats + 1 = c.round-t.ensures.repeats_after in (
+    c.loop-i.count + 1 = c.round-t.ensures.count_after in let g : repeats_after c.round-t.result ≤ c.loop-i.st.repeats + 1 =
+    c.round-t.ensures.repeats_after in (
       omega arith,
       c.loop-i.invariant.1,
       omega arith,

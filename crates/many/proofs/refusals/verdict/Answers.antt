@@ -5,26 +5,26 @@ use Rattle.many.proofs.Verdicts.{many_stops, many_number, many_short, many_knots
 use Rattle.many.proofs.refusals.verdict.Goals as goal
 
 pub returns-in_default : goal.returns-in_default
-returns-in_default c =     let a = c.args in
+returns-in_default c = let a = c.args in
     many_stops a.b a.xs.now a.knots.now a.room c.curve_length-l.ensures c.in_default.is
 
 pub returns-then-some_nan : goal.returns-then-some_nan
-returns-then-some_nan c =     let a = c.args in
+returns-then-some_nan c = let a = c.args in
     many_number a.b a.xs.now a.knots.now a.room c.curve_length-l.ensures
     c.in-Passed.is (sym c.some_nan.ensures ∙ c.if-some_nan.true)
 
 pub returns-then-room-xs : goal.returns-then-room-xs
-returns-then-room-xs c =     let a = c.args in
+returns-then-room-xs c = let a = c.args in
     many_short a.b a.xs.now a.knots.now a.room c.curve_length-l.ensures
     c.in-Passed.is (sym c.some_nan.ensures ∙ c.if-some_nan.false)
     (lt-ltb a.room (length a.xs.now) c.if-room-xs.true)
 
 pub knots-requires : goal.knots-requires
-knots-requires c =     (length_passed c.args.b _ (sym
+knots-requires c = (length_passed c.args.b _ (sym
     c.curve_length-l.ensures ∙ c.in-Passed.is)).most
 
 pub returns : goal.returns
-returns c =     let a = c.args in
+returns c = let a = c.args in
     many_knots a.b a.xs.now a.knots.now a.room c.curve_length-l.ensures
     c.in-Passed.is (sym c.some_nan.ensures ∙ c.if-some_nan.false)
     (le-ltb a.room (length a.xs.now) c.if-room-xs.false) c.knots.ensures

@@ -17,12 +17,17 @@ pub bounds-out-i : goal.bounds-out-i
 bounds-out-i c = omega (arith, c.loop-i.invariant.1, c.requires.room)
 
 pub spot-z-requires : goal.spot-z-requires
-spot-z-requires c =     let a = c.args in
+spot-z-requires c = let a = c.args in
     let l = c.loop-i in
-    let f = few (length a.knots.now) (step_of Bezier) c.requires.most in record { some = omega (arith, c.requires.segments); segments = omega (arith, c.requires.segments, f); scale = subst (λ (x : Float). InScale a.k x) (sym (laid_at _ _ _ l.i l.invariant.2)) (c.requires.scale l.i c.loop-i-test.true) }
+    let f = few (length a.knots.now) (step_of Bezier) c.requires.most in
+    record {
+      some = omega (arith, c.requires.segments);
+      segments = omega (arith, c.requires.segments, f);
+      scale = subst (λ (x : Float). InScale a.k x) (sym (laid_at _ _ _ l.i l.invariant.2)) (c.requires.scale l.i c.loop-i-test.true);
+    }
 
 pub overflow_mul-start : goal.overflow_mul-start
-overflow_mul-start c =     let a = c.args in
+overflow_mul-start c = let a = c.args in
     omega (
       arith,
       c.requires.most,
@@ -30,7 +35,7 @@ overflow_mul-start c =     let a = c.args in
     )
 
 pub offset_bounds-knots-start : goal.offset_bounds-knots-start
-offset_bounds-knots-start c =     let a = c.args in
+offset_bounds-knots-start c = let a = c.args in
     omega (
       arith,
       c.requires.most,
@@ -39,7 +44,7 @@ offset_bounds-knots-start c =     let a = c.args in
     )
 
 pub slice_bounds-sums-count : goal.slice_bounds-sums-count
-slice_bounds-sums-count c =     let a = c.args in
+slice_bounds-sums-count c = let a = c.args in
     omega (
       arith,
       starts Bezier (length a.knots.now) c.requires.enough c.requires.segments c.step-step.ensures.answer
@@ -47,7 +52,7 @@ slice_bounds-sums-count c =     let a = c.args in
     )
 
 pub slice_bounds-sums-start : goal.slice_bounds-sums-start
-slice_bounds-sums-start c =     let a = c.args in
+slice_bounds-sums-start c = let a = c.args in
     omega (
       arith,
       starts Bezier (length a.knots.now) c.requires.enough c.requires.segments c.step-step.ensures.answer
@@ -55,7 +60,7 @@ slice_bounds-sums-start c =     let a = c.args in
     )
 
 pub sums-w-requires : goal.sums-w-requires
-sums-w-requires c =     let a = c.args in
+sums-w-requires c = let a = c.args in
     simp (rest, length-drop) (omega (
       arith,
       starts Bezier (length a.knots.now) c.requires.enough c.requires.segments
@@ -70,7 +75,7 @@ bounds-out-i-in-loop-i c = omega (
 )
 
 pub loop-i-preserved : goal.loop-i-preserved
-loop-i-preserved c =     let l = c.loop-i in
+loop-i-preserved c = let l = c.loop-i in
     let a = c.args in
     let h = c.loop-i-test.true in
     let f = value_at Bezier a.knots.now in
@@ -87,7 +92,7 @@ pub shape_of-out : goal.shape_of-out
 shape_of-out c = c.loop-i.invariant.1
 
 pub returns : goal.returns
-returns c =     let a = c.args in
+returns c = let a = c.args in
     let l = c.loop-i in
     let e : l.i ≡ a.m = omega (arith, l.invariant.0, c.loop-i-test.false) in
     l.invariant.2 ∙ ap (λ (n : ℕ). laid n (map (value_at Bezier a.knots.now) a.out.now) a.out.now) e

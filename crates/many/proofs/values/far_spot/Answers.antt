@@ -3,5 +3,5 @@ use Rattle.many.proofs.Places.{far}
 use Rattle.many.proofs.values.far_spot.Goals as goal
 
 pub returns : goal.returns
-returns c =     far c.args.k _ c.args.p c.requires.some c.whole_up_to-s.ensures.answer
+returns c = far c.args.k _ c.args.p c.requires.some c.whole_up_to-s.ensures.answer
     c.whole_up_to-s.ensures.most c.double_of.ensures

@@ -17,7 +17,7 @@ pub bounds-out-i : goal.bounds-out-i
 bounds-out-i c = omega (arith, c.loop-i.invariant.1, c.requires.room)
 
 pub loop-i-preserved : goal.loop-i-preserved
-loop-i-preserved c =     let l = c.loop-i in
+loop-i-preserved c = let l = c.loop-i in
     let a = c.args in
     let h = c.loop-i-test.true in (
       omega arith,
@@ -31,7 +31,7 @@ pub shape_of-out : goal.shape_of-out
 shape_of-out c = c.loop-i.invariant.1
 
 pub returns : goal.returns
-returns c =     let a = c.args in
+returns c = let a = c.args in
     let l = c.loop-i in
     let e : l.i ≡ length a.xs.now = omega (arith, l.invariant.0, c.loop-i-test.false) in
     l.invariant.2 ∙ ap (λ (n : ℕ). laid n (map (scaled a.k) a.xs.now) a.out.now) e

@@ -12,7 +12,11 @@ pub curve_height-h-requires : goal.curve_height-h-requires
 curve_height-h-requires c = record { parts = omega arith; part = omega arith }
 
 pub put_point-a-requires : goal.put_point-a-requires
-put_point-a-requires c = record { «open» = c.requires.open; height = omega (arith, c.curve_height-h.ensures.between.1); room = omega (arith, c.loop-i.invariant.2.long) }
+put_point-a-requires c = record {
+  «open» = c.requires.open;
+  height = omega (arith, c.curve_height-h.ensures.between.1);
+  room = omega (arith, c.loop-i.invariant.2.long);
+}
 
 pub loop-i-smaller : goal.loop-i-smaller
 loop-i-smaller c = omega arith

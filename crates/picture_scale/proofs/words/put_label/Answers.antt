@@ -12,4 +12,7 @@ returns-then-h-lt2000000000000000 c = record {
 }
 
 pub returns : goal.returns
-returns c = record { text = rw (le-ltb c.args.h 2000000000000000 (omega arith)) c.put_trimmed-2.ensures.text; short = omega (arith, c.put_trimmed-2.ensures.short) }
+returns c = record {
+  text = rw (le-ltb c.args.h 2000000000000000 (omega arith)) c.put_trimmed-2.ensures.text;
+  short = omega (arith, c.put_trimmed-2.ensures.short);
+}

@@ -7,4 +7,7 @@ pub put_decimal-requires : goal.put_decimal-requires
 put_decimal-requires c = record { digits = omega (arith, c.lesser.ensures); room = omega (arith, c.put_word-a.ensures.next, c.put_word-a.ensures.long) }
 
 pub returns : goal.returns
-returns c = record { text = (then c.put_word-a.ensures (rw c.lesser.ensures at c.put_decimal.ensures.text)); short = omega (arith, c.put_word-a.ensures.next, c.put_decimal.ensures.short) }
+returns c = record {
+  text = (then c.put_word-a.ensures (rw c.lesser.ensures at c.put_decimal.ensures.text));
+  short = omega (arith, c.put_word-a.ensures.next, c.put_decimal.ensures.short);
+}

@@ -4,4 +4,7 @@ use Rattle.text.proofs.Writing.{then}
 use Rattle.picture_scale.proofs.words.put_point.Goals as goal
 
 pub returns : goal.returns
-returns c = record { text = (then c.put_number-a.ensures.text (rw c.row.ensures.answer at c.put_number.ensures.text)); short = omega (arith, c.put_number-a.ensures.short, c.put_number.ensures.short) }
+returns c = record {
+  text = (then c.put_number-a.ensures.text (rw c.row.ensures.answer at c.put_number.ensures.text));
+  short = omega (arith, c.put_number-a.ensures.short, c.put_number.ensures.short);
+}

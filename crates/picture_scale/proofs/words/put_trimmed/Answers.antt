@@ -10,12 +10,29 @@ returns-then-n-eq0 c = record { text = rw (eq-eqb _ _ c.if-n-eq0.true) c.put_who
 
 pub returns-then-n-eq0-2 : goal.returns-then-n-eq0-2
 unfolding trimmed_text
-returns-then-n-eq0-2 c = record { text = rw (ne_eqb _ _ c.if-n-eq0.false, eq-eqb _ _ c.if-n-eq0-2.true) c.put_fixed.ensures.text; short = omega (arith, c.put_fixed.ensures.short) }
+returns-then-n-eq0-2 c = record {
+  text = rw (ne_eqb _ _ c.if-n-eq0.false, eq-eqb _ _ c.if-n-eq0-2.true) c.put_fixed.ensures.text;
+  short = omega (arith, c.put_fixed.ensures.short);
+}
 
 pub returns-then-n-eq0-3 : goal.returns-then-n-eq0-3
 unfolding trimmed_text
-returns-then-n-eq0-3 c = record { text = rw (ne_eqb _ _ c.if-n-eq0.false, ne_eqb _ _ c.if-n-eq0-2.false, eq-eqb _ _ c.if-n-eq0-3.true) c.put_fixed-then-n-eq0-3.ensures.text; short = omega (arith, c.put_fixed-then-n-eq0-3.ensures.short) }
+returns-then-n-eq0-3 c = record {
+  text = rw (
+    ne_eqb _ _ c.if-n-eq0.false,
+    ne_eqb _ _ c.if-n-eq0-2.false,
+    eq-eqb _ _ c.if-n-eq0-3.true,
+  ) c.put_fixed-then-n-eq0-3.ensures.text;
+  short = omega (arith, c.put_fixed-then-n-eq0-3.ensures.short);
+}
 
 pub returns : goal.returns
 unfolding trimmed_text
-returns c = record { text = rw (ne_eqb _ _ c.if-n-eq0.false, ne_eqb _ _ c.if-n-eq0-2.false, ne_eqb _ _ c.if-n-eq0-3.false) c.put_fixed-2.ensures.text; short = omega (arith, c.put_fixed-2.ensures.short) }
+returns c = record {
+  text = rw (
+    ne_eqb _ _ c.if-n-eq0.false,
+    ne_eqb _ _ c.if-n-eq0-2.false,
+    ne_eqb _ _ c.if-n-eq0-3.false,
+  ) c.put_fixed-2.ensures.text;
+  short = omega (arith, c.put_fixed-2.ensures.short);
+}

@@ -21,7 +21,8 @@ returns-then-is_span c = let args = c.args in
     let k = chosen_of args.basis in
     let old = args.value.now in
     record {
-      answer = c.simmerstoat_spline.ensures.answer ∙ same-for-each k no_basis _ (λ b. evaluated_reply (table_spline_of (table_of args.span b) args.x args.knots.now))
+      answer = c.simmerstoat_spline.ensures.answer
+          ∙ same-for-each k no_basis _ (λ b. evaluated_reply (table_spline_of (table_of args.span b) args.x args.knots.now))
           (λ b. ap evaluated_reply (sym (spline_base (table_of args.span b) args.x args.knots.now good)));
       value = c.simmerstoat_spline.ensures.value ∙ same-for-each k old _ (λ b. value_left (table_spline_of (table_of args.span b) args.x args.knots.now) old)
           (λ b. ap (λ e. value_left e old) (sym (spline_base (table_of args.span b) args.x args.knots.now good)));

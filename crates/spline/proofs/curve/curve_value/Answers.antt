@@ -8,7 +8,14 @@ use Rattle.spline.proofs.curve.curve_value.Goals as goal
 
 pub place-z-requires : goal.place-z-requires
 place-z-requires c = let a = c.args in
-    record { some = omega (arith, c.segments-k.ensures); segments = omega (arith, c.segments-k.ensures, few (length a.knots.now) (step_of a.b) c.requires.most) }
+    record {
+      some = omega (arith, c.segments-k.ensures);
+      segments = omega (
+        arith,
+        c.segments-k.ensures,
+        few (length a.knots.now) (step_of a.b) c.requires.most,
+      );
+    }
 
 pub overflow_mul-start : goal.overflow_mul-start
 overflow_mul-start c = omega (
