@@ -5,6 +5,7 @@ use Rattle.std.specs.Float.{binary64}
 use Rattle.std.specs.Float.Ieee.{add, mul, div}
 use Rattle.doubles.specs.Numbers.{nought, one}
 use Rattle.doubles.specs.Whole.{double}
+use Rattle.inverse_segment.specs.declared.Ground.{Ground}
 use Rattle.inverse_segment.specs.declared.Ground.TheVariants.{End}
 use Rattle.inverse_segment.specs.declared.Inversion.{Inversion}
 use Rattle.inverse_segment.specs.Evaluations.{Evaluations}
@@ -22,7 +23,9 @@ parameter_of k s x = mul binary64 (add binary64 (double s) x) (div binary64 one 
 
 -- by the end rule: both bracket ends equal the local place, which is the parameter too
 abbrev pub ended : Evaluations → ℕ → Float → Inversion
-ended ev s x = answered alone (placed (record { ground = End; segment = s; local = x; lower = x; upper = x; made = ev }))
+ended ev s x =
+    let ground : Ground = End in
+    answered alone (placed (record { ground = ground; segment = s; local = x; lower = x; upper = x; made = ev }))
 
 -- low first, then high, then the search
 unfoldable pub located : Rule → Ends → Evaluations → (ℕ → Float → Float) → ℕ → Float → Float → ℕ → Inversion

@@ -9,6 +9,7 @@ use Rattle.error.specs.Refusals.{number_of, Uses, first}
 use Rattle.basis.specs.declared.Basis.{Basis}
 use Rattle.spline.specs.Segment.{segment_of}
 use Rattle.checks.specs.Checks.{segment_length, asked, bad_knot}
+use Rattle.inverse_segment.specs.declared.Ground.{Ground}
 use Rattle.inverse_segment.specs.declared.Place.{Place}
 use Rattle.inverse_segment.specs.declared.Inversion.{Inversion}
 use Rattle.inverse_segment.specs.declared.Inversion.TheVariants.{Refused, OffCurve, At}
@@ -33,9 +34,9 @@ count_told (At p) = p.count
 -- the count is the length of the list of evaluations; the parameter is found from the segment and the local place
 abbrev pub place_of : (ℕ → Float → Float) → Arrival → Place
 place_of parameter p =
-    record {
+    let ground : Ground = p.ground in record {
       parameter = parameter p.segment p.local;
-      ground = p.ground;
+      ground = ground;
       segment = p.segment;
       local = p.local;
       lower = p.lower;

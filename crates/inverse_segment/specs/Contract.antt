@@ -38,7 +38,7 @@ abbrev pub count_after : RoundResult → ℕ
 count_after (Done g x b n) = n
 count_after (Next st n) = n
 
-abbrev pub stop_at : Ground → Float → Bracket → ℕ → Stop
+abbrev pub stop_at : (ground : Ground) → Float → Bracket → ℕ → Stop
 stop_at g x b n = record { ground = g; local = x; lower = b.lower; upper = b.upper; count = n }
 
 -- the segment's number is known where it was entered; the count is the length of the list of evaluations
