@@ -1,7 +1,7 @@
 -- bin/ask over a whole input: the verdict comes once, at the first line `ask` or at the end; what stands behind it are questions. On a sheet that is not fine
 -- each gets 13 and nothing else; on a fine one each gets its answer, by the span that those before it left. Assumes nothing.
 use mathlib.Core.Path.{◌≡◌, refl, sym, ap, ◌∙◌}
-use mathlib.Core.Bool.{Bool, true, false, cond, ◌||◌}
+use mathlib.Core.Bool.{Bool, true, false, ◌||◌}
 use mathlib.Core.List.{List, [], ◌∷◌, ◌++◌, append_assoc, append-nil}
 use Prim.Native.Nat.{ℕ, zero, suc, ◌≤◌}
 use lib.Ieee.{Float}

@@ -1,9 +1,9 @@
 -- A sheet as it is read, line by line: its depths are small and few, its labels short. So of a sheet that is fine `turns_back` takes the knots, and
 -- what is said of a curve without a fault holds of each. Assumes nothing.
 use mathlib.Core.Path.{◌≡◌, refl, sym, ap, ◌∙◌, subst}
-use mathlib.Core.Bool.{Bool, true, false, cond, not, ◌&&◌}
+use mathlib.Core.Bool.{Bool, true, false, cond, ◌&&◌}
 use mathlib.Core.List.{List, [], ◌∷◌, ◌++◌}
-use Prim.Native.Nat.{ℕ, zero, suc, ◌+◌, ◌*◌, ◌≤◌, ◌<◌}
+use Prim.Native.Nat.{ℕ, zero, suc, ◌+◌, ◌*◌, ◌≤◌}
 use native.Mathlib.Omega.{arith}
 use borrow.Author.Tests.{ltb-true, leb-true, le-ltb}
 use lib.Dec.{leb, ltb}
@@ -13,7 +13,6 @@ use lib.ListN.{length, get_or, take, length-append, length-take, length-map}
 use Rattle.error.specs.declared.Verdict.TheVariants.{Passed}
 use Rattle.error.specs.Refusals.{first}
 use Rattle.error.proofs.First.{never}
-use Rattle.basis.specs.declared.Basis.{Basis}
 use Rattle.basis.specs.declared.Basis.TheVariants.{Hermite}
 use Rattle.basis.specs.Basis.{regular}
 use Rattle.checks.specs.Checks.{curve_length}

@@ -1,6 +1,6 @@
 -- How many bytes are compared to tell which labels stand twice: each label is compared with those before it, up to the first that is the same, and two
 -- labels of one length byte by byte, up to the first that differs. So row i takes at most 16 × i tests. Assumes nothing.
-use mathlib.Core.Path.{◌≡◌, refl}
+use mathlib.Core.Path.{◌≡◌}
 use mathlib.Core.Bool.{Bool, true, false, cond}
 use mathlib.Core.List.{List, [], ◌∷◌}
 use Prim.Native.Nat.{ℕ, zero, suc, ◌+◌, ◌*◌, ◌≤◌}

@@ -62,7 +62,8 @@ pub claims_check_there : Keeps check_claim.Learnt
     → (t : Table) (m : EndsBy) → state_after claims_program none ls ≡ on t m a.1.1.1.1.1.0.now → t.basis ≡ a.0
     → says (line_of l) ≡ Claim a.1.0 a.1.1.0 a.1.1.1.0 a.1.1.1.1.0
     → y
-    ≡ printed_by claims_program none ls ++ (claim_text z ++ prints_of claims_program (claims_program.after (state_after claims_program none ls) (line_of l)) ms))
+    ≡ printed_by claims_program none ls ++ (claim_text z ++ prints_of claims_program (claims_program.after (state_after claims_program none ls)
+    (line_of l)) ms))
 unfolding tells_of check_text
 claims_check_there κs a z e p x y r ls l ms i t m c b f =
     let ks = a.1.1.1.1.1.0.now in
