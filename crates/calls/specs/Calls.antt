@@ -1,6 +1,6 @@
 -- What can be said of a call by its contract C, as a caller has it: `Asked`, what he owes, and `Learnt`, what he is told.
 -- L is the lifetimes; a is the arguments in their order, a.0, a.1.0 and so on; z is the reply; e is the parameters when the call
--- returns, so that `now e.0` stands behind the first then. Definitions only.
+-- returns, so that `e.0.now` stands behind the first then. Definitions only.
 
 -- it may be called with any arguments
 abbrev pub AsksNothing : {L : Type 0} {A : L → Type 0} → ((κs : L) → A κs → Type 0) → Type 0

@@ -15,7 +15,7 @@ use Rattle.inverse_segment.specs.declared.Bracket.{Bracket}
 use Rattle.inverse_segment.specs.declared.State.{State}
 use Rattle.inverse_segment.specs.Round.{toward, weighed, Choice, Rule}
 use Rattle.inverse_segment.proofs.Weighting.{toward_keeps}
-use Rattle.inverse_segment.proofs.Rules.{chord_lawful, asCrate_lawful, Placing, Lawful, half_inside, weighed_lower, weighed_upper}
+use Rattle.inverse_segment.proofs.Rules.{chord_lawful, as_crate_lawful, Placing, Lawful, half_inside, weighed_lower, weighed_upper}
 use Rattle.inverse_segment.specs.declared.Method.{Method}
 use Rattle.inverse_segment.specs.declared.Method.TheVariants.{AsCrate, Taught, Steady}
 use Rattle.inverse_segment.specs.Method.{rule_of}
@@ -102,6 +102,6 @@ steady_lawful = paced_lawful secant secant_lawful
 
 -- ---- each method's rule
 pub lawful_of : (how : Method) → Lawful (rule_of how)
-lawful_of AsCrate = asCrate_lawful
+lawful_of AsCrate = as_crate_lawful
 lawful_of Taught = chord_lawful toward toward_keeps
 lawful_of Steady = steady_lawful

@@ -108,5 +108,5 @@ chord_lawful W keeps =
       between = chord_between W keeps;
     }
 
-pub asCrate_lawful : Lawful as_crate
-asCrate_lawful = chord_lawful halving halving_keeps
+pub as_crate_lawful : Lawful as_crate
+as_crate_lawful = chord_lawful halving halving_keeps

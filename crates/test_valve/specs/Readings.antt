@@ -38,7 +38,7 @@ beyond = negsuc 1000000
 abbrev asked : ℕ → List ℤ → Mixture → Reading
 asked j ks m = record { step = j; knots = ks; answer = m }
 
--- at a segment's start 1, 4 and 1 sixths of the first three, at its end of the last three, half_way 1, 23, 23 and 1 of 48
+-- at a segment's start 1, 4 and 1 sixths of the first three, at its end of the last three, half-way 1, 23, 23 and 1 of 48
 unfoldable pub sums : List Reading
 sums =
     asked 0 up (Mixed (pos (141 * cube)))
