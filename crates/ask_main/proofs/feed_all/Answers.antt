@@ -1,14 +1,6 @@
 -- Invariant: the bytes handed on are those before `from`; each pass takes one or more.
-use mathlib.Core.Path.{◌≡◌}
-use Prim.Native.Nat.{◌≤◌, ◌-◌}
-use lib.ListN.{length, take}
-use Rattle.sheet.specs.Sheet.{most}
-use Rattle.ask_sheet.specs.Contract.{cells}
-use Rattle.lines_machine.specs.Program.{widest}
-use Rattle.lines_machine.specs.Bytes.{ran_of}
 use Rattle.lines_machine.proofs.Feeding.{ran_none, ran_on, ran_all}
 use Rattle.ask.specs.Ask.{ask_program}
-use Rattle.ask.specs.Contract.{Kept, state_of}
 use native.Mathlib.Omega.{arith}
 use borrow.Author.Rules.{rules}
 use Rattle.ask_main.proofs.feed_all.Goals as goal
@@ -26,12 +18,33 @@ loop-from-init c = (
 )
 
 pub feed-f-requires : goal.feed-f-requires
-feed-f-requires c = let l = c.loop-from in record { start = l.invariant.0; begun = omega (arith, l.invariant.1); held = l.invariant.7; rows = l.invariant.4; labels = l.invariant.5; knots = l.invariant.6 }
+feed-f-requires c = let l = c.loop-from in record {
+  start = l.invariant.0;
+  begun = omega (arith, l.invariant.1);
+  held = l.invariant.7;
+  rows = l.invariant.4;
+  labels = l.invariant.5;
+  knots = l.invariant.6;
+}
 
 pub loop-from-smaller : goal.loop-from-smaller
 loop-from-smaller c = let l = c.loop-from in
     let t = c.loop-from-test.true in
-    omega (arith, t, c.feed-f.ensures.within, c.feed-f.ensures.progress t (omega (arith, l.invariant.2, (c.requires.begun, (c.requires.held, (c.requires.rows, (c.requires.labels, (c.requires.knots, c.requires.room))))))))
+    omega (
+      arith,
+      t,
+      c.feed-f.ensures.within,
+      c.feed-f.ensures.progress t (omega (
+        arith,
+        l.invariant.2,
+        c.requires.begun,
+        c.requires.held,
+        c.requires.rows,
+        c.requires.labels,
+        c.requires.knots,
+        c.requires.room,
+      )),
+    )
 
 pub loop-from-preserved : goal.loop-from-preserved
 loop-from-preserved c = let l = c.loop-from in (

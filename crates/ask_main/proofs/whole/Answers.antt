@@ -1,11 +1,4 @@
 -- Invariant: what is held is kept, and no slice changes its length; a count of reads falls.
-use mathlib.Core.Path.{◌≡◌}
-use Prim.Native.Nat.{◌-◌}
-use lib.ListN.{length}
-use Rattle.sheet.specs.Sheet.{most}
-use Rattle.ask_sheet.specs.Contract.{cells}
-use Rattle.lines_machine.specs.Program.{widest}
-use Rattle.ask.specs.Contract.{Kept}
 use native.Mathlib.Omega.{arith}
 use borrow.Author.Rules.{rules}
 use Rattle.ask_main.proofs.whole.Goals as goal
@@ -14,7 +7,22 @@ pub loop-left-init : goal.loop-left-init
 loop-left-init c = (search rules, search rules, search rules, search rules, search rules, search rules, (omega arith, tt))
 
 pub feed_all-r-requires : goal.feed_all-r-requires
-feed_all-r-requires c = let l = c.loop-left in record { begun = omega (arith, l.invariant.1); held = l.invariant.6; rows = l.invariant.2; labels = l.invariant.3; knots = l.invariant.4; room = omega (arith, l.invariant.5, (c.requires.begun, (c.requires.rows, (c.requires.labels, (c.requires.knots, c.requires.room))))) }
+feed_all-r-requires c = let l = c.loop-left in record {
+  begun = omega (arith, l.invariant.1);
+  held = l.invariant.6;
+  rows = l.invariant.2;
+  labels = l.invariant.3;
+  knots = l.invariant.4;
+  room = omega (
+    arith,
+    l.invariant.5,
+    c.requires.begun,
+    c.requires.rows,
+    c.requires.labels,
+    c.requires.knots,
+    c.requires.room,
+  );
+}
 
 pub loop-left-preserved : goal.loop-left-preserved
 loop-left-preserved c = let l = c.loop-left in (
@@ -28,4 +36,19 @@ loop-left-preserved c = let l = c.loop-left in (
 )
 
 pub finish-at-requires : goal.finish-at-requires
-finish-at-requires c = let l = c.loop-left in record { begun = omega (arith, l.invariant.1); held = l.invariant.6; rows = l.invariant.2; labels = l.invariant.3; knots = l.invariant.4; room = omega (arith, l.invariant.5, (c.requires.begun, (c.requires.rows, (c.requires.labels, (c.requires.knots, c.requires.room))))) }
+finish-at-requires c = let l = c.loop-left in record {
+  begun = omega (arith, l.invariant.1);
+  held = l.invariant.6;
+  rows = l.invariant.2;
+  labels = l.invariant.3;
+  knots = l.invariant.4;
+  room = omega (
+    arith,
+    l.invariant.5,
+    c.requires.begun,
+    c.requires.rows,
+    c.requires.labels,
+    c.requires.knots,
+    c.requires.room,
+  );
+}
