@@ -1,0 +1,15 @@
+-- Invariant: the knots fit; a count of reads falls.
+use mathlib.Core.Path.{◌≡◌}
+use Prim.Native.Nat.{◌≤◌}
+use lib.ListN.{length}
+use Rattle.lines_machine.specs.Program.{widest}
+use Rattle.lines_answer.specs.Answer.{places}
+use Rattle.picture.specs.Contract.{count_of}
+use Rattle.picture_main.proofs.whole.Given as goal
+
+abbrev pub invariant-loop-left : goal.invariant-loop-left
+invariant-loop-left l =
+    (length l.chunk ≡ length l.initial.chunk) × (length l.begun ≡ widest) × (length l.table ≡ places) × (count_of l.st.held ≤ places)
+
+abbrev pub decreases-loop-left : goal.decreases-loop-left
+decreases-loop-left l = l.left
