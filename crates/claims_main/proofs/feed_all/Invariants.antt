@@ -14,7 +14,8 @@ use borrow.Author.Rules.{rules}
 use Rattle.claims_main.proofs.feed_all.Given as goal
 
 abbrev pub invariant-loop-from : goal.invariant-loop-from
-invariant-loop-from l = (l.from ≤ length l.chunk) × (length l.begun ≡ widest) × (length l.out ≡ length l.initial.out)
+invariant-loop-from l =
+    (l.from ≤ length l.chunk) × (length l.begun ≡ widest) × (length l.out ≡ length l.initial.out)
     × (state_of l.s l.begun l.table ≡ ran_of claims_program (state_of l.initial.s l.initial.begun l.initial.table) (take l.from l.chunk))
     × (length l.table ≡ places) × (length l.converted ≡ places) × (count_of l.s.held ≤ places)
 

@@ -8,7 +8,8 @@ use Rattle.picture.specs.Contract.{count_of}
 use Rattle.picture_main.proofs.whole.Given as goal
 
 abbrev pub invariant-loop-left : goal.invariant-loop-left
-invariant-loop-left l = (length l.chunk ≡ length l.initial.chunk) × (length l.begun ≡ widest) × (length l.table ≡ places) × (count_of l.st.held ≤ places)
+invariant-loop-left l =
+    (length l.chunk ≡ length l.initial.chunk) × (length l.begun ≡ widest) × (length l.table ≡ places) × (count_of l.st.held ≤ places)
 
 abbrev pub decreases-loop-left : goal.decreases-loop-left
 decreases-loop-left l = l.left
