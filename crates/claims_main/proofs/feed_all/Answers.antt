@@ -1,15 +1,7 @@
 -- Invariant: the bytes handed on are those before `from`; each pass takes one or more.
-use mathlib.Core.Path.{◌≡◌}
-use Prim.Native.Nat.{◌≤◌, ◌-◌}
 use native.Mathlib.Omega.{arith}
-use lib.ListN.{length, take}
-use Rattle.lines_answer.specs.Answer.{places}
-use Rattle.lines_answer.specs.Contract.{count_of}
-use Rattle.lines_machine.specs.Program.{widest}
-use Rattle.lines_machine.specs.Bytes.{ran_of}
 use Rattle.lines_machine.proofs.Feeding.{ran_none, ran_on, ran_all}
 use Rattle.claims.specs.Claims.{claims_program}
-use Rattle.lines.specs.Contract.{state_of}
 use borrow.Author.Rules.{rules}
 use Rattle.claims_main.proofs.feed_all.Goals as goal
 
@@ -36,5 +28,8 @@ loop-from-preserved c =
     )
 
 pub returns : goal.returns
-returns c = let l = c.loop-from in record { state = ran_all claims_program _ c.args.chunk.now
-      l.«from» (omega arith) l.invariant.3; few = l.invariant.6 }
+returns c = let l = c.loop-from in record {
+  state = ran_all claims_program _ c.args.chunk.now
+      l.«from» (omega arith) l.invariant.3;
+  few = l.invariant.6;
+}

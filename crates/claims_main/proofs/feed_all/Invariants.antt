@@ -1,16 +1,13 @@
 -- Invariant: the bytes handed on are those before `from`; each pass takes one or more.
 use mathlib.Core.Path.{◌≡◌}
 use Prim.Native.Nat.{◌≤◌, ◌-◌}
-use native.Mathlib.Omega.{arith}
 use lib.ListN.{length, take}
 use Rattle.lines_answer.specs.Answer.{places}
 use Rattle.lines_answer.specs.Contract.{count_of}
 use Rattle.lines_machine.specs.Program.{widest}
 use Rattle.lines_machine.specs.Bytes.{ran_of}
-use Rattle.lines_machine.proofs.Feeding.{ran_none, ran_on, ran_all}
 use Rattle.claims.specs.Claims.{claims_program}
 use Rattle.lines.specs.Contract.{state_of}
-use borrow.Author.Rules.{rules}
 use Rattle.claims_main.proofs.feed_all.Given as goal
 
 abbrev pub invariant-loop-from : goal.invariant-loop-from

@@ -9,8 +9,8 @@ use Rattle.lines_main.proofs.whole.Given as goal
 
 abbrev pub invariant-loop-left : goal.invariant-loop-left
 invariant-loop-left l =
-    (length l.chunk ≡ length l.initial.chunk) × (length l.begun ≡ widest) × (length l.table ≡ places) × (length l.converted ≡ places) × (length l.out ≡ length l.initial.out)
-    × (count_of l.st.held ≤ places)
+    (length l.chunk ≡ length l.initial.chunk) × (length l.begun ≡ widest) × (length l.table ≡ places) × (length l.converted ≡ places)
+    × (length l.out ≡ length l.initial.out) × (count_of l.st.held ≤ places)
 
 abbrev pub decreases-loop-left : goal.decreases-loop-left
 decreases-loop-left l = l.left
