@@ -133,7 +133,7 @@ function code(    i, j, t, w, n, d, s) {
     for (i = 1; i <= last; i++) {
         if (line[i] ~ /^ *ghost use( |$)/) { s = whole(i, ".", ";"); sub(/^ghost /, "", s); sub(/ *;$/, "", s); import(s, i); continue }
         if (line[i] ~ /^ *(pub )?use /) { s = whole(i, ".", ";"); rust(s); continue }
-        if (!match(line[i], /(^|[ \t])(fn|const|struct|enum) [A-Za-z0-9_]+/)) continue
+        if (!match(line[i], /(^|[ \t])(fn|const|struct|enum|trait) [A-Za-z0-9_]+/)) continue
         n = split(substr(line[i], RSTART, RLENGTH), w, " ")
         d = indent(line[i])
         t = trimmed(line[i])
@@ -141,8 +141,9 @@ function code(    i, j, t, w, n, d, s) {
             for (j = i + 1; j <= last && (t !~ / [{]$/ || t ~ / (ensures|requires) /); j++) {
                 if (line[j] ~ /^ *[{]$/ && indent(line[j]) == d) break
                 t = t " " trimmed(line[j])
+                if (line[j] ~ /;$/) break
             }
-            sub(/ [{]$/, "", t)
+            sub(/ [{]$|;$/, "", t)
         } else if (t ~ /[{]$/) {
             for (j = i + 1; j <= last; j++) { t = t " " trimmed(line[j]); if (line[j] ~ /^ *[}]/ && indent(line[j]) == d) break }
         }

@@ -1,4 +1,5 @@
 -- A line keeps every depth within what the calls on whole numbers take. Assumes nothing.
+use Rattle.std.specs.Prelude.{Some, None, Option, Bool, ℕ}
 use mathlib.Core.Path.{◌≡◌, refl}
 use mathlib.Core.Bool.{Bool, true, false, cond, ◌&&◌}
 use mathlib.Core.List.{List, [], ◌∷◌, ◌++◌}
@@ -12,12 +13,8 @@ use lib.Seq.{get_or-append_seam}
 use Rattle.text.specs.Text.{tab_of}
 use Rattle.whole.specs.Held.{Small}
 use Rattle.lines_machine.specs.Program.{Line, so, over}
-use Rattle.sheet.specs.declared.Depth.{Depth}
-use Rattle.sheet.specs.declared.Depth.TheVariants as D
 use Rattle.sheet.specs.Sheet.{most, depth_line}
 use Rattle.ask_sheet.specs.declared.Kind.{Kind}
-use Rattle.ask_sheet.specs.declared.KindName.{KindName}
-use Rattle.ask_sheet.specs.declared.KindName.TheVariants as K
 use Rattle.ask_sheet.specs.declared.Reason.TheVariants.{NoLabel, NoDepth, Many}
 use Rattle.ask_sheet.specs.Sheet.{Sheet, unbegun, on, faulty, kind_of, named, whole_of, most_in, added, grown, after_of}
 use Rattle.ask_sheet.specs.Contract.{Sound}
@@ -32,9 +29,9 @@ small_more m z x s h = record { each = λ i l. go i l (ltb i (length z)) refl }
         let p : i ≡ length z = omega (arith, ltb-false i (length z) e, simp length-append at l) in
         rw (p, get_or-append_seam z x [] (pos 0)) h
 
-sound_added : (k : Kind) (z : List ℤ) (ls : List (List ℕ)) (w : List ℕ) (d : Depth) → Small (most_in k) z → Sound (added k z ls w d)
-sound_added k z ls w D.Nothing s = tt
-sound_added k z ls w (D.Is minus n) s = go (ltb (most_in k) n) refl (ltb (length z) most)
+sound_added : (k : Kind) (z : List ℤ) (ls : List (List ℕ)) (w : List ℕ) (d : Option (Bool × ℕ)) → Small (most_in k) z → Sound (added k z ls w d)
+sound_added k z ls w None s = tt
+sound_added k z ls w (Some (minus, n)) s = go (ltb (most_in k) n) refl (ltb (length z) most)
   where
     go : (t : Bool) → ltb (most_in k) n ≡ t → (u : Bool)
         → Sound (cond t (faulty (length z + 2) NoDepth) (cond u (on k (z ++ (whole_of minus n ∷ [])) (ls ++ (w ∷ []))) (faulty (length z + 2) Many)))
@@ -50,9 +47,9 @@ sound_grown k z ls l s = go (leb 1 (tab_of l) && leb (tab_of l) 16)
     go true = sound_added k z ls (take (tab_of l) l) (depth_line l) s
     go false = tt
 
-sound_named : (n : KindName) → Sound (named n)
-sound_named (K.Is k) = record { each = λ i l. absurd (omega arith) }
-sound_named K.Nothing = tt
+sound_named : (n : Option Kind) → Sound (named n)
+sound_named (Some k) = record { each = λ i l. absurd (omega arith) }
+sound_named None = tt
 
 pub sound_after : (s : Sheet) (o : Line) → Sound s → Sound (after_of s o)
 unfolding after_of

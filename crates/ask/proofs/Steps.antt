@@ -2,15 +2,11 @@
 use mathlib.Core.Path.{◌≡◌, refl, sym, ap, ◌∙◌, subst}
 use mathlib.Core.Bool.{Bool, true, false}
 use mathlib.Core.List.{List, []}
-use Prim.Native.Nat.{ℕ, ◌-◌, ◌≤◌, ◌<◌}
-use native.Mathlib.Omega.{arith}
-use borrow.Author.Tests.{le-leb, lt-leb}
+use Prim.Native.Nat.{ℕ, ◌≤◌}
 use lib.Ieee.{Float}
-use lib.ListN.{take}
-use Rattle.text.specs.Text.{bytes, same, dec_text}
+use Rattle.text.specs.Text.{bytes, dec_text}
 use Rattle.text.specs.Wrote.{Wrote}
-use Rattle.lines_machine.specs.Program.{widest, Line}
-use Rattle.lines_machine.specs.Contract.{open_of}
+use Rattle.lines_machine.specs.Program.{Line}
 use Rattle.ask_sheet.specs.declared.Kind.{Kind}
 use Rattle.ask_sheet.specs.Sheet.{Sheet, after_of}
 use Rattle.ask_verdict.specs.Told.{verdict_of, Asked, bad, fine, asked_of}
@@ -21,13 +17,6 @@ use Rattle.ask.specs.Ask.{reading, told, is_word, is_ask, answer_to, after_ask, 
 
 pub as_text : {o o' t t' : List ℕ} {at r : ℕ} → t ≡ t' → Wrote o at t o' r → Wrote o at t' o' r
 as_text {o} {o'} {t} {t'} {at} {r} e w = subst (λ (x : List ℕ). Wrote o at x o' r) e w
-
--- ---- whether a line is a word
-pub so_word : (w : List ℕ) (n : ℕ) (line : List ℕ) → n ≤ widest → same (take (n - 0) line) w ≡ is_word w (open_of n line)
-so_word w n line h = let z : n - 0 ≡ n = omega arith in rw (z, le-leb n widest h) refl
-
-pub over_word : (w : List ℕ) (n : ℕ) (line : List ℕ) → widest < n → false ≡ is_word w (open_of n line)
-over_word w n line h = rw (lt-leb n widest h) refl
 
 -- ---- answers
 pub bad_text : (o : Line) → bytes "refused\t13\n" ≡ answer_to bad o

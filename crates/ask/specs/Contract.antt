@@ -1,12 +1,9 @@
 -- How code holds the state of bin/ask. Definitions only.
 use Rattle.std.specs.Prelude.{List, ℕ, ◌≤◌, ℤ, Float}
-use Rattle.lines_machine.specs.Bytes.{State, state_at}
-use Rattle.lines_machine.specs.Contract.{open_of}
 use Rattle.ask_sheet.specs.Contract.{sheet_of, line_in, last_line, Sound}
 use Rattle.ask_verdict.specs.Contract.{Askable, asked_in}
 use Rattle.ask.specs.declared.AskHeld.{AskHeld}
 use Rattle.ask.specs.declared.AskHeld.TheVariants.{Reading, Told}
-use Rattle.ask.specs.declared.AskReader.{AskReader}
 use Rattle.ask.specs.Ask.{Asking, reading, told}
 
 abbrev pub asking_of : AskHeld → List ℤ → List ℕ → List Float → Asking
@@ -17,7 +14,3 @@ asking_of (Told a) rows labels knots = told (asked_in a knots labels)
 abbrev pub Kept : AskHeld → List ℤ → List ℕ → Type 0
 Kept (Reading h) rows labels = (line_in h ≤ last_line) × Sound (sheet_of h rows labels)
 Kept (Told a) rows labels = Askable a
-
--- the line that is being read, and what is held
-abbrev pub state_of : AskReader → List ℕ → List ℤ → List ℕ → List Float → State Asking
-state_of st begun rows labels knots = state_at (open_of st.len begun) (asking_of st.held rows labels knots)

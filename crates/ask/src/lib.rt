@@ -2,19 +2,18 @@
 #![tactic(auto)]
 
 ghost use Rattle.std.specs.Prelude.{◌≡◌, List, [], ◌+◌, ◌*◌, ◌≤◌, ◌<◌, length};
-ghost use Rattle.std.proofs.Math.Seq.{slice};
 ghost use Rattle.text.specs.Wrote.{Wrote};
-ghost use Rattle.lines_machine.specs.Program.{widest};
-ghost use Rattle.lines_machine.specs.Bytes.{end_of};
-ghost use Rattle.lines_machine.specs.Contract.{open_of, Fed};
+ghost use Rattle.lines_machine.specs.Contract.{said_of};
 ghost use Rattle.sheet.specs.Sheet.{most};
+ghost use Rattle.ask_sheet.specs.Sheet.{unbegun};
 ghost use Rattle.ask_sheet.specs.Contract.{cells, sheet_of, line_in, last_line, Sound};
 ghost use Rattle.ask_verdict.specs.Contract.{longest, Askable, asked_in};
-ghost use Rattle.ask.specs.Ask.{is_word, answer_to, after_ask, tells_of, next_of, ends_of, ask_program};
-ghost use Rattle.ask.specs.Contract.{asking_of, Kept, state_of};
+ghost use Rattle.ask.specs.Ask.{Asking, reading, is_word, answer_to, after_ask, tells_of, next_of, ends_of, ask_program};
+ghost use Rattle.ask.specs.Contract.{asking_of, Kept};
 
 use ask_sheet::SheetHeld;
 use ask_verdict::{AskedHeld, Told};
+use lines_machine::Machine;
 
 // Room for the longest text of a line: a verdict.
 pub const LONGEST: usize = 122944;
@@ -26,36 +25,33 @@ pub enum AskHeld {
     Told(AskedHeld),
 }
 
-// Whether the line of len bytes is a word.
-fn is_line(len: usize, line: &[u8], w: &[u8]) -> bool
-    requires { length line.now ≡ widest }
-    ensures { result ≡ is_word w.now (open_of len line.now) }
+// Whether a line is a word.
+fn is_line(line: Option<&[u8]>, w: &[u8]) -> bool
+    ensures { result ≡ is_word w.now (said_of line.entry) }
 {
-    if len <= lines_machine::WIDEST {
-        return text::is_word(&line[0..len], w);
+    match line {
+        Some(l) => text::is_word(l, w),
+        None => false,
     }
-    false
 }
 
 // A line after the verdict: the place behind what it gets, and what may be asked after it.
 fn answer(
     a: AskedHeld,
-    len: usize,
-    line: &[u8],
+    line: Option<&[u8]>,
     labels: &[u8],
     knots: &[f64],
     out: &mut [u8],
     at: usize,
 ) -> Told
-    requires line { length line.now ≡ widest }
     requires held { Askable a }
     requires labels { length labels.now ≡ cells }
     requires knots { length knots.now ≡ most }
     requires room { at + longest ≤ length out.old }
     ensures text { Wrote out.old at
-        (answer_to (asked_in a knots.now labels.now) (open_of len line.now)) out.new result.at }
+        (answer_to (asked_in a knots.now labels.now) (said_of line.entry)) out.new result.at }
     ensures held { asked_in result.held knots.now labels.now ≡
-        after_ask (asked_in a knots.now labels.now) (open_of len line.now) }
+        after_ask (asked_in a knots.now labels.now) (said_of line.entry) }
     ensures askable { Askable result.held }
     ensures short { result.at ≤ at + longest }
 {
@@ -65,152 +61,12 @@ fn answer(
             held: AskedHeld::Bad,
         },
         AskedHeld::Fine(k, rows, n, span) => {
-            let r = ask_answers::answer(k, rows, n, span, len, line, labels, knots, out, at);
+            let r = ask_answers::answer(k, rows, n, span, line, labels, knots, out, at);
             Told {
                 at: r.at,
                 held: AskedHeld::Fine(k, rows, n, r.span),
             }
         }
-    }
-}
-
-// What is held after a line, and the place behind what it printed.
-#[derive(Clone, Copy)]
-pub struct AskResult {
-    pub held: AskHeld,
-    pub at: usize,
-}
-
-// A line of len bytes, the first ones of the lent 64; 65 for one that is too long. What it prints is written from place `at` of `out` on.
-pub fn line(
-    h: AskHeld,
-    len: usize,
-    line: &[u8],
-    rows: &mut [i64],
-    labels: &mut [u8],
-    knots: &mut [f64],
-    out: &mut [u8],
-    at: usize,
-) -> AskResult
-    requires line { length line.now ≡ widest }
-    requires held { Kept h rows.old labels.old }
-    requires rows { length rows.old ≡ most }
-    requires labels { length labels.old ≡ cells }
-    requires knots { length knots.old ≡ most }
-    requires room { at + longest ≤ length out.old }
-    ensures state { asking_of result.held rows.new labels.new knots.new ≡
-        ask_program.after (asking_of h rows.old labels.old knots.old) (open_of len line.now) }
-    ensures kept { Kept result.held rows.new labels.new }
-    ensures wrote { Wrote out.old at
-        (ask_program.tells (asking_of h rows.old labels.old knots.old) (open_of len line.now))
-        out.new result.at }
-    ensures short { result.at ≤ at + longest }
-{
-    match h {
-        AskHeld::Reading(s) => {
-            if is_line(len, line, b"ask") {
-                let t = ask_verdict::verdict(s, &rows[..], &labels[..], knots, out, at);
-                let a = t.held;
-                return AskResult {
-                    held: AskHeld::Told(a),
-                    at: t.at,
-                };
-            }
-            let next = ask_sheet::line(s, len, line, rows, labels);
-            AskResult {
-                held: AskHeld::Reading(next),
-                at: at,
-            }
-        }
-        AskHeld::Told(a) => {
-            let r = answer(a, len, line, &labels[..], &knots[..], out, at);
-            let next = r.held;
-            AskResult {
-                held: AskHeld::Told(next),
-                at: r.at,
-            }
-        }
-    }
-}
-
-// `len`: bytes of the current line in the lent 64; 65 means that the line is too long.
-#[derive(Clone, Copy)]
-pub struct AskReader {
-    pub len: usize,
-    pub held: AskHeld,
-}
-
-// Where the program stands, where the text in `out` ends, and the chunk's first byte that was not taken.
-#[derive(Clone, Copy)]
-pub struct AskFed {
-    pub st: AskReader,
-    pub at: usize,
-    pub next: usize,
-}
-
-// The bytes of a chunk from `from` on, as long as `out` has room for any line's text.
-pub fn feed(
-    st: AskReader,
-    chunk: &[u8],
-    from: usize,
-    begun: &mut [u8],
-    rows: &mut [i64],
-    labels: &mut [u8],
-    knots: &mut [f64],
-    out: &mut [u8],
-) -> AskFed
-    requires start { from ≤ length chunk.now }
-    requires begun { length begun.old ≡ widest }
-    requires held { Kept st.held rows.old labels.old }
-    requires rows { length rows.old ≡ most }
-    requires labels { length labels.old ≡ cells }
-    requires knots { length knots.old ≡ most }
-    ensures fed { Fed ask_program (state_of st begun.old rows.old labels.old knots.old)
-        (slice from result.next chunk.now)
-        (state_of result.st begun.new rows.new labels.new knots.new)
-        out.old 0 out.new result.at }
-    ensures kept { Kept result.st.held rows.new labels.new }
-    ensures after { from ≤ result.next }
-    ensures within { result.next ≤ length chunk.now }
-    ensures short { result.at ≤ length out.new }
-    ensures progress { from < length chunk.now → longest ≤ length out.old → from < result.next }
-{
-    let mut n = st.len;
-    let mut held = st.held;
-    let mut at = 0;
-    let mut i = from;
-    while i < chunk.len() {
-        if out.len() - at < LONGEST {
-            return AskFed {
-                st: AskReader { len: n, held: held },
-                at: at,
-                next: i,
-            };
-        }
-        let c = lines_machine::cut(chunk, i, n, &mut *begun);
-        n = c.len;
-        i = c.stop;
-        if i < chunk.len() {
-            let l = line(
-                held,
-                n,
-                &begun[..],
-                &mut *rows,
-                &mut *labels,
-                &mut *knots,
-                &mut *out,
-                at,
-            );
-            held = l.held;
-            at = l.at;
-            n = 0;
-            i += 1;
-        }
-    }
-    AskFed {
-        st: AskReader { len: n, held: held },
-        at: at,
-        next: i,
     }
 }
 
@@ -241,41 +97,86 @@ fn end(
     }
 }
 
-// The end of the input: a last line may lack its LF.
-pub fn finish(
-    st: AskReader,
-    begun: &[u8],
-    rows: &mut [i64],
-    labels: &mut [u8],
-    knots: &mut [f64],
-    out: &mut [u8],
-) -> usize
-    requires begun { length begun.now ≡ widest }
-    requires held { Kept st.held rows.old labels.old }
-    requires rows { length rows.old ≡ most }
-    requires labels { length labels.old ≡ cells }
-    requires knots { length knots.old ≡ most }
-    requires room { 2 * longest ≤ length out.old }
-    ensures text { Wrote out.old 0
-        (end_of ask_program (state_of st begun.now rows.old labels.old knots.old))
-        out.new result }
-    ensures short { result ≤ 2 * longest }
-{
-    let len = st.len;
-    let held = st.held;
-    if len == 0 {
-        return end(held, &rows[..], &labels[..], knots, out, 0);
+// bin/ask between two lines: what is held of the sheet, its depths and labels, and room for the knots.
+#[derive(Drop)]
+pub struct Questions {
+    pub held: AskHeld,
+    pub rows: [i64; 4096],
+    pub labels: [u8; 69632],
+    pub knots: [f64; 4096],
+}
+
+impl Questions {
+    // Before the first line.
+    pub fn new() -> Questions
+        ensures state { asking_of result.held result.rows result.labels result.knots ≡ reading unbegun }
+        ensures kept { Kept result.held result.rows result.labels }
+    {
+        Questions {
+            held: AskHeld::Reading(SheetHeld::Unbegun),
+            rows: [0; 4096],
+            labels: [0; 69632],
+            knots: [0.0; 4096],
+        }
     }
-    let l = line(
-        held,
-        len,
-        begun,
-        &mut *rows,
-        &mut *labels,
-        &mut *knots,
-        &mut *out,
-        0,
-    );
-    let after = l.held;
-    end(after, &rows[..], &labels[..], knots, out, l.at)
+}
+
+impl Machine for Questions {
+    const LINE_ROOM: usize = LONGEST;
+
+    const END_ROOM: usize = LONGEST;
+
+    ghost LINE_ROOM = { longest };
+
+    ghost END_ROOM = { longest };
+
+    ghost State = { Asking };
+
+    ghost program = { ask_program };
+
+    ghost held = { λ q. asking_of q.held q.rows q.labels q.knots };
+
+    ghost Keeps = { λ q. Kept q.held q.rows q.labels };
+
+    fn line(&mut self, line: Option<&[u8]>, out: &mut [u8], at: usize) -> usize {
+        match self.held {
+            AskHeld::Reading(s) => {
+                if is_line(line, b"ask") {
+                    let t = ask_verdict::verdict(
+                        s,
+                        &self.rows,
+                        &self.labels,
+                        &mut self.knots,
+                        out,
+                        at,
+                    );
+                    self.held = AskHeld::Told(t.held);
+                    return t.at;
+                }
+                self.held = AskHeld::Reading(ask_sheet::line(
+                    s,
+                    line,
+                    &mut self.rows,
+                    &mut self.labels,
+                ));
+                at
+            }
+            AskHeld::Told(a) => {
+                let r = answer(a, line, &self.labels, &self.knots, out, at);
+                self.held = AskHeld::Told(r.held);
+                r.at
+            }
+        }
+    }
+
+    fn end(&mut self, out: &mut [u8], at: usize) -> usize {
+        crate::end(
+            self.held,
+            &self.rows,
+            &self.labels,
+            &mut self.knots,
+            out,
+            at,
+        )
+    }
 }

@@ -1,4 +1,5 @@
 -- The answer to a question, case by case. Assumes nothing.
+use Rattle.std.specs.Prelude.{Ok, Err}
 use mathlib.Core.Path.{◌≡◌, refl, sym, ap, ◌∙◌}
 use mathlib.Core.Bool.{Bool, true, false, cond}
 use mathlib.Core.List.{List, [], ◌∷◌, ◌++◌}
@@ -13,14 +14,10 @@ use lib.ListN.{length, take, drop, get_or, length-take, length-append, get_or-eq
 use Rattle.basis.specs.declared.Basis.{Basis}
 use Rattle.error.specs.declared.Refusal.{Refusal}
 use Rattle.error.specs.declared.Refusal.TheVariants.{BadSpan, BadLine}
-use Rattle.spline.specs.declared.Evaluation.{Evaluation}
-use Rattle.spline.specs.declared.Evaluation.TheVariants as E
-use Rattle.spline.specs.Evaluation.{spline_of}
+use Rattle.spline.specs.Evaluation.{spline_of, Evaluation}
 use Rattle.spline.proofs.Parts.{inside}
 use Rattle.table_span.specs.declared.Table.{Table}
 use Rattle.table_span.specs.Second.{day, good_span}
-use Rattle.text.specs.Wrote.{Wrote}
-use Rattle.text.proofs.Writing.{then}
 use Rattle.lines_reply.specs.Reply.{refused_text}
 use Rattle.ask_sheet.specs.declared.Kind.{Kind}
 use Rattle.ask_sheet.specs.Contract.{label_at, labels_to}
@@ -60,11 +57,11 @@ module _ (k : Kind) (ks : List Float) (m t : ℕ) (is : t ≡ curve_seconds k ks
 -- ---- at
 module _ (b : Basis) (ks : List Float) (span n : ℕ) where
   module _ {e : Evaluation} (is : e ≡ spline_of b (parameter_at span n) ks) where
-    pub moment_value : (y : Float) → e ≡ E.Value y → value_text n y ≡ moment_text b ks span n
+    pub moment_value : (y : Float) → e ≡ Ok y → value_text n y ≡ moment_text b ks span n
     unfolding moment_text
     moment_value y p = rw (sym is ∙ p) refl
 
-    pub moment_refused : (r : Refusal) → e ≡ E.Refused r → refused_text r ≡ moment_text b ks span n
+    pub moment_refused : (r : Refusal) → e ≡ Err r → refused_text r ≡ moment_text b ks span n
     unfolding moment_text
     moment_refused r p = rw (sym is ∙ p) refl
 
@@ -82,10 +79,9 @@ module _ (b : Basis) (ks : List Float) (span n : ℕ) where
   unfolding multiples_text
   no_multiples = refl
 
-  pub multiple_more : {o o₁ o₂ : List ℕ} {at r₁ r₂ : ℕ} (i : ℕ) → Wrote o at (multiples_text b ks span n i) o₁ r₁
-      → Wrote o₁ r₁ (moment_text b ks span (i * n)) o₂ r₂ → Wrote o at (multiples_text b ks span n (i + 1)) o₂ r₂
+  pub multiple_more : (i : ℕ) → multiples_text b ks span n i ++ moment_text b ks span (i * n) ≡ multiples_text b ks span n (i + 1)
   unfolding multiples_text
-  multiple_more i u v = rw (add-one i) (then u v)
+  multiple_more i = rw (add-one i) refl
 
   pub every_short : n < 60 → refused_text BadLine ≡ every_text b ks span n
   every_short h = rw (lt-leb 60 n h) refl

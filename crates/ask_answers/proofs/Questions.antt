@@ -1,25 +1,21 @@
 -- What a line asks, case by case. Assumes nothing.
+use Rattle.std.specs.Prelude.{Some, None, Option, ℕ, Bool}
 use mathlib.Core.Path.{◌≡◌, refl, sym, ap, ◌∙◌}
 use mathlib.Core.Bool.{Bool, true, false}
 use mathlib.Core.List.{List, ◌∷◌}
 use Prim.Native.Nat.{ℕ, suc, ◌+◌, ◌-◌, ◌≤◌, ◌<◌}
 use native.Mathlib.Omega.{arith}
 use native.Mathlib.Numerals.{add-one}
-use borrow.Author.Tests.{le-leb, lt-leb, lt-ltb, le-ltb}
+use borrow.Author.Tests.{lt-ltb, le-ltb}
 use lib.Ieee.{Float}
 use lib.ListN.{length, take, drop, length-drop}
 use lib.Seq.{take_all}
-use Rattle.text.specs.declared.HexNumber.{HexNumber}
-use Rattle.text.specs.declared.HexNumber.TheVariants as H
 use Rattle.text.specs.Text.{bytes, same, place_of, tab_of, TAB}
 use Rattle.text_decimals.specs.Decimals.{number_in}
-use Rattle.sheet.specs.declared.Depth.{Depth}
-use Rattle.sheet.specs.declared.Depth.TheVariants as D
 use Rattle.sheet.specs.Sheet.{depth_in, depth_line}
 use Rattle.sheet.proofs.Lines.{depth_small}
 use Rattle.sheet_depth.specs.Depth.{depth_of}
-use Rattle.lines_machine.specs.Program.{widest, so}
-use Rattle.lines_machine.specs.Contract.{open_of}
+use Rattle.lines_machine.specs.Program.{so, over}
 use Rattle.ask_answers.specs.declared.Question.{Question}
 use Rattle.ask_answers.specs.declared.Question.TheVariants.{Table, Row, Find, At, Every, Nothing}
 use Rattle.ask_answers.specs.Question.{by_number, sought, by_word, question_of}
@@ -45,17 +41,17 @@ module _ (w : List ℕ) (n : ℕ) {a : Bool} (is : a ≡ same w (bytes "row")) w
       no_number r = rw (sym is ∙ p, sym is' ∙ q, sym is'' ∙ r) refl
 
 -- ---- a depth: that of a sheet's line behind some label
-pub depth_few : (s : List ℕ) (b : Bool) (n : ℕ) {d : Depth} → d ≡ depth_in s → d ≡ D.Is b n → n ≤ 999999999999
+pub depth_few : (s : List ℕ) (b : Bool) (n : ℕ) {d : Option (Bool × ℕ)} → d ≡ depth_in s → d ≡ Some (b, n) → n ≤ 999999999999
 unfolding depth_line place_of
 depth_few s b n p q = depth_small (120 ∷ TAB ∷ s) b n (behind ∙ sym p ∙ q)
   where
     behind : depth_line (120 ∷ TAB ∷ s) ≡ depth_in s
     behind = rw (lt-ltb 1 (suc (suc (length s))) (omega arith)) refl
 
-pub is_sought : {d e : Depth} (b : Bool) (n : ℕ) {x : Float} → d ≡ e → d ≡ D.Is b n → x ≡ depth_of b n → Find x ≡ sought e
+pub is_sought : {d e : Option (Bool × ℕ)} (b : Bool) (n : ℕ) {x : Float} → d ≡ e → d ≡ Some (b, n) → x ≡ depth_of b n → Find x ≡ sought e
 is_sought b n p q r = rw (sym p ∙ q) (ap Find r)
 
-pub not_sought : {d e : Depth} → d ≡ e → d ≡ D.Nothing → Nothing ≡ sought e
+pub not_sought : {d e : Option (Bool × ℕ)} → d ≡ e → d ≡ None → Nothing ≡ sought e
 not_sought p q = rw (sym p ∙ q) refl
 
 -- ---- a word, and what stands behind its tab
@@ -64,12 +60,12 @@ module _ (w s : List ℕ) {a : Bool} (is : a ≡ same w (bytes "find")) where
   unfolding by_word
   find_word p e = rw (sym is ∙ p) e
 
-  module _ (p : a ≡ false) {r : HexNumber} (number : r ≡ number_in 5 s) where
-    pub number_word : (n : ℕ) → r ≡ H.Is n → {q : Question} → q ≡ by_number w n → q ≡ by_word w s
+  module _ (p : a ≡ false) {r : Option ℕ} (number : r ≡ number_in 5 s) where
+    pub number_word : (n : ℕ) → r ≡ Some n → {q : Question} → q ≡ by_number w n → q ≡ by_word w s
     unfolding by_word
     number_word n f e = rw (sym is ∙ p, sym number ∙ f) e
 
-    pub no_word : r ≡ H.Nothing → Nothing ≡ by_word w s
+    pub no_word : r ≡ None → Nothing ≡ by_word w s
     unfolding by_word
     no_word f = rw (sym is ∙ p, sym number ∙ f) refl
 
@@ -92,9 +88,6 @@ module _ (l : List ℕ) {a : Bool} (is : a ≡ same l (bytes "table")) where
     unfolding question_of
     no_tab h = rw (sym is ∙ p, ← tab, le-ltb t (length l) h) refl
 
-pub line_asked : (n : ℕ) (line : List ℕ) → n ≤ widest → {q : Question} → q ≡ question_of (so (take (n - 0) line)) → q ≡ question_of (open_of n line)
-line_asked n line h e = let z : n - 0 ≡ n = omega arith in rw (le-leb n widest h) (rw z at e)
-
-pub too_long : (n : ℕ) (line : List ℕ) → widest < n → Nothing ≡ question_of (open_of n line)
+pub too_long : Nothing ≡ question_of over
 unfolding question_of
-too_long n line h = rw (lt-leb n widest h) refl
+too_long = refl

@@ -1,5 +1,7 @@
 -- What is told of a depth that is reached, and at which seconds `every` tells. A job that is under way has every promise of the call `stopped`. The rows told
 -- stand in the sheet: four knots are left where a segment starts, so it ends at a row, unless it is the last of Power. Assumes nothing.
+use Rattle.stopped.specs.declared.Job.TheVariants.{UnderWay}
+use Rattle.std.specs.Prelude.{Ok}
 use mathlib.Core.Path.{◌≡◌, sym, ap}
 use mathlib.Core.Bool.{false}
 use mathlib.Core.List.{List}
@@ -14,7 +16,6 @@ use Rattle.basis.specs.Basis.{segments_of}
 use Rattle.calls.specs.Calls.{Exactly}
 use Rattle.inverse.proofs.Curve.{segment_fits}
 use Rattle.inverse_segment.specs.declared.Place.{Place}
-use Rattle.stopped.specs.declared.Job.TheVariants.{UnderWay}
 use Rattle.stopped.specs.Stopped.{stopped_of}
 use Rattle.stopped.proofs.Stops.{Kept}
 use Rattle.table_span.specs.Second.{elapsed}
@@ -75,7 +76,7 @@ module _ (k : Kind) (ks : List Float) (ls : List (List ℕ)) (span : ℕ) (y : F
   next_row : (s : ℕ) → row_of k (s + 1) ≡ row_of k s + row_step k
   next_row s = omega (arith, add-mul s 1 (row_step k), one-mul (row_step k))
 
-  pub reached : (s : ℕ) (p : Place) → UnderWay s p ≡ stopped_of (table_by k span) y ks false → Reached s p
+  pub reached : (s : ℕ) (p : Place) → Ok (UnderWay s p) ≡ stopped_of (table_by k span) y ks false → Reached s p
   reached s p e =
       let w = under_way (table_by k span) y ks false s p e in
       let b = w.entered.below in

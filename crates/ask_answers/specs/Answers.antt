@@ -1,18 +1,18 @@
 -- What a line after the verdict of a fine sheet prints, and the span after it. The sheet: a kind of curve, its knots as doubles, the labels
 -- of its rows, and the span in whole seconds, 0 where no `row` was given. Definitions only.
-use Rattle.std.specs.Prelude.{false, cond, ◌&&◌, List, [], ◌∷◌, ◌++◌, ℕ, zero, suc, ◌+◌, ◌-◌, ◌*◌, ◌/◌, leb, Float, length, get_or}
+use Rattle.stopped.specs.declared.Job.{Job}
+use Rattle.inverse_segment.specs.declared.Miss.{Miss}
+use Rattle.stopped.specs.declared.Job.TheVariants.{UnderWay, Flat, Before, Start, End, Beyond}
+use Rattle.inverse_segment.specs.declared.Miss.TheVariants.{Refused, OffCurve}
+use Rattle.std.specs.Prelude.{false, cond, ◌&&◌, List, [], ◌∷◌, ◌++◌, ℕ, zero, suc, ◌+◌, ◌-◌, ◌*◌, ◌/◌, leb, Float, length, get_or, Ok, Err, Result}
 use Rattle.std.specs.Float.Ieee.{to_bits, div}
 use Rattle.std.specs.Float.{binary64}
 use Rattle.doubles.specs.Whole.{double}
 use Rattle.basis.specs.declared.Basis.{Basis}
 use Rattle.basis.specs.Basis.{segments_of}
 use Rattle.error.specs.declared.Refusal.TheVariants.{BadSpan, OffCurve, BadLine}
-use Rattle.spline.specs.declared.Evaluation.{Evaluation}
-use Rattle.spline.specs.declared.Evaluation.TheVariants as E
-use Rattle.spline.specs.Evaluation.{spline_of}
+use Rattle.spline.specs.Evaluation.{spline_of, Evaluation}
 use Rattle.inverse_segment.specs.declared.Place.{Place}
-use Rattle.stopped.specs.declared.Job.{Job}
-use Rattle.stopped.specs.declared.Job.TheVariants as J
 use Rattle.stopped.specs.Stopped.{stopped_of}
 use Rattle.table_span.specs.declared.Table.{Table}
 use Rattle.table_span.specs.Second.{good_span}
@@ -46,8 +46,8 @@ abbrev pub value_text : ℕ → Float → List ℕ
 value_text n y = bytes "at\t" ++ (dec_text 4 n ++ side_text (bytes "\t") y)
 
 abbrev pub moment_by : ℕ → Evaluation → List ℕ
-moment_by n (E.Value y) = value_text n y
-moment_by n (E.Refused r) = refused_text r
+moment_by n (Ok y) = value_text n y
+moment_by n (Err r) = refused_text r
 
 unfoldable pub moment_text : Basis → List Float → ℕ → ℕ → List ℕ
 moment_text b ks span n = moment_by n (spline_of b (parameter_at span n) ks)
@@ -96,15 +96,15 @@ abbrev pub reached_text : Kind → List (List ℕ) → ℕ → Float → ℕ →
 reached_text k ls span y s p =
     bytes "reached\t" ++ (depth_text y ++ ((TAB ∷ []) ++ (when_text span s p.parameter ++ rows_text k ls p.segment)))
 
-abbrev pub job_text : Kind → List (List ℕ) → ℕ → Float → Job → List ℕ
-job_text k ls span y (J.Refused r) = refused_text r
-job_text k ls span y (J.OffCurve n) = refused_text OffCurve
-job_text k ls span y J.Flat = bytes "flat\n"
-job_text k ls span y J.Before = side_text (bytes "before\t") y
-job_text k ls span y J.Start = side_text (bytes "start\t") y
-job_text k ls span y (J.UnderWay s p) = reached_text k ls span y s p
-job_text k ls span y J.End = side_text (bytes "end\t") y
-job_text k ls span y J.Beyond = side_text (bytes "beyond\t") y
+abbrev pub job_text : Kind → List (List ℕ) → ℕ → Float → Result Job Miss → List ℕ
+job_text k ls span y (Err (Refused r)) = refused_text r
+job_text k ls span y (Err (OffCurve n)) = refused_text OffCurve
+job_text k ls span y (Ok Flat) = bytes "flat\n"
+job_text k ls span y (Ok Before) = side_text (bytes "before\t") y
+job_text k ls span y (Ok Start) = side_text (bytes "start\t") y
+job_text k ls span y (Ok (UnderWay s p)) = reached_text k ls span y s p
+job_text k ls span y (Ok End) = side_text (bytes "end\t") y
+job_text k ls span y (Ok Beyond) = side_text (bytes "beyond\t") y
 
 -- a span of one second where none was given
 abbrev pub table_by : Kind → ℕ → Table

@@ -1,11 +1,7 @@
 -- What a line after the verdict asks. Definitions only.
-use Rattle.std.specs.Prelude.{cond, List, ℕ, suc, ltb, length, take, drop}
-use Rattle.text.specs.declared.HexNumber.{HexNumber}
-use Rattle.text.specs.declared.HexNumber.TheVariants as H
+use Rattle.std.specs.Prelude.{cond, List, ℕ, suc, ltb, length, take, drop, Some, None, Option, Bool}
 use Rattle.text.specs.Text.{bytes, same, tab_of}
 use Rattle.text_decimals.specs.Decimals.{number_in}
-use Rattle.sheet.specs.declared.Depth.{Depth}
-use Rattle.sheet.specs.declared.Depth.TheVariants as D
 use Rattle.sheet.specs.Sheet.{depth_in}
 use Rattle.sheet_depth.specs.Depth.{depth_of}
 use Rattle.lines_machine.specs.Program.{Line, so, over}
@@ -17,14 +13,14 @@ unfoldable pub by_number : List ℕ → ℕ → Question
 by_number w n =
     cond (same w (bytes "row")) (Row n) (cond (same w (bytes "at")) (At n) (cond (same w (bytes "every")) (Every n) Nothing))
 
-abbrev pub numbered : List ℕ → HexNumber → Question
-numbered w (H.Is n) = by_number w n
-numbered w H.Nothing = Nothing
+abbrev pub numbered : List ℕ → Option ℕ → Question
+numbered w (Some n) = by_number w n
+numbered w None = Nothing
 
 -- a decimal as in a sheet
-abbrev pub sought : Depth → Question
-sought (D.Is minus n) = Find (depth_of minus n)
-sought D.Nothing = Nothing
+abbrev pub sought : Option (Bool × ℕ) → Question
+sought (Some (minus, n)) = Find (depth_of minus n)
+sought None = Nothing
 
 -- a word, and what stands behind its tab
 unfoldable pub by_word : List ℕ → List ℕ → Question

@@ -1,16 +1,17 @@
 // What a line after the verdict of a fine sheet asks, what it prints, and the span after it.
-#![tactic(auto)]
+#![tactic(auto, using(text::proofs::Pens::pens))]
 
 ghost use Rattle.std.specs.Prelude.{◌≡◌, List, [], ◌+◌, ◌*◌, ◌≤◌, ◌<◌, Float, length, take, get_or};
 ghost use Rattle.std.specs.Float.Ieee.{to_bits};
 ghost use Rattle.std.specs.Float.{binary64};
 ghost use Rattle.basis.specs.Basis.{most_knots, segments_of};
+ghost use Rattle.text.specs.Pens.{HasRoom, Writes};
 ghost use Rattle.text.specs.Wrote.{Wrote};
 ghost use Rattle.text_rounded.specs.Rounded.{rounded_text};
 ghost use Rattle.table_span.specs.Second.{day, good_span};
 ghost use Rattle.sheet.specs.Sheet.{most, depth_in};
-ghost use Rattle.lines_machine.specs.Program.{widest, so};
-ghost use Rattle.lines_machine.specs.Contract.{open_of};
+ghost use Rattle.lines_machine.specs.Program.{so};
+ghost use Rattle.lines_machine.specs.Contract.{said_of};
 ghost use Rattle.ask_sheet.specs.Contract.{cells, labels_to};
 ghost use Rattle.ask_verdict.specs.Curve.{basis_of};
 ghost use Rattle.ask_verdict.specs.Contract.{longest};
@@ -41,13 +42,11 @@ ghost use Rattle.ask_answers.specs.Contract.{Placed};
 use ask_sheet::Kind;
 use basis::Basis;
 use error::Refusal;
-use inverse_segment::Place;
-use lines_reply::LineReply;
-use sheet::Depth;
-use spline::Evaluation;
+use inverse_segment::{Miss, Place};
+use lines_reply::{LineReply, put_refused, put_reply};
 use stopped::Job;
 use table_span::Table;
-use text::HexNumber;
+use text::Pen;
 
 // What is asked: the table; a row's seconds; a depth; the depth at a second; the depths at every so many seconds; or nothing.
 #[derive(Clone, Copy)]
@@ -81,7 +80,7 @@ fn by_number(w: &[u8], n: u32) -> Question
 fn sought(s: &[u8]) -> Question
     ensures { result ≡ question.sought (depth_in s.now) }
 {
-    let Depth::Is(minus, n) = sheet::depth_in(s) else {
+    let Some((minus, n)) = sheet::depth_in(s) else {
         return Question::Nothing;
     };
     Question::Find(sheet_depth::depth(minus, n))
@@ -94,7 +93,7 @@ fn by_word(w: &[u8], s: &[u8]) -> Question
     if text::is_word(w, b"find") {
         return sought(s);
     }
-    let HexNumber::Is(n) = text_decimals::number_in(s, 5) else {
+    let Some(n) = text_decimals::number_in(s, 5) else {
         return Question::Nothing;
     };
     by_number(w, n as u32)
@@ -115,15 +114,14 @@ fn by_line(l: &[u8]) -> Question
     Question::Nothing
 }
 
-// The question of a line that may be too long; such a line asks nothing.
-fn asked(len: usize, line: &[u8]) -> Question
-    requires { length line.now ≡ widest }
-    ensures { result ≡ question.question_of (open_of len line.now) }
+// The question of a line; one that is too long asks nothing.
+fn asked(line: Option<&[u8]>) -> Question
+    ensures { result ≡ question.question_of (said_of line.entry) }
 {
-    if len <= lines_machine::WIDEST {
-        return by_line(&line[0..len]);
+    match line {
+        Some(l) => by_line(l),
+        None => Question::Nothing,
     }
-    Question::Nothing
 }
 
 // ---- row
@@ -141,21 +139,20 @@ fn curve_seconds(k: Kind, n: usize, m: u32) -> u64
 fn is_good(t: u64) -> bool
     ensures { result ≡ good_span t }
 {
-    if 1 <= t { t <= 86400 } else { false }
+    1 <= t && t <= 86400
 }
 
 // The answer to `row`: nothing for a good time between rows, and a refusal for one that makes the span too long.
-fn put_row(k: Kind, n: usize, m: u32, out: &mut [u8], at: usize) -> usize
+fn put_row(pen: &mut Pen, k: Kind, n: usize, m: u32)
     requires enough { 4 ≤ n }
     requires few { n ≤ most }
-    requires room { at + 18 ≤ length out.old }
-    ensures text { (ks : List Float) → length ks ≡ n → Wrote out.old at (row_text k ks m) out.new result }
-    ensures short { result ≤ at + 18 }
+    requires room { HasRoom pen.old 18 }
+    ensures { (ks : List Float) → length ks ≡ n → Writes pen.old (row_text k ks m) 18 pen.new }
 {
     if is_good(curve_seconds(k, n, m)) {
-        return at;
+        return;
     }
-    lines_reply::put_refused(out, at, Refusal::BadSpan)
+    put_refused(pen, Refusal::BadSpan);
 }
 
 // The span after a question.
@@ -184,166 +181,152 @@ fn span_by(k: Kind, n: usize, span: u32, q: Question) -> u32
 
 // ---- at, every
 // A double with d digits behind the point.
-fn put_digits(out: &mut [u8], at: usize, x: f64, d: usize) -> usize
+fn put_digits(pen: &mut Pen, x: f64, d: usize)
     requires digits { d ≤ 6 }
-    requires room { at + 21 ≤ length out.old }
-    ensures text { Wrote out.old at (rounded_text d (to_bits binary64 x)) out.new result }
-    ensures short { result ≤ at + 21 }
+    requires room { HasRoom pen.old 21 }
+    ensures { Writes pen.old (rounded_text d (to_bits binary64 x)) 21 pen.new }
 {
-    text_rounded::put_rounded(out, at, text::to_bits(x), d)
+    text_rounded::put_rounded(pen, text::to_bits(x), d);
 }
 
 // A word with its tab, and a depth.
-fn put_side(w: &[u8], y: f64, out: &mut [u8], at: usize) -> usize
+fn put_side(pen: &mut Pen, w: &[u8], y: f64)
     requires word { length w.now ≤ 9 }
-    requires room { at + 31 ≤ length out.old }
-    ensures text { Wrote out.old at (side_text w.now y) out.new result }
-    ensures short { result ≤ at + length w.now + 22 }
+    requires room { HasRoom pen.old 31 }
+    ensures { Writes pen.old (side_text w.now y) (length w.now + 22) pen.new }
 {
-    let a = text::put_word(&mut *out, at, w);
-    let b = put_digits(&mut *out, a, y, 3);
-    text::put_byte(out, b, b'\n')
+    pen.word(w);
+    put_digits(pen, y, 3);
+    pen.byte(b'\n');
 }
 
 // The depth at a second.
-fn put_value(n: u32, y: f64, out: &mut [u8], at: usize) -> usize
+fn put_value(pen: &mut Pen, n: u32, y: f64)
     requires second { n ≤ day }
-    requires room { at + 40 ≤ length out.old }
-    ensures text { Wrote out.old at (value_text n y) out.new result }
-    ensures short { result ≤ at + 40 }
+    requires room { HasRoom pen.old 40 }
+    ensures { Writes pen.old (value_text n y) 40 pen.new }
 {
-    let a = text::put_word(&mut *out, at, b"at\t");
-    let b = text::put_decimal(&mut *out, a, n, 4);
-    put_side(b"\t", y, out, b)
+    pen.word(b"at\t");
+    pen.decimal(n as u64, 4);
+    put_side(pen, b"\t", y);
 }
 
 // The depth at second n of the span.
-fn put_moment(b: Basis, knots: &[f64], span: u32, n: u32, out: &mut [u8], at: usize) -> usize
+fn put_moment(pen: &mut Pen, b: Basis, knots: &[f64], span: u32, n: u32)
     requires second { n ≤ day }
-    requires room { at + 40 ≤ length out.old }
-    ensures text { Wrote out.old at (moment_text b knots.now span n) out.new result }
-    ensures short { result ≤ at + 40 }
+    requires room { HasRoom pen.old 40 }
+    ensures { Writes pen.old (moment_text b knots.now span n) 40 pen.new }
 {
     let e = spline::spline(b, n as f64 / span as f64, knots);
     match e {
-        Evaluation::Value(y) => put_value(n, y, out, at),
-        Evaluation::Refused(r) => lines_reply::put_refused(out, at, r),
+        Ok(y) => put_value(pen, n, y),
+        Err(r) => put_refused(pen, r),
     }
 }
 
 // The answer to `at`: the depth at second n, where there is a span and n lies in it.
-fn put_at(b: Basis, knots: &[f64], span: u32, n: u32, out: &mut [u8], at: usize) -> usize
+fn put_at(pen: &mut Pen, b: Basis, knots: &[f64], span: u32, n: u32)
     requires span { span ≤ day }
-    requires room { at + 40 ≤ length out.old }
-    ensures text { Wrote out.old at (at_text b knots.now span n) out.new result }
-    ensures short { result ≤ at + 40 }
+    requires room { HasRoom pen.old 40 }
+    ensures { Writes pen.old (at_text b knots.now span n) 40 pen.new }
 {
     if span < 1 {
-        return lines_reply::put_refused(out, at, Refusal::BadSpan);
+        put_refused(pen, Refusal::BadSpan);
+    } else if span < n {
+        put_refused(pen, Refusal::BadSpan);
+    } else {
+        put_moment(pen, b, knots, span, n);
     }
-    if span < n {
-        return lines_reply::put_refused(out, at, Refusal::BadSpan);
-    }
-    put_moment(b, knots, span, n, out, at)
 }
 
 // The multiples of n below the span.
-fn put_multiples(b: Basis, knots: &[f64], span: u32, n: u32, out: &mut [u8], at: usize) -> usize
+fn put_multiples(pen: &mut Pen, b: Basis, knots: &[f64], span: u32, n: u32)
     requires some { 1 ≤ span }
     requires span { span ≤ day }
     requires step { 60 ≤ n }
-    requires room { at + 57600 ≤ length out.old }
-    ensures text { Wrote out.old at (multiples_text b knots.now span n (multiples_below span n))
-        out.new result }
-    ensures short { result ≤ at + 57600 }
+    requires room { HasRoom pen.old 57600 }
+    ensures { Writes pen.old (multiples_text b knots.now span n (multiples_below span n)) 57600 pen.new }
 {
     let m = (span - 1) / n + 1;
-    let mut r = at;
-    let mut i: u32 = 0;
-    while i < m {
-        r = put_moment(b, knots, span, i * n, &mut *out, r);
-        i += 1;
+    for i in 0..m {
+        let second = i * n;
+        put_moment(pen, b, knots, span, second);
     }
-    r
 }
 
 // The answer to `every`: the depth at each multiple of n seconds, and at the end.
-fn put_every(b: Basis, knots: &[f64], span: u32, n: u32, out: &mut [u8], at: usize) -> usize
+fn put_every(pen: &mut Pen, b: Basis, knots: &[f64], span: u32, n: u32)
     requires span { span ≤ day }
-    requires room { at + 57640 ≤ length out.old }
-    ensures text { Wrote out.old at (every_text b knots.now span n) out.new result }
-    ensures short { result ≤ at + 57640 }
+    requires room { HasRoom pen.old 57640 }
+    ensures { Writes pen.old (every_text b knots.now span n) 57640 pen.new }
 {
     if n < 60 {
-        return lines_reply::put_refused(out, at, Refusal::BadLine);
+        put_refused(pen, Refusal::BadLine);
+    } else if span < 1 {
+        put_refused(pen, Refusal::BadSpan);
+    } else {
+        put_multiples(pen, b, knots, span, n);
+        put_moment(pen, b, knots, span, span);
     }
-    if span < 1 {
-        return lines_reply::put_refused(out, at, Refusal::BadSpan);
-    }
-    let r = put_multiples(b, knots, span, n, &mut *out, at);
-    put_moment(b, knots, span, span, out, r)
 }
 
 // ---- find
 // The label of row i, where there is one.
-fn put_label(rows: usize, i: usize, labels: &[u8], out: &mut [u8], at: usize) -> usize
+fn put_label(pen: &mut Pen, rows: usize, i: usize, labels: &[u8])
     requires rows { rows ≤ most }
     requires labels { length labels.now ≡ cells }
-    requires room { at + 16 ≤ length out.old }
-    ensures text { Wrote out.old at (get_or (labels_to labels.now rows) i []) out.new result }
-    ensures short { result ≤ at + 16 }
+    requires room { HasRoom pen.old 16 }
+    ensures { Writes pen.old (get_or (labels_to labels.now rows) i []) 16 pen.new }
 {
     if i < rows {
         let a = 17 * i + 1;
         let e = a + ask_sheet::label_len(labels, i);
-        return text::put_word(out, at, &labels[a..e]);
+        pen.word(&labels[a..e]);
     }
-    at
 }
 
 // The label of the row at which segment s begins, behind a tab.
-fn put_start(k: Kind, rows: usize, s: usize, labels: &[u8], out: &mut [u8], at: usize) -> usize
+fn put_start(pen: &mut Pen, k: Kind, rows: usize, s: usize, labels: &[u8])
     requires rows { rows ≤ most }
     requires segment { s ≤ most_knots }
     requires labels { length labels.now ≡ cells }
-    requires room { at + 17 ≤ length out.old }
-    ensures text { Wrote out.old at (start_text k (labels_to labels.now rows) s) out.new result }
-    ensures short { result ≤ at + 17 }
+    requires room { HasRoom pen.old 17 }
+    ensures { Writes pen.old (start_text k (labels_to labels.now rows) s) 17 pen.new }
 {
     let i = ask_verdict::first_row(k) + s * ask_verdict::row_step(k);
-    let a = text::put_byte(&mut *out, at, b'\t');
-    put_label(rows, i, labels, out, a)
+    pen.byte(b'\t');
+    put_label(pen, rows, i, labels);
 }
 
 // The two rows between which segment s lies.
-fn put_rows(k: Kind, rows: usize, s: usize, labels: &[u8], out: &mut [u8], at: usize) -> usize
+fn put_rows(pen: &mut Pen, k: Kind, rows: usize, s: usize, labels: &[u8])
     requires rows { rows ≤ most }
     requires segment { s < most_knots }
     requires labels { length labels.now ≡ cells }
-    requires room { at + 35 ≤ length out.old }
-    ensures text { Wrote out.old at (rows_text k (labels_to labels.now rows) s) out.new result }
-    ensures short { result ≤ at + 35 }
+    requires room { HasRoom pen.old 35 }
+    ensures { Writes pen.old (rows_text k (labels_to labels.now rows) s) 35 pen.new }
 {
-    let a = put_start(k, rows, s, labels, &mut *out, at);
-    let b = put_start(k, rows, s + 1, labels, &mut *out, a);
-    text::put_byte(out, b, b'\n')
+    put_start(pen, k, rows, s, labels);
+    put_start(pen, k, rows, s + 1, labels);
+    pen.byte(b'\n');
 }
 
 // The whole second; where there is no span, the parameter.
-fn put_when(span: u32, s: u32, x: f64, out: &mut [u8], at: usize) -> usize
+fn put_when(pen: &mut Pen, span: u32, s: u32, x: f64)
     requires second { s ≤ day }
-    requires room { at + 21 ≤ length out.old }
-    ensures text { Wrote out.old at (when_text span s x) out.new result }
-    ensures short { result ≤ at + 21 }
+    requires room { HasRoom pen.old 21 }
+    ensures { Writes pen.old (when_text span s x) 21 pen.new }
 {
     if 1 <= span {
-        return text::put_decimal(out, at, s, 4);
+        pen.decimal(s as u64, 4);
+    } else {
+        put_digits(pen, x, 6);
     }
-    put_digits(out, at, x, 6)
 }
 
 // One depth's place: when it is reached, and between which rows.
 fn put_reached(
+    pen: &mut Pen,
     k: Kind,
     rows: usize,
     span: u32,
@@ -351,52 +334,46 @@ fn put_reached(
     s: u32,
     p: Place,
     labels: &[u8],
-    out: &mut [u8],
-    at: usize,
-) -> usize
+)
     requires rows { rows ≤ most }
     requires second { s ≤ day }
     requires segment { p.segment < most_knots }
     requires labels { length labels.now ≡ cells }
-    requires room { at + 86 ≤ length out.old }
-    ensures text { Wrote out.old at (reached_text k (labels_to labels.now rows) span y s p)
-        out.new result }
-    ensures short { result ≤ at + 86 }
+    requires room { HasRoom pen.old 86 }
+    ensures { Writes pen.old (reached_text k (labels_to labels.now rows) span y s p) 86 pen.new }
 {
-    let a = text::put_word(&mut *out, at, b"reached\t");
-    let b = put_digits(&mut *out, a, y, 3);
-    let c = text::put_byte(&mut *out, b, b'\t');
-    let d = put_when(span, s, p.parameter, &mut *out, c);
-    put_rows(k, rows, p.segment, labels, out, d)
+    pen.word(b"reached\t");
+    put_digits(pen, y, 3);
+    pen.byte(b'\t');
+    put_when(pen, span, s, p.parameter);
+    put_rows(pen, k, rows, p.segment, labels);
 }
 
 // What `stopped` says of the depth, in the words of the answer.
 fn put_job(
+    pen: &mut Pen,
     k: Kind,
     rows: usize,
     span: u32,
     y: f64,
-    j: Job,
+    j: Result<Job, Miss>,
     labels: &[u8],
-    out: &mut [u8],
-    at: usize,
-) -> usize
+)
     requires rows { rows ≤ most }
     requires job { Placed j }
     requires labels { length labels.now ≡ cells }
-    requires room { at + 86 ≤ length out.old }
-    ensures text { Wrote out.old at (job_text k (labels_to labels.now rows) span y j) out.new result }
-    ensures short { result ≤ at + 86 }
+    requires room { HasRoom pen.old 86 }
+    ensures { Writes pen.old (job_text k (labels_to labels.now rows) span y j) 86 pen.new }
 {
     match j {
-        Job::Refused(r) => lines_reply::put_refused(out, at, r),
-        Job::OffCurve(_) => lines_reply::put_refused(out, at, Refusal::OffCurve),
-        Job::Flat => text::put_word(out, at, b"flat\n"),
-        Job::Before => put_side(b"before\t", y, out, at),
-        Job::Start => put_side(b"start\t", y, out, at),
-        Job::UnderWay(s, p) => put_reached(k, rows, span, y, s, p, labels, out, at),
-        Job::End => put_side(b"end\t", y, out, at),
-        Job::Beyond => put_side(b"beyond\t", y, out, at),
+        Err(Miss::Refused(r)) => put_refused(pen, r),
+        Err(Miss::OffCurve(_)) => put_refused(pen, Refusal::OffCurve),
+        Ok(Job::Flat) => pen.word(b"flat\n"),
+        Ok(Job::Before) => put_side(pen, b"before\t", y),
+        Ok(Job::Start) => put_side(pen, b"start\t", y),
+        Ok(Job::UnderWay(s, p)) => put_reached(pen, k, rows, span, y, s, p, labels),
+        Ok(Job::End) => put_side(pen, b"end\t", y),
+        Ok(Job::Beyond) => put_side(pen, b"beyond\t", y),
     }
 }
 
@@ -415,31 +392,21 @@ fn table_by(k: Kind, span: u32) -> Table
 }
 
 // The answer to `find`: how far a job had come that stopped at the depth y.
-fn put_find(
-    k: Kind,
-    rows: usize,
-    span: u32,
-    y: f64,
-    labels: &[u8],
-    knots: &[f64],
-    out: &mut [u8],
-    at: usize,
-) -> usize
+fn put_find(pen: &mut Pen, k: Kind, rows: usize, span: u32, y: f64, labels: &[u8], knots: &[f64])
     requires rows { rows ≤ most }
     requires span { span ≤ day }
     requires labels { length labels.now ≡ cells }
     requires few { length knots.now ≤ most }
-    requires room { at + 86 ≤ length out.old }
-    ensures text { Wrote out.old at (find_text k knots.now (labels_to labels.now rows) span y)
-        out.new result }
-    ensures short { result ≤ at + 86 }
+    requires room { HasRoom pen.old 86 }
+    ensures { Writes pen.old (find_text k knots.now (labels_to labels.now rows) span y) 86 pen.new }
 {
     let j = stopped::stopped(table_by(k, span), y, knots, false);
-    put_job(k, rows, span, y, j, labels, out, at)
+    put_job(pen, k, rows, span, y, j, labels);
 }
 
 // ---- the answer to a question
 fn put_answer(
+    pen: &mut Pen,
     k: Kind,
     rows: usize,
     n: usize,
@@ -447,31 +414,27 @@ fn put_answer(
     q: Question,
     labels: &[u8],
     knots: &[f64],
-    out: &mut [u8],
-    at: usize,
-) -> usize
+)
     requires rows { rows ≤ most }
     requires enough { 4 ≤ n }
     requires few { n ≤ most }
     requires span { span ≤ day }
     requires labels { length labels.now ≡ cells }
     requires knots { length knots.now ≡ most }
-    requires room { at + longest ≤ length out.old }
-    ensures text { Wrote out.old at
-        (text_by k (take n knots.now) (labels_to labels.now rows) span q) out.new result }
-    ensures short { result ≤ at + longest }
+    requires room { HasRoom pen.old longest }
+    ensures { Writes pen.old (text_by k (take n knots.now) (labels_to labels.now rows) span q) longest pen.new }
 {
     let b = ask_verdict::basis_of(k);
     match q {
         Question::Table => {
             let bare = Table { basis: b, span: 0 };
-            lines_reply::put_reply(LineReply::Curve(bare, n), knots, out, at)
+            put_reply(pen, LineReply::Curve(bare, n), knots)
         }
-        Question::Row(m) => put_row(k, n, m, out, at),
-        Question::Find(y) => put_find(k, rows, span, y, labels, &knots[0..n], out, at),
-        Question::At(m) => put_at(b, &knots[0..n], span, m, out, at),
-        Question::Every(m) => put_every(b, &knots[0..n], span, m, out, at),
-        Question::Nothing => lines_reply::put_refused(out, at, Refusal::BadLine),
+        Question::Row(m) => put_row(pen, k, n, m),
+        Question::Find(y) => put_find(pen, k, rows, span, y, labels, &knots[0..n]),
+        Question::At(m) => put_at(pen, b, &knots[0..n], span, m),
+        Question::Every(m) => put_every(pen, b, &knots[0..n], span, m),
+        Question::Nothing => put_refused(pen, Refusal::BadLine),
     }
 }
 
@@ -489,8 +452,7 @@ pub fn answer(
     rows: usize,
     n: usize,
     span: u32,
-    len: usize,
-    line: &[u8],
+    line: Option<&[u8]>,
     labels: &[u8],
     knots: &[f64],
     out: &mut [u8],
@@ -500,21 +462,21 @@ pub fn answer(
     requires enough { 4 ≤ n }
     requires few { n ≤ most }
     requires span { span ≤ day }
-    requires line { length line.now ≡ widest }
     requires labels { length labels.now ≡ cells }
     requires knots { length knots.now ≡ most }
     requires room { at + longest ≤ length out.old }
     ensures text { Wrote out.old at (answer_text k (take n knots.now) (labels_to labels.now rows) span
-        (open_of len line.now)) out.new result.at }
+        (said_of line.entry)) out.new result.at }
     ensures short { result.at ≤ at + longest }
-    ensures span_after { result.span ≡ span_after k (take n knots.now) span (open_of len line.now) }
+    ensures span_after { result.span ≡ span_after k (take n knots.now) span (said_of line.entry) }
     ensures span_most { result.span ≤ day }
 {
-    let q = asked(len, line);
+    let q = asked(line);
     let after = span_by(k, n, span, q);
-    let next = put_answer(k, rows, n, span, q, labels, knots, out, at);
+    let mut pen = Pen::new(out, at);
+    put_answer(&mut pen, k, rows, n, span, q, labels, knots);
     Answered {
         span: after,
-        at: next,
+        at: pen.at(),
     }
 }

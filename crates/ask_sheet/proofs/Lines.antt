@@ -1,4 +1,6 @@
 -- A sheet's lines, case by case. Assumes nothing.
+use Rattle.basis.specs.declared.Basis.{Basis}
+use Rattle.std.specs.Prelude.{Option, Some, None, Bool, ℕ}
 use mathlib.Core.Path.{◌≡◌, refl, sym, ap, ◌∙◌}
 use mathlib.Core.Bool.{Bool, true, false}
 use mathlib.Core.List.{List, [], ◌∷◌, ◌++◌}
@@ -12,17 +14,11 @@ use lib.Seq.{take-suc-set, length-take-le}
 use Rattle.whole.specs.Held.{held, held_all}
 use Rattle.whole.proofs.Held.{back, long}
 use Rattle.text.specs.Text.{bytes, same, tab_of}
-use Rattle.lines_record.specs.declared.BasisName.{BasisName}
 use Rattle.lines_record.specs.Record.{named_of}
 use Rattle.lines_machine.specs.Program.{widest, Line, so, over}
-use Rattle.lines_machine.specs.Contract.{open_of}
-use Rattle.sheet.specs.declared.Depth.{Depth}
-use Rattle.sheet.specs.declared.Depth.TheVariants as D
 use Rattle.sheet.specs.Sheet.{most, depth_line}
 use Rattle.ask_sheet.specs.declared.Kind.{Kind}
 use Rattle.ask_sheet.specs.declared.Kind.TheVariants.{Monotone}
-use Rattle.ask_sheet.specs.declared.KindName.{KindName}
-use Rattle.ask_sheet.specs.declared.KindName.TheVariants as K
 use Rattle.ask_sheet.specs.declared.Reason.{Reason}
 use Rattle.ask_sheet.specs.declared.Reason.TheVariants.{Long, NoLabel, NoDepth, Many}
 use Rattle.ask_sheet.specs.Sheet.{Sheet, unbegun, on, faulty, drawn, kind_of, named, whole_of, most_in, added, grown, after_of}
@@ -45,11 +41,11 @@ map_append (a ∷ x) y = ap (λ (l : List ℤ). held a ∷ l) (map_append x y)
 
 -- ---- the first line
 module _ (l : List ℕ) {r : Bool} (is : r ≡ same l (bytes "Monotone")) where
-  pub is_monotone : r ≡ true → K.Is Monotone ≡ kind_of l
+  pub is_monotone : r ≡ true → Some Monotone ≡ kind_of l
   unfolding kind_of
   is_monotone e = rw (sym is ∙ e) refl
 
-  pub is_drawn : r ≡ false → {n : BasisName} {k : KindName} → n ≡ named_of l → k ≡ drawn n → k ≡ kind_of l
+  pub is_drawn : r ≡ false → {n : Option Basis} {k : Option Kind} → n ≡ named_of l → k ≡ drawn n → k ≡ kind_of l
   unfolding kind_of
   is_drawn e {n} {k} p q = rw (sym is ∙ e) (q ∙ ap drawn p)
 
@@ -74,11 +70,11 @@ module _ (k : Kind) (n : ℕ) (rows : List ℤ) (few : n ≤ most) (full : lengt
     unfolding grown
     labelled = rw (← is, le-leb 1 t h, le-leb t 16 g) refl
 
-    pub no_depth : {d : Depth} → d ≡ depth_line l → d ≡ D.Nothing → faulty (n + 2) NoDepth ≡ grown k z ls l
-    no_depth {d} p q = let w : depth_line l ≡ D.Nothing = sym p ∙ q in rw (← labelled, w, many) refl
+    pub no_depth : {d : Option (Bool × ℕ)} → d ≡ depth_line l → d ≡ None → faulty (n + 2) NoDepth ≡ grown k z ls l
+    no_depth {d} p q = let w : depth_line l ≡ None = sym p ∙ q in rw (← labelled, w, many) refl
 
-    module _ (minus : Bool) (m : ℕ) {d : Depth} (p : d ≡ depth_line l) (q : d ≡ D.Is minus m) where
-      said : depth_line l ≡ D.Is minus m
+    module _ (minus : Bool) (m : ℕ) {d : Option (Bool × ℕ)} (p : d ≡ depth_line l) (q : d ≡ Some (minus, m)) where
+      said : depth_line l ≡ Some (minus, m)
       said = sym p ∙ q
 
       pub too_large : most_in k < m → faulty (n + 2) NoDepth ≡ grown k z ls l
@@ -97,31 +93,24 @@ module _ (k : Kind) (n : ℕ) (rows : List ℤ) (few : n ≤ most) (full : lengt
           rw (← labelled, said, le-ltb (most_in k) m r, many, lt-ltb n most o, rowed, f, u) refl
 
 -- ---- a line as it is held
-open_so : (n : ℕ) (line : List ℕ) → n ≤ widest → open_of n line ≡ so (take (n - 0) line)
-open_so n line h = let z : n - 0 ≡ n = omega arith in rw (z, le-leb n widest h) refl
-
-open_over : (n : ℕ) (line : List ℕ) → widest < n → open_of n line ≡ over
-open_over n line h = rw (lt-leb n widest h) refl
-
-pub named_line : (n : ℕ) (line : List ℕ) {s : Sheet} → n ≤ widest → s ≡ named (kind_of (take (n - 0) line)) → s ≡ after_of unbegun (open_of n line)
+pub named_line : (l : List ℕ) {s : Sheet} → s ≡ named (kind_of l) → s ≡ after_of unbegun (so l)
 unfolding after_of
-named_line n line h e = rw (open_so n line h) e
+named_line l e = e
 
-pub grown_line : (k : Kind) (z : List ℤ) (ls : List (List ℕ)) (n : ℕ) (line : List ℕ) {s : Sheet} → n ≤ widest → s ≡ grown k z ls (take (n - 0) line)
-    → s ≡ after_of (on k z ls) (open_of n line)
+pub grown_line : (k : Kind) (z : List ℤ) (ls : List (List ℕ)) (l : List ℕ) {s : Sheet} → s ≡ grown k z ls l → s ≡ after_of (on k z ls) (so l)
 unfolding after_of
-grown_line k z ls n line h e = rw (open_so n line h) e
+grown_line k z ls l e = e
 
-pub over_first : (n : ℕ) (line : List ℕ) → widest < n → faulty 1 Long ≡ after_of unbegun (open_of n line)
+pub over_first : faulty 1 Long ≡ after_of unbegun over
 unfolding after_of
-over_first n line h = rw (open_over n line h) refl
+over_first = refl
 
-pub over_later : (k : Kind) (m : ℕ) (rows : List ℤ) (ls : List (List ℕ)) (n : ℕ) (line : List ℕ) → m ≤ most → length rows ≡ most → widest < n
-    → faulty (m + 2) Long ≡ after_of (on k (held_all (take m rows)) ls) (open_of n line)
+pub over_later : (k : Kind) (m : ℕ) (rows : List ℤ) (ls : List (List ℕ)) → m ≤ most → length rows ≡ most
+    → faulty (m + 2) Long ≡ after_of (on k (held_all (take m rows)) ls) over
 unfolding after_of
-over_later k m rows ls n line few full h =
+over_later k m rows ls few full =
     let z : length (held_all (take m rows)) ≡ m = long (take m rows) ∙ length-take-le m rows (omega arith) in
-    rw (open_over n line h, z) refl
+    rw z refl
 
 pub still_faulty : (n : ℕ) (r : Reason) (o : Line) → faulty n r ≡ after_of (faulty n r) o
 unfolding after_of

@@ -4,26 +4,17 @@
 ghost use Rattle.std.specs.Prelude.{◌≡◌, List, ◌++◌, ◌∷◌, [], ℕ, min, ◌+◌, ◌*◌, ◌≤◌, ◌<◌, ℤ, length, take, get_or};
 ghost use Rattle.whole.specs.Held.{held_all};
 ghost use Rattle.sheet.specs.Sheet.{most};
-ghost use Rattle.lines_machine.specs.Program.{widest};
-ghost use Rattle.lines_machine.specs.Contract.{open_of};
+ghost use Rattle.lines_machine.specs.Contract.{said_of};
 ghost use Rattle.ask_sheet.specs.Sheet.{kind_of, named, whole_of, most_in, grown, after_of};
 ghost use Rattle.ask_sheet.specs.Contract.{cells, label_at, labels_to, sheet_of, line_in, last_line};
 
 use basis::Basis;
-use lines_record::BasisName;
-use sheet::Depth;
 
 // The curve that a sheet names: drawn over a basis, or through every row without turning back where they do not.
 #[derive(Clone, Copy)]
 pub enum Kind {
     Drawn(Basis),
     Monotone,
-}
-
-#[derive(Clone, Copy)]
-pub enum KindName {
-    Is(Kind),
-    Nothing,
 }
 
 // What is wrong with a line: too long, no basis, no label, no depth, a depth too many; or there is none.
@@ -46,16 +37,14 @@ pub enum SheetHeld {
 }
 
 // The kind of curve that a sheet's first line names.
-fn kind_named(l: &[u8]) -> KindName
+fn kind_named(l: &[u8]) -> Option<Kind>
     ensures { result ≡ kind_of l.now }
 {
     if text::is_word(l, b"Monotone") {
-        return KindName::Is(Kind::Monotone);
+        return Some(Kind::Monotone);
     }
-    let BasisName::Is(b) = lines_record::basis_named(l) else {
-        return KindName::Nothing;
-    };
-    KindName::Is(Kind::Drawn(b))
+    let b = lines_record::basis_named(l)?;
+    Some(Kind::Drawn(b))
 }
 
 // The first line.
@@ -63,7 +52,7 @@ fn first(l: &[u8]) -> SheetHeld
     ensures sheet { (t : List ℤ) (s : List ℕ) → sheet_of result t s ≡ named (kind_of l.now) }
     ensures line_after { line_in result ≤ last_line }
 {
-    let KindName::Is(k) = kind_named(l) else {
+    let Some(k) = kind_named(l) else {
         return SheetHeld::Faulty(1, Reason::NoBasis);
     };
     SheetHeld::On(k, 0)
@@ -95,11 +84,7 @@ pub fn label_len(labels: &[u8], i: usize) -> usize
     requires { 17 * i < length labels.now }
     ensures { result ≡ min (get_or labels.now (17 * i) 0) 16 }
 {
-    let k = labels[17 * i] as usize;
-    if k <= 16 {
-        return k;
-    }
-    16
+    (labels[17 * i] as usize).min(16)
 }
 
 // Label n, behind those before it.
@@ -130,7 +115,7 @@ fn add(k: Kind, n: usize, l: &[u8], rows: &mut [i64], labels: &mut [u8]) -> Shee
     if 16 < t {
         return SheetHeld::Faulty(n + 2, Reason::NoLabel);
     }
-    let Depth::Is(minus, m) = sheet::depth_line(l) else {
+    let Some((minus, m)) = sheet::depth_line(l) else {
         return SheetHeld::Faulty(n + 2, Reason::NoDepth);
     };
     if most_in(k) < m {
@@ -145,29 +130,24 @@ fn add(k: Kind, n: usize, l: &[u8], rows: &mut [i64], labels: &mut [u8]) -> Shee
     SheetHeld::Faulty(n + 2, Reason::Many)
 }
 
-// A line of len bytes, the first ones of the lent 64; 65 for one that is too long.
-pub fn line(h: SheetHeld, len: usize, line: &[u8], rows: &mut [i64], labels: &mut [u8]) -> SheetHeld
-    requires line { length line.now ≡ widest }
+// The sheet after a line.
+pub fn line(h: SheetHeld, line: Option<&[u8]>, rows: &mut [i64], labels: &mut [u8]) -> SheetHeld
     requires held { line_in h ≤ last_line }
     requires rows { length rows.old ≡ most }
     requires labels { length labels.old ≡ cells }
     ensures sheet { sheet_of result rows.new labels.new ≡
-        after_of (sheet_of h rows.old labels.old) (open_of len line.now) }
+        after_of (sheet_of h rows.old labels.old) (said_of line.entry) }
     ensures line_after { line_in result ≤ last_line }
 {
     match h {
-        SheetHeld::Unbegun => {
-            if len <= lines_machine::WIDEST {
-                return first(&line[0..len]);
-            }
-            SheetHeld::Faulty(1, Reason::Long)
-        }
-        SheetHeld::On(k, n) => {
-            if len <= lines_machine::WIDEST {
-                return add(k, n, &line[0..len], rows, labels);
-            }
-            SheetHeld::Faulty(n + 2, Reason::Long)
-        }
+        SheetHeld::Unbegun => match line {
+            Some(l) => first(l),
+            None => SheetHeld::Faulty(1, Reason::Long),
+        },
+        SheetHeld::On(k, n) => match line {
+            Some(l) => add(k, n, l, rows, labels),
+            None => SheetHeld::Faulty(n + 2, Reason::Long),
+        },
         SheetHeld::Faulty(n, r) => SheetHeld::Faulty(n, r),
     }
 }

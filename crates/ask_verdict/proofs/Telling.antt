@@ -2,7 +2,7 @@
 use mathlib.Core.Path.{◌≡◌, refl, ap, ◌∙◌, subst}
 use mathlib.Core.Bool.{Bool, true, false, ◌&&◌}
 use mathlib.Core.List.{List, [], ◌∷◌, map}
-use Prim.Native.Nat.{ℕ, suc, ◌*◌, ◌≤◌, ◌<◌}
+use Prim.Native.Nat.{ℕ, suc, ◌+◌, ◌*◌, ◌≤◌, ◌<◌}
 use native.Mathlib.Omega.{arith}
 use borrow.Author.Tests.{leb-true}
 use lib.Dec.{leb}
@@ -15,8 +15,9 @@ use Rattle.basis.specs.Basis.{segments_of, regular}
 use Rattle.inverse.specs.declared.Ends.{Ends}
 use Rattle.inverse.specs.EndRule.{curve_rule}
 use Rattle.spline.specs.Segment.{segment_of}
-use Rattle.text.specs.Wrote.{Wrote}
-use Rattle.text.proofs.Writing.{then}
+use Rattle.text.specs.Pens.{Writes}
+use Rattle.text.specs.declared.pen.Pen.{Pen}
+use Rattle.text.proofs.Pens.{within, chained}
 use Rattle.whole.specs.Held.{held_all, Small}
 use Rattle.whole.proofs.Held.{back, small_all}
 use Rattle.turns_back.specs.Call as turns
@@ -35,39 +36,40 @@ use Rattle.ask_verdict.specs.Curve.{basis_of, knots_of, suits, double_of, double
 use Rattle.ask_verdict.specs.Faults.{faults_of}
 use Rattle.ask_verdict.specs.Told.{faults_text, none, ends_in, fine_text, number_text, line_text, told_of, verdict_of, asked_by, asked_of, Asked, bad, fine}
 use Rattle.ask_verdict.specs.Contract.{Drawing, Asks}
-use Rattle.ask_verdict.proofs.Texts.{as_text, none_is, some_is}
+use Rattle.ask_verdict.proofs.Texts.{as_told, none_is, some_is}
 
 empty : (l : List ℕ) → length l ≡ 0 → l ≡ []
 empty [] e = refl
 empty (a ∷ l) e = absurd (omega arith)
 
-module _ (k : Kind) (z : List ℤ) (ls : List (List ℕ)) {o o₁ : List ℕ} {at r : ℕ} (w : Wrote o at (faults_text (faults_of k z ls)) o₁ r) where
-  module _ (h : at < r) where
-    some : none (faults_of k z ls) ≡ false
-    some = some_is (faults_of k z ls) (omega (arith, w.next))
+module _ (k : Kind) (z : List ℤ) (ls : List (List ℕ)) {p q : Pen} {m : ℕ} (w : Writes p (faults_text (faults_of k z ls)) m q) where
+  next : q.at ≡ p.at + length (faults_text (faults_of k z ls))
+  next = ap (λ (x : Pen). x.at) w.text
 
-    pub faults_told : Wrote o at (told_of k z (faults_of k z ls)) o₁ r
+  module _ (h : p.at < q.at) where
+    some : none (faults_of k z ls) ≡ false
+    some = some_is (faults_of k z ls) (omega (arith, next))
+
+    pub faults_told : Writes p (told_of k z (faults_of k z ls)) m q
     faults_told = rw some w
 
     pub not_asked : bad ≡ asked_by k z ls
     not_asked = rw some refl
 
-  module _ (h : r ≤ at) where
+  module _ (h : q.at ≤ p.at) where
     nil : length (faults_text (faults_of k z ls)) ≡ 0
-    nil = omega (arith, w.next)
+    nil = omega (arith, next)
 
     no_fault : none (faults_of k z ls) ≡ true
     no_fault = none_is (faults_of k z ls) nil
 
-    unwritten : Wrote o at [] o₁ at
-    unwritten =
-        let e : r ≡ at = omega (arith, w.next) in
-        subst (λ (n : ℕ). Wrote o at [] o₁ n) e (as_text (empty (faults_text (faults_of k z ls)) nil) w)
+    unwritten : Writes p [] 0 q
+    unwritten = record { text = (as_told (empty (faults_text (faults_of k z ls)) nil) w).text; short = omega arith; room = w.room }
 
-    pub fine_told : {o₂ : List ℕ} {q n : ℕ} {e : Ends} → n ≡ length z → e ≡ ends_in (basis_of k) (doubles_of k z) → Wrote o₁ at (fine_text n e) o₂ q
-        → Wrote o at (told_of k z (faults_of k z ls)) o₂ q
-    fine_told {o₂} {q} {n} {e} p f v =
-        rw no_fault (as_text (ap (λ (m : ℕ). fine_text m e) p ∙ ap (λ (x : Ends). fine_text (length z) x) f) (then unwritten v))
+    pub fine_told : {r : Pen} {n f : ℕ} {e : Ends} → n ≡ length z → e ≡ ends_in (basis_of k) (doubles_of k z) → Writes q (fine_text n e) f r
+        → Writes p (told_of k z (faults_of k z ls)) f r
+    fine_told {r} {n} {f} {e} b g v =
+        rw no_fault (as_told (ap (λ (m : ℕ). fine_text m e) b ∙ ap (λ (x : Ends). fine_text (length z) x) g) (within f (chained unwritten v) (omega arith)))
 
     pub may_be_asked : {ks : List Float} → ks ≡ doubles_of k z → fine k ks ls 0 ≡ asked_by k z ls
     may_be_asked q = rw no_fault (ap (λ (l : List Float). fine k l ls 0) q)
@@ -158,9 +160,9 @@ module _ (k : Kind) (z : List ℤ) (ls : List (List ℕ)) (n : ℕ) (many : leng
     suited : suits k (length z) ≡ true
     suited = ap (suits k) many ∙ s
 
-    pub suited_text : {o o' : List ℕ} {at r : ℕ} → Wrote o at (told_of k z (faults_of k z ls)) o' r → Wrote o at (verdict_of (on k z ls)) o' r
+    pub suited_text : told_of k z (faults_of k z ls) ≡ verdict_of (on k z ls)
     unfolding verdict_of
-    suited_text w = rw suited w
+    suited_text = rw suited refl
 
     pub suited_asked : {a : Asked} → a ≡ asked_by k z ls → a ≡ asked_of (on k z ls)
     unfolding asked_of
@@ -170,25 +172,25 @@ module _ (k : Kind) (z : List ℤ) (ls : List (List ℕ)) (n : ℕ) (many : leng
     unsuited : suits k (length z) ≡ false
     unsuited = ap (suits k) many ∙ s
 
-    pub unsuited_text : {o o' : List ℕ} {at r : ℕ} → Wrote o at (number_text (bytes "length\t") n) o' r → Wrote o at (verdict_of (on k z ls)) o' r
+    pub unsuited_text : number_text (bytes "length\t") n ≡ verdict_of (on k z ls)
     unfolding verdict_of
-    unsuited_text w = rw (unsuited, many) w
+    unsuited_text = rw (unsuited, many) refl
 
     pub unsuited_asked : bad ≡ asked_of (on k z ls)
     unfolding asked_of
     unsuited_asked = rw unsuited refl
 
-pub missing_text : {o o' : List ℕ} {at r : ℕ} → Wrote o at (line_text 1 Missing) o' r → Wrote o at (verdict_of unbegun) o' r
+pub missing_text : line_text 1 Missing ≡ verdict_of unbegun
 unfolding verdict_of
-missing_text w = w
+missing_text = refl
 
 pub missing_asked : bad ≡ asked_of unbegun
 unfolding asked_of
 missing_asked = refl
 
-pub faulty_text : (n : ℕ) (y : Reason) {o o' : List ℕ} {at r : ℕ} → Wrote o at (line_text n y) o' r → Wrote o at (verdict_of (faulty n y)) o' r
+pub faulty_text : (n : ℕ) (y : Reason) → line_text n y ≡ verdict_of (faulty n y)
 unfolding verdict_of
-faulty_text n y w = w
+faulty_text n y = refl
 
 pub faulty_asked : (n : ℕ) (y : Reason) → bad ≡ asked_of (faulty n y)
 unfolding asked_of

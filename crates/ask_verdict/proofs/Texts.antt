@@ -8,7 +8,9 @@ use native.Mathlib.Numerals.{add-one}
 use lib.IntN.{ℤ}
 use lib.ListN.{length, length-append}
 use Rattle.text.specs.Wrote.{Wrote}
-use Rattle.text.proofs.Writing.{then}
+use Rattle.text.specs.Pens.{Writes}
+use Rattle.text.specs.declared.pen.Pen.{Pen}
+use Rattle.text.proofs.Pens.{nothing, chained}
 use Rattle.turns_back.specs.declared.Way.{Way}
 use Rattle.ask_sheet.specs.declared.Kind.{Kind}
 use Rattle.ask_verdict.specs.Faults.{Fault, twice, turns, falls, flat, twice_at, bent_at, faults_to, flat_by, way_in, faults_of}
@@ -16,6 +18,13 @@ use Rattle.ask_verdict.specs.Told.{fault_text, faults_text, none}
 
 pub as_text : {o o' t t' : List ℕ} {at r : ℕ} → t ≡ t' → Wrote o at t o' r → Wrote o at t' o' r
 as_text {o} {o'} {t} {t'} {at} {r} e w = subst (λ (x : List ℕ). Wrote o at x o' r) e w
+
+pub as_told : {p q : Pen} {t t' : List ℕ} {n : ℕ} → t ≡ t' → Writes p t n q → Writes p t' n q
+as_told {p} {q} {n = n} e w = subst (λ (x : List ℕ). Writes p x n q) e w
+
+-- nothing is written
+pub still : (n : ℕ) (p : Pen) → Writes p [] n p
+still n p = record { text = sym (nothing p); short = omega arith; room = refl }
 
 pub texts_append : (a b : List Fault) → faults_text a ++ faults_text b ≡ faults_text (a ++ b)
 unfolding faults_text
@@ -32,27 +41,26 @@ unfolding faults_text
 no_text = refl
 
 -- a row more
-pub row_more : (k : Kind) (w : Way) (z : List ℤ) (ls : List (List ℕ)) (i : ℕ) {o o₁ o₂ o₃ : List ℕ} {at r₁ r₂ r₃ : ℕ}
-    → Wrote o at (faults_text (faults_to k w z ls i)) o₁ r₁ → Wrote o₁ r₁ (faults_text (twice_at ls i)) o₂ r₂
-    → Wrote o₂ r₂ (faults_text (bent_at k w z i)) o₃ r₃
-    → Wrote o at (faults_text (faults_to k w z ls (i + 1))) o₃ r₃
+pub row_more : (k : Kind) (w : Way) (z : List ℤ) (ls : List (List ℕ)) (i : ℕ) {p q r o : Pen} {m a b : ℕ}
+    → Writes p (faults_text (faults_to k w z ls i)) m q → Writes q (faults_text (twice_at ls i)) a r → Writes r (faults_text (bent_at k w z i)) b o
+    → Writes p (faults_text (faults_to k w z ls (i + 1))) (m + (a + b)) o
 unfolding faults_to
 row_more k w z ls i a b c =
-    as_text (ap (λ (l : List ℕ). faults_text (faults_to k w z ls i) ++ l) (texts_append (twice_at ls i) (bent_at k w z i))
+    as_told (ap (λ (l : List ℕ). faults_text (faults_to k w z ls i) ++ l) (texts_append (twice_at ls i) (bent_at k w z i))
     ∙ texts_append (faults_to k w z ls i) (twice_at ls i ++ bent_at k w z i)
     ∙ ap (λ (n : ℕ). faults_text (faults_to k w z ls n)) (sym (add-one i)))
-    (then a (then b c))
+    (chained a (chained b c))
 
 pub no_rows : (k : Kind) (w : Way) (z : List ℤ) (ls : List (List ℕ)) → [] ≡ faults_text (faults_to k w z ls 0)
 unfolding faults_to faults_text
 no_rows k w z ls = refl
 
-pub all_rows : (k : Kind) (w : Way) (z : List ℤ) (ls : List (List ℕ)) {o o₁ o₂ : List ℕ} {at r₁ r₂ : ℕ} → w ≡ way_in k z
-    → Wrote o at (faults_text (faults_to k w z ls (length z))) o₁ r₁ → Wrote o₁ r₁ (faults_text (flat_by w)) o₂ r₂
-    → Wrote o at (faults_text (faults_of k z ls)) o₂ r₂
+pub all_rows : (k : Kind) (w : Way) (z : List ℤ) (ls : List (List ℕ)) {p q r : Pen} {m n : ℕ} → w ≡ way_in k z
+    → Writes p (faults_text (faults_to k w z ls (length z))) m q → Writes q (faults_text (flat_by w)) n r
+    → Writes p (faults_text (faults_of k z ls)) (m + n) r
 unfolding faults_of
 all_rows k w z ls e a b =
-    as_text (texts_append (faults_to k w z ls (length z)) (flat_by w) ∙ ap (λ (v : Way). faults_text (faults_to k v z ls (length z) ++ flat_by v)) e) (then a b)
+    as_told (texts_append (faults_to k w z ls (length z)) (flat_by w) ∙ ap (λ (v : Way). faults_text (faults_to k v z ls (length z) ++ flat_by v)) e) (chained a b)
 
 -- nothing is written where there is no fault, and something where there is one
 some_length : (f : Fault) → 0 < length (fault_text f)

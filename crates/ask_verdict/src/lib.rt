@@ -1,10 +1,11 @@
 // The verdict on a sheet: the line at fault, each fault of the curve in the order of the lines, or that it is fine.
-#![tactic(auto)]
+#![tactic(auto, using(text::proofs::Pens::pens))]
 
 ghost use Rattle.std.specs.Prelude.{◌≡◌, true, List, [], map, ℕ, suc, ◌+◌, ◌*◌, ◌≤◌, ◌<◌, ℤ, pos, nat_abs, Float, length, take, get_or};
 ghost use Rattle.basis.specs.Basis.{most_knots, step_of, segments_of};
 ghost use Rattle.inverse.specs.declared.Ends.{Ends};
 ghost use Rattle.text.specs.Text.{same};
+ghost use Rattle.text.specs.Pens.{HasRoom, Writes};
 ghost use Rattle.text.specs.Wrote.{Wrote};
 ghost use Rattle.whole.specs.Held.{held, held_all, turned_all, Small};
 ghost use Rattle.sheet.specs.Sheet.{most};
@@ -44,6 +45,7 @@ ghost use Rattle.ask_verdict.specs.Contract.{longest, Drawing, Askable, asked_in
 use ask_sheet::{Kind, Reason, SheetHeld};
 use basis::Basis;
 use inverse::Ends;
+use text::Pen;
 use turns_back::Way;
 
 // ---- the curve that a sheet draws
@@ -62,12 +64,7 @@ pub fn is_suited(k: Kind, n: usize) -> bool
 {
     match k {
         Kind::Drawn(b) => basis::is_len_ok(b, n),
-        Kind::Monotone => {
-            if n < 2 {
-                return false;
-            }
-            n <= 2048
-        }
+        Kind::Monotone => { 2 <= n && n <= 2048 }
     }
 }
 
@@ -139,45 +136,40 @@ fn first_same(labels: &[u8], n: usize, i: usize) -> usize
     ensures first { result ≡ first_same (labels_to labels.now n) i }
     ensures within { result ≤ i }
 {
-    let mut j = 0;
-    while j < i {
+    for j in 0..i {
         if is_same(labels, j, i) {
             return j;
         }
-        j += 1;
     }
-    j
+    i
 }
 
-// ---- text: each writes from place `at` on, and answers the place after it
-fn put_number(out: &mut [u8], at: usize, w: &[u8], n: usize) -> usize
+// ---- text
+fn put_number(pen: &mut Pen, w: &[u8], n: usize)
     requires word { length w.now ≤ 7 }
     requires number { n ≤ 4098 }
-    requires room { at + 13 ≤ length out.old }
-    ensures text { Wrote out.old at (number_text w.now n) out.new result }
-    ensures short { result ≤ at + length w.now + 6 }
+    requires room { HasRoom pen.old 13 }
+    ensures { Writes pen.old (number_text w.now n) (length w.now + 6) pen.new }
 {
-    let a = text::put_word(&mut *out, at, w);
-    let b = text::put_decimal(&mut *out, a, n as u32, 4);
-    text::put_byte(out, b, b'\n')
+    pen.word(w);
+    pen.decimal(n as u64, 4);
+    pen.byte(b'\n');
 }
 
 // A label that an earlier row has too: both rows' lines in the sheet.
-fn put_twice(labels: &[u8], n: usize, i: usize, out: &mut [u8], at: usize) -> usize
+fn put_twice(pen: &mut Pen, labels: &[u8], n: usize, i: usize)
     requires inside { i < n }
     requires few { n ≤ most }
     requires labels { length labels.now ≡ cells }
-    requires room { at + 24 ≤ length out.old }
-    ensures text { Wrote out.old at (faults_text (twice_at (labels_to labels.now n) i)) out.new result }
-    ensures short { result ≤ at + 18 }
+    requires room { HasRoom pen.old 24 }
+    ensures { Writes pen.old (faults_text (twice_at (labels_to labels.now n) i)) 18 pen.new }
 {
     let j = first_same(labels, n, i);
     if j < i {
-        let a = text::put_word(&mut *out, at, b"twice\t");
-        let b = text::put_decimal(&mut *out, a, (j + 2) as u32, 4);
-        return put_number(out, b, b"\t", i + 2);
+        pen.word(b"twice\t");
+        pen.decimal((j + 2) as u64, 4);
+        put_number(pen, b"\t", i + 2);
     }
-    at
 }
 
 // ---- depths
@@ -218,145 +210,93 @@ fn is_falling(b: Basis, up: bool, knots: &[i64], s: usize) -> bool
 }
 
 // Segment s, which begins at row i.
-fn put_bend_of(
-    k: Kind,
-    up: bool,
-    rows: &[i64],
-    knots: &[i64],
-    i: usize,
-    s: usize,
-    out: &mut [u8],
-    at: usize,
-) -> usize
+fn put_bend_of(pen: &mut Pen, k: Kind, up: bool, rows: &[i64], knots: &[i64], i: usize, s: usize)
     requires inside { i < length rows.now }
     requires curve { Drawing k (held_all rows.now) (held_all knots.now) }
     requires segment { s < segments_of (basis_of k) (length knots.now) }
-    requires room { at + 13 ≤ length out.old }
-    ensures text { Wrote out.old at (faults_text (bend_of k up (held_all rows.now) i s)) out.new result }
-    ensures short { result ≤ at + 12 }
+    requires room { HasRoom pen.old 13 }
+    ensures { Writes pen.old (faults_text (bend_of k up (held_all rows.now) i s)) 12 pen.new }
 {
     if is_turning(k, up, rows, i) {
-        return put_number(out, at, b"turns\t", i + 2);
+        return put_number(pen, b"turns\t", i + 2);
     }
     if is_falling(basis_of(k), up, knots, s) {
-        return put_number(out, at, b"falls\t", i + 2);
+        put_number(pen, b"falls\t", i + 2);
     }
-    at
 }
 
 // The segment that begins at row i, if one does.
-fn put_bend(
-    k: Kind,
-    up: bool,
-    rows: &[i64],
-    knots: &[i64],
-    i: usize,
-    out: &mut [u8],
-    at: usize,
-) -> usize
+fn put_bend(pen: &mut Pen, k: Kind, up: bool, rows: &[i64], knots: &[i64], i: usize)
     requires inside { i < length rows.now }
     requires curve { Drawing k (held_all rows.now) (held_all knots.now) }
-    requires room { at + 13 ≤ length out.old }
-    ensures text { Wrote out.old at (faults_text (bend_at k up (held_all rows.now) i)) out.new result }
-    ensures short { result ≤ at + 12 }
+    requires room { HasRoom pen.old 13 }
+    ensures { Writes pen.old (faults_text (bend_at k up (held_all rows.now) i)) 12 pen.new }
 {
     let first = first_row(k);
     if i < first {
-        return at;
+        return;
     }
     let step = row_step(k);
     if (i - first) % step != 0 {
-        return at;
+        return;
     }
     let s = (i - first) / step;
     if s < basis::segments(basis_of(k), knots.len()) {
-        return put_bend_of(k, up, rows, knots, i, s, out, at);
+        put_bend_of(pen, k, up, rows, knots, i, s);
     }
-    at
 }
 
 // By the curve's direction, if it has one.
-fn put_bent(
-    k: Kind,
-    w: Way,
-    rows: &[i64],
-    knots: &[i64],
-    i: usize,
-    out: &mut [u8],
-    at: usize,
-) -> usize
+fn put_bent(pen: &mut Pen, k: Kind, w: Way, rows: &[i64], knots: &[i64], i: usize)
     requires inside { i < length rows.now }
     requires curve { Drawing k (held_all rows.now) (held_all knots.now) }
-    requires room { at + 13 ≤ length out.old }
-    ensures text { Wrote out.old at (faults_text (bent_at k w (held_all rows.now) i)) out.new result }
-    ensures short { result ≤ at + 12 }
+    requires room { HasRoom pen.old 13 }
+    ensures { Writes pen.old (faults_text (bent_at k w (held_all rows.now) i)) 12 pen.new }
 {
     match w {
-        Way::Rising => put_bend(k, true, rows, knots, i, out, at),
-        Way::Falling => put_bend(k, false, rows, knots, i, out, at),
-        Way::Level => at,
+        Way::Rising => put_bend(pen, k, true, rows, knots, i),
+        Way::Falling => put_bend(pen, k, false, rows, knots, i),
+        Way::Level => {}
     }
 }
 
 // The faults of every row.
-fn put_rows(
-    k: Kind,
-    w: Way,
-    rows: &[i64],
-    knots: &[i64],
-    labels: &[u8],
-    out: &mut [u8],
-    at: usize,
-) -> usize
+fn put_rows(pen: &mut Pen, k: Kind, w: Way, rows: &[i64], knots: &[i64], labels: &[u8])
     requires curve { Drawing k (held_all rows.now) (held_all knots.now) }
     requires labels { length labels.now ≡ cells }
-    requires room { at + 122900 ≤ length out.old }
-    ensures text { Wrote out.old at (faults_text (faults_to k w (held_all rows.now)
-        (labels_to labels.now (length rows.now)) (length rows.now))) out.new result }
-    ensures short { result ≤ at + 30 * length rows.now }
+    requires room { HasRoom pen.old 122900 }
+    ensures { Writes pen.old (faults_text (faults_to k w (held_all rows.now)
+        (labels_to labels.now (length rows.now)) (length rows.now))) (30 * length rows.now) pen.new }
 {
-    let mut r = at;
-    let mut i = 0;
-    while i < rows.len() {
-        r = put_twice(labels, rows.len(), i, &mut *out, r);
-        r = put_bent(k, w, rows, knots, i, &mut *out, r);
-        i += 1;
+    for i in 0..rows.len() {
+        put_twice(pen, labels, rows.len(), i);
+        put_bent(pen, k, w, rows, knots, i);
     }
-    r
 }
 
 // A curve that starts and ends at one depth.
-fn put_flat(w: Way, out: &mut [u8], at: usize) -> usize
-    requires { at + 5 ≤ length out.old }
-    ensures text { Wrote out.old at (faults_text (flat_by w)) out.new result }
-    ensures short { result ≤ at + 5 }
+fn put_flat(pen: &mut Pen, w: Way)
+    requires { HasRoom pen.old 5 }
+    ensures { Writes pen.old (faults_text (flat_by w)) 5 pen.new }
 {
     match w {
-        Way::Rising => at,
-        Way::Falling => at,
-        Way::Level => text::put_word(out, at, b"flat\n"),
+        Way::Rising => {}
+        Way::Falling => {}
+        Way::Level => pen.word(b"flat\n"),
     }
 }
 
 // Every fault of the rows, row by row, and then of the curve as a whole.
-fn put_faults(
-    k: Kind,
-    rows: &[i64],
-    knots: &[i64],
-    labels: &[u8],
-    out: &mut [u8],
-    at: usize,
-) -> usize
+fn put_faults(pen: &mut Pen, k: Kind, rows: &[i64], knots: &[i64], labels: &[u8])
     requires curve { Drawing k (held_all rows.now) (held_all knots.now) }
     requires labels { length labels.now ≡ cells }
-    requires room { at + longest ≤ length out.old }
-    ensures text { Wrote out.old at (faults_text (faults_of k (held_all rows.now)
-        (labels_to labels.now (length rows.now)))) out.new result }
-    ensures short { result ≤ at + longest }
+    requires room { HasRoom pen.old longest }
+    ensures { Writes pen.old (faults_text (faults_of k (held_all rows.now)
+        (labels_to labels.now (length rows.now)))) longest pen.new }
 {
     let w = turns_back::way_taken(basis_of(k), knots);
-    let r = put_rows(k, w, rows, knots, labels, &mut *out, at);
-    put_flat(w, out, r)
+    put_rows(pen, k, w, rows, knots, labels);
+    put_flat(pen, w);
 }
 
 // ---- a fine sheet
@@ -381,36 +321,32 @@ fn fill(whole: &[i64], knots: &mut [f64])
     ensures knots { take (length whole.now) knots.new ≡ map double_of (held_all whole.now) }
     ensures long { length knots.new ≡ length knots.old }
 {
-    let mut i = 0;
-    while i < whole.len() {
-        knots[i] = double_of(whole[i]);
-        i += 1;
+    for (i, z) in whole.iter().enumerate() {
+        knots[i] = double_of(*z);
     }
 }
 
 // A depth with three digits.
-fn put_depth(out: &mut [u8], at: usize, x: f64) -> usize
-    requires { at + 21 ≤ length out.old }
-    ensures text { Wrote out.old at (depth_text x) out.new result }
-    ensures short { result ≤ at + 21 }
+fn put_depth(pen: &mut Pen, x: f64)
+    requires { HasRoom pen.old 21 }
+    ensures { Writes pen.old (depth_text x) 21 pen.new }
 {
-    text_rounded::put_rounded(out, at, text::to_bits(x), 3)
+    text_rounded::put_rounded(pen, text::to_bits(x), 3);
 }
 
 // The verdict on a sheet without a fault: its number of rows, and the depths at its ends.
-fn put_fine(n: usize, e: Ends, out: &mut [u8], at: usize) -> usize
+fn put_fine(pen: &mut Pen, n: usize, e: Ends)
     requires number { n ≤ most_knots }
-    requires room { at + longest ≤ length out.old }
-    ensures text { Wrote out.old at (fine_text n e) out.new result }
-    ensures short { result ≤ at + longest }
+    requires room { HasRoom pen.old longest }
+    ensures { Writes pen.old (fine_text n e) longest pen.new }
 {
-    let a = text::put_word(&mut *out, at, b"fine\t");
-    let b = text::put_decimal(&mut *out, a, n as u32, 4);
-    let c = text::put_byte(&mut *out, b, b'\t');
-    let d = put_depth(&mut *out, c, e.low);
-    let f = text::put_byte(&mut *out, d, b'\t');
-    let g = put_depth(&mut *out, f, e.high);
-    text::put_byte(out, g, b'\n')
+    pen.word(b"fine\t");
+    pen.decimal(n as u64, 4);
+    pen.byte(b'\t');
+    put_depth(pen, e.low);
+    pen.byte(b'\t');
+    put_depth(pen, e.high);
+    pen.byte(b'\n');
 }
 
 // What may be asked after the verdict: nothing; or of a kind of curve, over so many rows and knots, its span in whole seconds, 0 where none
@@ -428,83 +364,74 @@ pub struct Told {
     pub held: AskedHeld,
 }
 
-// A sheet that draws a curve: its faults, or that it is fine.
+// A sheet that draws a curve: its faults, or that it is fine. What may be asked after it.
 fn told_of(
+    pen: &mut Pen,
     k: Kind,
     rows: &[i64],
     whole: &[i64],
     labels: &[u8],
     knots: &mut [f64],
-    out: &mut [u8],
-    at: usize,
-) -> Told
+) -> AskedHeld
     requires curve { Drawing k (held_all rows.now) (held_all whole.now) }
     requires labels { length labels.now ≡ cells }
     requires knots { length knots.old ≡ most }
-    requires room { at + longest ≤ length out.old }
-    ensures text { Wrote out.old at (told_of k (held_all rows.now) (faults_of k (held_all rows.now)
-        (labels_to labels.now (length rows.now)))) out.new result.at }
-    ensures short { result.at ≤ at + longest }
-    ensures held { asked_in result.held knots.new labels.now ≡ asked_by k (held_all rows.now)
+    requires room { HasRoom pen.old longest }
+    ensures text { Writes pen.old (told_of k (held_all rows.now) (faults_of k (held_all rows.now)
+        (labels_to labels.now (length rows.now)))) longest pen.new }
+    ensures held { asked_in result knots.new labels.now ≡ asked_by k (held_all rows.now)
         (labels_to labels.now (length rows.now)) }
-    ensures few { Askable result.held }
+    ensures few { Askable result }
 {
-    let r = put_faults(k, rows, whole, labels, &mut *out, at);
-    if at < r {
-        return Told {
-            at: r,
-            held: AskedHeld::Bad,
-        };
+    let start = pen.at();
+    put_faults(pen, k, rows, whole, labels);
+    let end = pen.at();
+    if start < end {
+        return AskedHeld::Bad;
     }
     fill(whole, &mut *knots);
     let m = whole.len();
     let b = basis_of(k);
     let e = inverse::curve_ends(b, &knots[0..m], basis::segments(b, m));
-    let f = put_fine(rows.len(), e, out, at);
-    Told {
-        at: f,
-        held: AskedHeld::Fine(k, rows.len(), m, 0),
-    }
+    put_fine(pen, rows.len(), e);
+    AskedHeld::Fine(k, rows.len(), m, 0)
 }
 
 // Why a line of the sheet cannot be read, in one word.
-fn put_reason(r: Reason, out: &mut [u8], at: usize) -> usize
-    requires { at + 9 ≤ length out.old }
-    ensures text { Wrote out.old at (reason_text r) out.new result }
-    ensures short { result ≤ at + 9 }
+fn put_reason(pen: &mut Pen, r: Reason)
+    requires { HasRoom pen.old 9 }
+    ensures { Writes pen.old (reason_text r) 9 pen.new }
 {
     match r {
-        Reason::Long => text::put_word(out, at, b"\tlong\n"),
-        Reason::NoBasis => text::put_word(out, at, b"\tbasis\n"),
-        Reason::NoLabel => text::put_word(out, at, b"\tlabel\n"),
-        Reason::NoDepth => text::put_word(out, at, b"\tdepth\n"),
-        Reason::Many => text::put_word(out, at, b"\tmany\n"),
-        Reason::Missing => text::put_word(out, at, b"\tmissing\n"),
+        Reason::Long => pen.word(b"\tlong\n"),
+        Reason::NoBasis => pen.word(b"\tbasis\n"),
+        Reason::NoLabel => pen.word(b"\tlabel\n"),
+        Reason::NoDepth => pen.word(b"\tdepth\n"),
+        Reason::Many => pen.word(b"\tmany\n"),
+        Reason::Missing => pen.word(b"\tmissing\n"),
     }
 }
 
 // A line at fault.
-fn put_line(n: usize, r: Reason, out: &mut [u8], at: usize) -> usize
+fn put_line(pen: &mut Pen, n: usize, r: Reason)
     requires number { n ≤ last_line }
-    requires room { at + longest ≤ length out.old }
-    ensures text { Wrote out.old at (line_text n r) out.new result }
-    ensures short { result ≤ at + longest }
+    requires room { HasRoom pen.old longest }
+    ensures { Writes pen.old (line_text n r) longest pen.new }
 {
-    let a = text::put_word(&mut *out, at, b"line\t");
-    let b = text::put_decimal(&mut *out, a, n as u32, 4);
-    put_reason(r, out, b)
+    pen.word(b"line\t");
+    pen.decimal(n as u64, 4);
+    put_reason(pen, r);
 }
 
 // A sheet of n depths through which Monotone's curve is drawn, over the table that it makes of them.
 fn told_monotone(
+    pen: &mut Pen,
     n: usize,
     rows: &[i64],
     whole: &mut [i64],
     labels: &[u8],
     knots: &mut [f64],
-    out: &mut [u8],
-    at: usize,
-) -> Told
+) -> AskedHeld
     requires few { n ≤ most }
     requires suited { suits Monotone n ≡ true }
     requires rows { length rows.now ≡ most }
@@ -512,63 +439,97 @@ fn told_monotone(
     requires whole { length whole.old ≡ most_knots }
     requires labels { length labels.now ≡ cells }
     requires knots { length knots.old ≡ most }
-    requires room { at + longest ≤ length out.old }
-    ensures text { Wrote out.old at (told_of Monotone (held_all (take n rows.now))
-        (faults_of Monotone (held_all (take n rows.now)) (labels_to labels.now n))) out.new result.at }
-    ensures short { result.at ≤ at + longest }
-    ensures held { asked_in result.held knots.new labels.now ≡ asked_by Monotone
+    requires room { HasRoom pen.old longest }
+    ensures text { Writes pen.old (told_of Monotone (held_all (take n rows.now))
+        (faults_of Monotone (held_all (take n rows.now)) (labels_to labels.now n))) longest pen.new }
+    ensures held { asked_in result knots.new labels.now ≡ asked_by Monotone
         (held_all (take n rows.now))
         (labels_to labels.now n) }
-    ensures few { Askable result.held }
+    ensures few { Askable result }
 {
-    monotone::monotone(&rows[0..n], &mut *whole);
+    let _ = monotone::monotone(&rows[0..n], &mut *whole);
     let m = 2 * n;
     told_of(
+        pen,
         Kind::Monotone,
         &rows[0..n],
         &whole[0..m],
         labels,
         knots,
-        out,
-        at,
     )
 }
 
 // A sheet of n depths, if these suit its curve.
 fn told_if(
+    pen: &mut Pen,
     k: Kind,
     n: usize,
     rows: &[i64],
     labels: &[u8],
     knots: &mut [f64],
-    out: &mut [u8],
-    at: usize,
-) -> Told
+) -> AskedHeld
     requires few { n ≤ most }
     requires suited { suits k n ≡ true }
     requires rows { length rows.now ≡ most }
     requires sound { Small (most_in k) (held_all (take n rows.now)) }
     requires labels { length labels.now ≡ cells }
     requires knots { length knots.old ≡ most }
-    requires room { at + longest ≤ length out.old }
-    ensures text { Wrote out.old at (told_of k (held_all (take n
+    requires room { HasRoom pen.old longest }
+    ensures text { Writes pen.old (told_of k (held_all (take n
         rows.now)) (faults_of k (held_all (take n rows.now))
-        (labels_to labels.now n))) out.new result.at }
-    ensures short { result.at ≤ at + longest }
-    ensures held { asked_in result.held knots.new labels.now ≡ asked_by k (held_all (take n rows.now))
+        (labels_to labels.now n))) longest pen.new }
+    ensures held { asked_in result knots.new labels.now ≡ asked_by k (held_all (take n rows.now))
         (labels_to labels.now n) }
-    ensures few { Askable result.held }
+    ensures few { Askable result }
 {
     match k {
-        Kind::Drawn(b) => told_of(k, &rows[0..n], &rows[0..n], labels, knots, out, at),
+        Kind::Drawn(b) => told_of(pen, k, &rows[0..n], &rows[0..n], labels, knots),
         Kind::Monotone => {
             let mut whole = [0i64; basis::MOST_KNOTS];
-            told_monotone(n, rows, &mut whole, labels, knots, out, at)
+            told_monotone(pen, n, rows, &mut whole, labels, knots)
+        }
+    }
+}
+
+// The verdict on what was read, and what may be asked after it.
+fn put_verdict(
+    pen: &mut Pen,
+    h: SheetHeld,
+    rows: &[i64],
+    labels: &[u8],
+    knots: &mut [f64],
+) -> AskedHeld
+    requires held { line_in h ≤ last_line }
+    requires rows { length rows.now ≡ most }
+    requires sound { Sound (sheet_of h rows.now labels.now) }
+    requires labels { length labels.now ≡ cells }
+    requires knots { length knots.old ≡ most }
+    requires room { HasRoom pen.old longest }
+    ensures text { Writes pen.old (verdict_of (sheet_of h rows.now labels.now)) longest pen.new }
+    ensures asked { asked_in result knots.new labels.now ≡ asked_of (sheet_of h rows.now labels.now) }
+    ensures few { Askable result }
+{
+    match h {
+        SheetHeld::Unbegun => {
+            put_line(pen, 1, Reason::Missing);
+            AskedHeld::Bad
+        }
+        SheetHeld::On(k, n) => {
+            if is_suited(k, n) {
+                return told_if(pen, k, n, rows, labels, knots);
+            }
+            put_number(pen, b"length\t", n);
+            AskedHeld::Bad
+        }
+        SheetHeld::Faulty(n, r) => {
+            put_line(pen, n, r);
+            AskedHeld::Bad
         }
     }
 }
 
 // The verdict on what was read: its text from place `at` of `out` on, the knots as doubles where it is fine, and what may be asked.
+#[tactic(auto, using(text::proofs::Pens::lands))]
 pub fn verdict(
     h: SheetHeld,
     rows: &[i64],
@@ -590,23 +551,10 @@ pub fn verdict(
         (sheet_of h rows.now labels.now) }
     ensures few { Askable result.held }
 {
-    match h {
-        SheetHeld::Unbegun => Told {
-            at: put_line(1, Reason::Missing, out, at),
-            held: AskedHeld::Bad,
-        },
-        SheetHeld::On(k, n) => {
-            if is_suited(k, n) {
-                return told_if(k, n, rows, labels, knots, out, at);
-            }
-            Told {
-                at: put_number(out, at, b"length\t", n),
-                held: AskedHeld::Bad,
-            }
-        }
-        SheetHeld::Faulty(n, r) => Told {
-            at: put_line(n, r, out, at),
-            held: AskedHeld::Bad,
-        },
+    let mut pen = Pen::new(out, at);
+    let held = put_verdict(&mut pen, h, rows, labels, knots);
+    Told {
+        at: pen.at(),
+        held: held,
     }
 }

@@ -3,6 +3,7 @@ use Rattle.std.specs.Prelude.{List, [], ◌∷◌, Bool, true, false, ◌&&◌, 
 use Rattle.std.specs.Float.{binary64}
 use Rattle.std.specs.Float.Ieee.{round}
 use Rattle.basis.specs.declared.Basis.{Basis}
+use Rattle.basis.specs.declared.Terms.{Terms}
 use Rattle.basis.specs.declared.Basis.TheVariants.{Bspline, Bezier, CatmullRom, Hermite, Linear, Power}
 
 -- the most knots that a call takes
@@ -128,6 +129,10 @@ rows d (r ∷ rs) = row d r ∷ rows d rs
 unfoldable pub matrix_of : Basis → List (List Float)
 unfolding rows
 matrix_of b = rows (divisor_of b) (whole_of b)
+
+-- both, as the code has them
+abbrev pub terms_of : Basis → Terms
+terms_of b = record { step = step_of b; matrix = matrix_of b }
 
 -- the one basis whose matrix has no inverse
 abbrev pub is_linear : Basis → Bool

@@ -19,36 +19,29 @@ pub enum Basis {
     Power,
 }
 
+// What tells one basis from another: knots from one segment's first knot to the next one's, and the matrix by which a segment is evaluated.
+#[derive(Clone, Copy)]
+pub struct Terms {
+    pub step: usize,
+    pub matrix: [[f64; 4]; 4],
+}
+
 // Knots from one segment's first knot to the next one's.
 pub fn step(b: Basis) -> usize
     ensures answer { result ≡ step_of b }
     ensures positive { 0 < result }
     ensures most { result ≤ 4 }
 {
-    match b {
-        Basis::Bspline => 1,
-        Basis::Bezier => 3,
-        Basis::CatmullRom => 1,
-        Basis::Hermite => 2,
-        Basis::Linear => 1,
-        Basis::Power => 4,
-    }
+    basis_macros::by_basis(b, |t| t.step)
 }
 
-// Whether n knots, four at least, come in whole steps. A match, so that each divisor is a constant.
+// Whether n knots, four at least, come in whole steps.
 pub fn is_regular(b: Basis, n: usize) -> bool
     requires { 4 ≤ n }
     ensures { result ≡ regular b n }
 {
     let m = n - 4;
-    match b {
-        Basis::Bspline => true,
-        Basis::Bezier => m % 3 == 0,
-        Basis::CatmullRom => true,
-        Basis::Hermite => m % 2 == 0,
-        Basis::Linear => true,
-        Basis::Power => m % 4 == 0,
-    }
+    basis_macros::by_basis(b, |t| m % t.step == 0)
 }
 
 // Whether n knots suit the basis.
@@ -61,32 +54,18 @@ pub fn is_len_ok(b: Basis, n: usize) -> bool
     is_regular(b, n)
 }
 
-// How many segments n knots make. A match, so that each divisor is a constant.
+// How many segments n knots make.
 pub fn segments(b: Basis, n: usize) -> usize
     requires { 4 ≤ n }
     ensures { result ≡ segments_of b n }
 {
     let m = n - 4;
-    match b {
-        Basis::Bspline => m + 1,
-        Basis::Bezier => m / 3 + 1,
-        Basis::CatmullRom => m + 1,
-        Basis::Hermite => m / 2 + 1,
-        Basis::Linear => m + 1,
-        Basis::Power => m / 4 + 1,
-    }
+    basis_macros::by_basis(b, |t| m / t.step + 1)
 }
 
 // Whether the basis is the one whose matrix has no inverse.
 pub fn is_linear(b: Basis) -> bool
     ensures { result ≡ is_linear b }
 {
-    match b {
-        Basis::Bspline => false,
-        Basis::Bezier => false,
-        Basis::CatmullRom => false,
-        Basis::Hermite => false,
-        Basis::Linear => true,
-        Basis::Power => false,
-    }
+    matches!(b, Basis::Linear)
 }

@@ -3,12 +3,15 @@ use mathlib.Core.Path.{◌≡◌, refl, sym, ap, ◌∙◌}
 use mathlib.Core.Bool.{Bool, true, false, cond, ◌&&◌, and_assoc, and-true}
 use mathlib.Core.List.{List, [], ◌∷◌}
 use Prim.Native.Nat.{ℕ, zero, suc, ◌+◌, ◌≤◌, ◌<◌}
-use native.Mathlib.Nat.{le_of_eq}
 use native.Mathlib.Omega.{arith}
 use native.Mathlib.Numerals.{add-one}
 use lib.ListN.{length, drop, get_or, drop_of_length-le}
 use lib.Seq.{drop-cons}
 use lib.Ieee.{Float, nan}
+use Rattle.std.proofs.Common.{Option, MatchOption, HoldsAt}
+use Rattle.std.specs.List.{AllWithin}
+use Rattle.error.specs.Found.{Found}
+use Rattle.error.proofs.Found.{found_first}
 use Rattle.error.proofs.First.{never}
 use Rattle.checks.specs.Checks.{in_range, all_in_range, first_bad}
 
@@ -27,25 +30,13 @@ unfolding all_in_range
 scanned_all ks i good h v = sym (and-true good) ∙ (rw (drop_of_length-le ks) at v)
 
 -- ---- the first that is out of range
--- the knot i is in range, and those before it
-pub passed_over : (ks : List Float) (i : ℕ) → i < length ks → i + first_bad (drop i ks) ≡ first_bad ks → true ≡ in_range (get_or ks i nan)
-    → (i + 1) + first_bad (drop (i + 1) ks) ≡ first_bad ks
+pub bad_found : (ks : List Float) (r : Option ℕ)
+    → MatchOption r (AllWithin (λ x. in_range x ≡ true) ks 0 (length ks))
+    (λ i. (i < length ks) × HoldsAt (λ x. in_range x ≡ false) ks i × AllWithin (λ x. in_range x ≡ true) ks 0 i)
+    → Found (length ks) (first_bad ks) r
 unfolding first_bad
-passed_over ks i h v e =
-    let d : first_bad (drop i ks) ≡ suc (first_bad (drop (i + 1) ks)) = rw (add-one, drop-cons ks i nan h) (simp (sym e)) in
-    omega (arith, v, d)
-
-pub stopped_at : (ks : List Float) (i : ℕ) → i < length ks → i + first_bad (drop i ks) ≡ first_bad ks → false ≡ in_range (get_or ks i nan) → i ≡ first_bad ks
-unfolding first_bad
-stopped_at ks i h v e =
-    let d : first_bad (drop i ks) ≡ 0 = rw (drop-cons ks i nan h) (simp (sym e)) in
-    omega (arith, v, d)
-
-pub none_bad : (ks : List Float) (i : ℕ) → i ≡ length ks → i + first_bad (drop i ks) ≡ first_bad ks → i ≡ first_bad ks
-unfolding first_bad
-none_bad ks i h v =
-    let q : first_bad (drop i ks) ≡ 0 = rw (drop_of_length-le ks {i = i} (le_of_eq (sym h))) in
-    omega (arith, v, q)
+bad_found ks r h = found_first first_bad (λ x. in_range x ≡ false) (λ x. in_range x ≡ true) refl (λ x xs e. simp e)
+    (λ x xs e. rw e (sym (add-one _))) ks r h
 
 -- where some knot is out of range: the number is that of a knot that is, and each before it is in range
 pub first_bad_is : (ks : List Float) → all_in_range ks ≡ false

@@ -1,4 +1,5 @@
 -- The rows in the table's order, by the tests as the code makes them; what a passed verdict says; and the answer by each way out. Assumes nothing.
+use Rattle.std.specs.Prelude.{Ok, Err, true, false}
 use mathlib.Core.Path.{◌≡◌, refl, sym, ap, ◌∙◌}
 use mathlib.Core.Bool.{Bool, true, false}
 use mathlib.Core.List.{List, [], ◌∷◌}
@@ -10,9 +11,7 @@ use lib.ListN.{length, take, drop}
 use lib.Ieee.{Float, le, ne}
 use Rattle.error.specs.declared.Refusal.{Refusal}
 use Rattle.error.specs.declared.Refusal.TheVariants.{NotANumber, BadPrecision, NoSegment}
-use Rattle.error.specs.declared.Verdict.{Verdict}
-use Rattle.error.specs.declared.Verdict.TheVariants.{Passed, Failed}
-use Rattle.error.specs.Refusals.{Uses, first}
+use Rattle.error.specs.Refusals.{Uses, first, Verdict}
 use Rattle.error.proofs.First.{stops, goes_on, clear}
 use Rattle.basis.specs.declared.Basis.{Basis}
 use Rattle.basis.specs.Basis.{step_of, segments_of, matrix_of}
@@ -22,7 +21,6 @@ use Rattle.checks.specs.Checks.{curve_length, precise, bad_knot}
 use Rattle.spline.specs.Segment.{segment_value, segment_of}
 use Rattle.spline.proofs.Parts.{rest, inside}
 use Rattle.inverse_segment.specs.Segment.{near}
-use Rattle.claim.specs.declared.ClaimAnswer.TheVariants.{Refused, Holds, Differs}
 use Rattle.claim.specs.Claim.{claim_uses, accepts, claim_of}
 
 -- ---- the rows
@@ -30,22 +28,22 @@ module _ (b : Basis) (y : Float) (s : ℕ) (x ε : Float) (ks : List Float) {l :
   abbrev uses : Uses
   uses = claim_uses b y s x ε ks
 
-  pub claim_stops : {r : Refusal} → l ≡ Failed r → l ≡ first uses
+  pub claim_stops : {r : Refusal} → l ≡ Err r → l ≡ first uses
   claim_stops k = stops uses e k
 
-  module _ (k : l ≡ Passed) where
-    pub claim_target : ne y y ≡ true → Failed NotANumber ≡ first uses
+  module _ (k : l ≡ Ok tt) where
+    pub claim_target : ne y y ≡ true → Err NotANumber ≡ first uses
     claim_target n = goes_on uses e k (simp (sym (ne_itself y) ∙ n))
 
-    pub claim_place : ne y y ≡ false → ne x x ≡ true → Failed NotANumber ≡ first uses
+    pub claim_place : ne y y ≡ false → ne x x ≡ true → Err NotANumber ≡ first uses
     claim_place n m = goes_on uses e k (simp (sym (ne_itself y) ∙ n, sym (ne_itself x) ∙ m))
 
     module _ (n : ne y y ≡ false) (m : ne x x ≡ false) where
-      pub claim_precision : precise ε ≡ false → Failed BadPrecision ≡ first uses
+      pub claim_precision : precise ε ≡ false → Err BadPrecision ≡ first uses
       claim_precision p = goes_on uses e k (simp (sym (ne_itself y) ∙ n, sym (ne_itself x) ∙ m, p))
 
       module _ (p : precise ε ≡ true) {c : ℕ} (count : c ≡ segments_of b (length ks)) where
-        pub claim_segment : c ≤ s → Failed NoSegment ≡ first uses
+        pub claim_segment : c ≤ s → Err NoSegment ≡ first uses
         claim_segment h =
             let q : ltb s (segments_of b (length ks)) ≡ false = le-ltb s (segments_of b (length ks)) (omega (arith, count)) in
             goes_on uses e k (simp (sym (ne_itself y) ∙ n, sym (ne_itself x) ∙ m, p, q))
@@ -65,7 +63,7 @@ pub record Sound (b : Basis) (s : ℕ) (ks : List Float) : Type 0 where
   pub four : s * step_of b + 4 ≤ length ks
   pub few : length ks ≤ 4096
 
-pub sound : (b : Basis) (y : Float) (s : ℕ) (x ε : Float) (ks : List Float) {v : Verdict} → v ≡ first (claim_uses b y s x ε ks) → v ≡ Passed → Sound b s ks
+pub sound : (b : Basis) (y : Float) (s : ℕ) (x ε : Float) (ks : List Float) {v : Verdict} → v ≡ first (claim_uses b y s x ε ks) → v ≡ Ok tt → Sound b s ks
 sound b y s x ε ks e d =
     let p = clear (claim_uses b y s x ε ks) (sym e ∙ d) in
     let below : s < segments_of b (length ks) = ltb-true s (segments_of b (length ks)) (not-false (ltb s (segments_of b (length ks))) (p 19)) in
@@ -73,17 +71,13 @@ sound b y s x ε ks e d =
 
 -- ---- the answer
 module _ (b : Basis) (y : Float) (s : ℕ) (x ε : Float) (ks : List Float) {v : Verdict} (e : v ≡ first (claim_uses b y s x ε ks)) where
-  pub refused_is : {r : Refusal} → v ≡ Failed r → Refused r ≡ claim_of b y s x ε ks
+  pub refused_is : {r : Refusal} → v ≡ Err r → Err r ≡ claim_of b y s x ε ks
   unfolding claim_of
   refused_is d = rw (sym e ∙ d)
 
-  pub holds_is : {t : Bool} → v ≡ Passed → t ≡ accepts y x (segment_of b ks s x) ε → t ≡ true → Holds ≡ claim_of b y s x ε ks
+  pub answer_is : {t : Bool} → v ≡ Ok tt → t ≡ accepts y x (segment_of b ks s x) ε → Ok t ≡ claim_of b y s x ε ks
   unfolding claim_of
-  holds_is d f h = rw (sym e ∙ d, sym f ∙ h)
-
-  pub differs_is : {t : Bool} → v ≡ Passed → t ≡ accepts y x (segment_of b ks s x) ε → t ≡ false → Differs ≡ claim_of b y s x ε ks
-  unfolding claim_of
-  differs_is d f h = rw (sym e ∙ d, sym f ∙ h)
+  answer_is d f = rw (sym e ∙ d, sym f)
 
 -- ---- whether it is accepted, by the two tests of the place
 module _ (b : Basis) (y : Float) (s : ℕ) (x ε : Float) (ks : List Float) where

@@ -1,6 +1,8 @@
 -- When a claim is accepted; and each answer of an inversion with ground `value` or `edge`, of a curve by either rule of the ends and of one segment, by any
 -- method, is accepted for its own segment, local place and precision: the edge's test is the claim's, and a value within the precision is within twice
 -- it. Assumes nothing.
+use Rattle.inverse_segment.specs.Inversion.{Inversion}
+use Rattle.std.specs.Prelude.{Ok, Err, true, false}
 use mathlib.Core.Path.{◌≡◌, refl, sym, subst, ◌∙◌}
 use mathlib.Core.Logic.{◌⊎◌, inl, inr}
 use mathlib.Core.Bool.{Bool, true, false, not, ◌&&◌}
@@ -12,9 +14,7 @@ use lib.Dec.{T, ltb}
 use lib.ListN.{length}
 use lib.Ieee.{Float, binary64, sub, mul, lt, le, eq, is_nan, fits, nan, inf, fin}
 use lib.Ieee.Fits.{and_l, and_r, and_i}
-use Rattle.error.specs.declared.Verdict.{Verdict}
-use Rattle.error.specs.declared.Verdict.TheVariants.{Passed, Failed}
-use Rattle.error.specs.Refusals.{first}
+use Rattle.error.specs.Refusals.{first, Verdict}
 use Rattle.error.proofs.First.{clear, never}
 use Rattle.basis.specs.declared.Basis.{Basis}
 use Rattle.basis.specs.declared.Basis.TheVariants.{Bspline, Bezier, CatmullRom, Hermite, Linear, Power}
@@ -29,8 +29,6 @@ use Rattle.checks.specs.Checks.{all_in_range, precise}
 use Rattle.inverse_segment.specs.declared.Ground.{Ground}
 use Rattle.inverse_segment.specs.declared.Ground.TheVariants.{End, Edge, Value, Width, Spent}
 use Rattle.inverse_segment.specs.declared.Place.{Place}
-use Rattle.inverse_segment.specs.declared.Inversion.{Inversion}
-use Rattle.inverse_segment.specs.declared.Inversion.TheVariants as I
 use Rattle.inverse_segment.specs.Segment.{near}
 use Rattle.inverse_segment.specs.Answer.{inverted, inverse_segment_uses, inverse_segment_by}
 use Rattle.inverse_segment.proofs.Enclosing.{Says}
@@ -43,7 +41,6 @@ use Rattle.inverse_order.specs.declared.EndsBy.{EndsBy}
 use Rattle.inverse.specs.Inverse.{inverse_uses, inverse_by}
 use Rattle.inverse.proofs.Facts.{AtPlace, Proper, Enclosed, GroundSays}
 use Rattle.inverse.proofs.Promises.{inverse_proper, inverse_enclosed, inverse_ground, here, rule, k}
-use Rattle.claim.specs.declared.ClaimAnswer.TheVariants.{Holds, Differs}
 use Rattle.claim.specs.Claim.{claim_uses, accepts, claimed, claim_of}
 use Rattle.claim.proofs.Swap.{difference_swapped}
 use Rattle.claim.proofs.Twice.{twice_le, lt_le_trans}
@@ -51,7 +48,7 @@ use Rattle.claim.proofs.Twice.{twice_le, lt_le_trans}
 -- ---- when a claim is accepted
 -- no row applies, the local place lies in 0 to 1, and the segment's value there differs from the target, as computed, by less than twice the precision
 pub record Accepted (b : Basis) (y : Float) (s : ℕ) (x ε : Float) (ks : List Float) : Type 0 where
-  pub passed : first (claim_uses b y s x ε ks) ≡ Passed
+  pub passed : first (claim_uses b y s x ε ks) ≡ Ok tt
   pub place : InOne x
   pub close : T (lt (magnitude_of (sub binary64 (segment_of b ks s x) y)) (mul binary64 two ε))
 
@@ -67,12 +64,12 @@ module _ (b : Basis) (y : Float) (s : ℕ) (x ε : Float) (ks : List Float) wher
   verdict = first (claim_uses b y s x ε ks)
 
   -- only there ..
-  pub holds_only : claim_of b y s x ε ks ≡ Holds → Accepted b y s x ε ks
+  pub holds_only : claim_of b y s x ε ks ≡ Ok true → Accepted b y s x ε ks
   unfolding claim_of
   holds_only = go verdict refl (accepts y x v ε) refl
     where
-      go : (w : Verdict) → verdict ≡ w → (t : Bool) → accepts y x v ε ≡ t → claimed w t ≡ Holds → Accepted b y s x ε ks
-      go Passed e true f h =
+      go : (w : Verdict) → verdict ≡ w → (t : Bool) → accepts y x v ε ≡ t → claimed w t ≡ Ok true → Accepted b y s x ε ks
+      go (Ok _) e true f h =
           let a : T (accepts y x v ε) = holds f in
           let i : T (le nought x && le x one) = and_l (le nought x && le x one) (near y v ε) a in
           record {
@@ -80,11 +77,11 @@ module _ (b : Basis) (y : Float) (s : ℕ) (x ε : Float) (ks : List Float) wher
             place = record { low = and_l (le nought x) (le x one) i; high = and_r (le nought x) (le x one) i };
             close = subst T (difference_swapped y v (mul binary64 two ε)) (and_r (le nought x && le x one) (near y v ε) a);
           }
-      go Passed e false f h = never (cc)
-      go (Failed r) e t f h = never (cc)
+      go (Ok _) e false f h = never (cc)
+      go (Err r) e t f h = never (cc)
 
   -- .. and everywhere there
-  pub holds_where : Accepted b y s x ε ks → claim_of b y s x ε ks ≡ Holds
+  pub holds_where : Accepted b y s x ε ks → claim_of b y s x ε ks ≡ Ok true
   unfolding claim_of
   holds_where a =
       let c : T (near y v ε) = subst T (difference_swapped v y (mul binary64 two ε)) a.close in
@@ -93,21 +90,21 @@ module _ (b : Basis) (y : Float) (s : ℕ) (x ε : Float) (ks : List Float) wher
       rw (a.passed, t)
 
   -- where no row applies it differs, or else it holds
-  pub differs_where : verdict ≡ Passed → (Accepted b y s x ε ks → ⊥) → claim_of b y s x ε ks ≡ Differs
+  pub differs_where : verdict ≡ Ok tt → (Accepted b y s x ε ks → ⊥) → claim_of b y s x ε ks ≡ Ok false
   unfolding claim_of
   differs_where e n = go (accepts y x v ε) refl
     where
-      go : (t : Bool) → accepts y x v ε ≡ t → claimed verdict (accepts y x v ε) ≡ Differs
+      go : (t : Bool) → accepts y x v ε ≡ t → claimed verdict (accepts y x v ε) ≡ Ok false
       go true f = absurd (n (holds_only (unfold claim_of in rw (e, f))))
       go false f = rw (e, f)
 
-  pub differs_only : claim_of b y s x ε ks ≡ Differs → (verdict ≡ Passed) × (Accepted b y s x ε ks → ⊥)
+  pub differs_only : claim_of b y s x ε ks ≡ Ok false → (verdict ≡ Ok tt) × (Accepted b y s x ε ks → ⊥)
   unfolding claim_of
-  differs_only h = (go verdict refl h, λ a. let q : Holds ≡ Differs = sym (holds_where a) ∙ h in never (cc))
+  differs_only h = (go verdict refl h, λ a. let q : Ok true ≡ Ok false = sym (holds_where a) ∙ h in never (cc))
     where
-      go : (w : Verdict) → verdict ≡ w → claimed w (accepts y x v ε) ≡ Differs → verdict ≡ Passed
-      go Passed e k = e
-      go (Failed r) e k = never (cc)
+      go : (w : Verdict) → verdict ≡ w → claimed w (accepts y x v ε) ≡ Ok false → verdict ≡ Ok tt
+      go (Ok _) e k = e
+      go (Err r) e k = never (cc)
 
 -- ---- the two grounds by which a place comes near the target
 abbrev pub Settled : Ground → Type 0
@@ -144,21 +141,21 @@ le_number (fin s m e) h = refl
 -- ---- a claim that no row refuses and that comes near
 module _ (b : Basis) (y : Float) (s : ℕ) (x ε : Float) (ks : List Float) where
   none_refuses : ltb (length ks) 4 ≡ false → regular b (length ks) ≡ true → ltb 4096 (length ks) ≡ false → is_nan y ≡ false → InOne x → precise ε ≡ true
-      → s < segments_of b (length ks) → all_in_range ks ≡ true → first (claim_uses b y s x ε ks) ≡ Passed
+      → s < segments_of b (length ks) → all_in_range ks ≡ true → first (claim_uses b y s x ε ks) ≡ Ok tt
   none_refuses few pattern many number place sure below tame =
       let local : is_nan x ≡ false = le_number x place.low in
       let segment : ltb s (segments_of b (length ks)) ≡ true = lt-ltb s (segments_of b (length ks)) below in
       simp (few, pattern, many, number, local, sure, segment, tame)
 
 -- where a place is told, no row applied
-place_passes : (v : Verdict) (a : Inversion) (p : Place) → inverted v a ≡ I.At p → v ≡ Passed
-place_passes Passed a p h = refl
-place_passes (Failed r) a p h = never (cc)
+place_passes : (v : Verdict) (a : Inversion) (p : Place) → inverted v a ≡ Ok p → v ≡ Ok tt
+place_passes (Ok _) a p h = refl
+place_passes (Err r) a p h = never (cc)
 
 -- ---- a curve's own answers
 -- ε is one of the format's doubles, as every caller's precision is
 module _ (m : EndsBy) (how : Method) (b : Basis) (y : Float) (ks : List Float) (check : Bool) (limit : ℕ) (ε : Float) (held : T (fits binary64 ε)) where
-  pass : (p : Place) → inverse_by m how b y ks check limit ε ≡ I.At p → first (inverse_uses b y ks check limit ε) ≡ Passed
+  pass : (p : Place) → inverse_by m how b y ks check limit ε ≡ Ok p → first (inverse_uses b y ks check limit ε) ≡ Ok tt
   unfolding inverse_by
   pass p e = place_passes (first (inverse_uses b y ks check limit ε)) (here m how b y ks check limit ε) p e
 
@@ -184,7 +181,7 @@ module _ (m : EndsBy) (how : Method) (b : Basis) (y : Float) (ks : List Float) (
   below_by Spent p t h = absurd t
 
   -- its own segment, local place and precision
-  pub own_accepted : (p : Place) → inverse_by m how b y ks check limit ε ≡ I.At p → Settled p.ground → claim_of b y p.segment p.local ε ks ≡ Holds
+  pub own_accepted : (p : Place) → inverse_by m how b y ks check limit ε ≡ Ok p → Settled p.ground → claim_of b y p.segment p.local ε ks ≡ Ok true
   own_accepted p e t =
       let c = clear (inverse_uses b y ks check limit ε) (pass p e) in
       let proper : Proper p = subst (AtPlace Proper) e (inverse_proper m how b y ks check limit ε) in
@@ -213,7 +210,7 @@ one_segment b n e = rw e (four b)
     four Power = (refl, refl)
 
 module _ (how : Method) (b : Basis) (y : Float) (cv : List Float) (limit : ℕ) (ε : Float) (held : T (fits binary64 ε)) where
-  segment_pass : (p : Place) → inverse_segment_by (rule_of how) b y cv limit ε ≡ I.At p → first (inverse_segment_uses y cv limit ε) ≡ Passed
+  segment_pass : (p : Place) → inverse_segment_by (rule_of how) b y cv limit ε ≡ Ok p → first (inverse_segment_uses y cv limit ε) ≡ Ok tt
   unfolding inverse_segment_by
   segment_pass p e = place_passes (first (inverse_segment_uses y cv limit ε)) _ p e
 
@@ -226,13 +223,13 @@ module _ (how : Method) (b : Basis) (y : Float) (cv : List Float) (limit : ℕ) 
   segment_close q Width x lower upper rising n t h = absurd t
   segment_close q Spent x lower upper rising n t h = absurd t
 
-  pub own_segment_accepted : (p : Place) → inverse_segment_by (rule_of how) b y cv limit ε ≡ I.At p → Settled p.ground
-      → claim_of b y p.segment p.local ε cv ≡ Holds
+  pub own_segment_accepted : (p : Place) → inverse_segment_by (rule_of how) b y cv limit ε ≡ Ok p → Settled p.ground
+      → claim_of b y p.segment p.local ε cv ≡ Ok true
   own_segment_accepted p e t =
       let d = segment_pass p e in
       let c = clear (inverse_segment_uses y cv limit ε) d in
       let q = passes y cv limit ε d in
-      let o : Owed (segment_of b cv 0) y ε limit (I.At p) =
+      let o : Owed (segment_of b cv 0) y ε limit (Ok p) =
       subst (Owed (segment_of b cv 0) y ε limit) e (inverse_segment_owed (rule_of how) (lawful_of how) b y cv limit ε d) in
       let w = o.1 in
       let one_of_lem = one_segment b (length cv) q.four in

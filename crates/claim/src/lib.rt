@@ -7,17 +7,9 @@ ghost use Rattle.spline.specs.Segment.{segment_of};
 ghost use Rattle.claim.specs.Claim.{accepts, claim_of};
 
 use basis::Basis;
-use error::{Refusal, Verdict};
+use error::Refusal;
 
 pub mod refusals;
-
-// What checking a claim comes to: refused by a row of the table, or it holds, or the value differs from the target.
-#[derive(Clone, Copy)]
-pub enum ClaimAnswer {
-    Refused(Refusal),
-    Holds,
-    Differs,
-}
 
 // The segment is evaluated only where the place lies in 0 to 1.
 fn is_accepted(b: Basis, y: f64, s: usize, x: f64, precision: f64, knots: &[f64]) -> bool
@@ -37,18 +29,16 @@ fn is_accepted(b: Basis, y: f64, s: usize, x: f64, precision: f64, knots: &[f64]
 }
 
 // Whether segment s of the curve, at the local place x, is within twice the precision of y.
-pub fn check_claim(b: Basis, y: f64, s: usize, x: f64, precision: f64, knots: &[f64]) -> ClaimAnswer
+pub fn check_claim(
+    b: Basis,
+    y: f64,
+    s: usize,
+    x: f64,
+    precision: f64,
+    knots: &[f64],
+) -> Result<bool, Refusal>
     ensures { result ≡ claim_of b y s x precision knots.now }
 {
-    let v = refusals::verdict(b, y, s, x, precision, knots);
-    match v {
-        Verdict::Failed(r) => ClaimAnswer::Refused(r),
-        Verdict::Passed => {
-            if is_accepted(b, y, s, x, precision, knots) {
-                ClaimAnswer::Holds
-            } else {
-                ClaimAnswer::Differs
-            }
-        }
-    }
+    refusals::verdict(b, y, s, x, precision, knots)?;
+    Ok(is_accepted(b, y, s, x, precision, knots))
 }

@@ -1,13 +1,13 @@
 -- A line by its fields, and what it gets. Assumes nothing.
+use Rattle.error.specs.declared.Refusal.{Refusal}
+use Rattle.std.specs.Prelude.{Result, Bool}
 use mathlib.Core.Path.{◌≡◌, refl, sym, ap, subst, ◌∙◌}
 use mathlib.Core.Bool.{Bool, true, false, cond}
 use mathlib.Core.List.{List, [], ◌∷◌}
-use Prim.Native.Nat.{ℕ, ◌-◌, ◌≤◌, ◌<◌}
+use Prim.Native.Nat.{ℕ, ◌-◌, ◌≤◌}
 use native.Mathlib.Omega.{arith}
-use borrow.Author.Tests.{le-leb, lt-leb}
 use lib.ListN.{length, take, drop, get_or}
 use lib.Ieee.{Float}
-use Rattle.claim.specs.declared.ClaimAnswer.{ClaimAnswer}
 use Rattle.claim.specs.Claim.{claim_of}
 use Rattle.text.specs.Text.{bytes, same, fields_of, hex_of}
 use Rattle.text.specs.Wrote.{Wrote}
@@ -20,8 +20,7 @@ use Rattle.lines_reply.specs.Reply.{text_of}
 use Rattle.lines_answer.specs.Answer.{Curve, on, reply_to, after_of}
 use Rattle.table_span.specs.declared.Table.{Table}
 use Rattle.inverse_order.specs.declared.EndsBy.{EndsBy}
-use Rattle.lines_machine.specs.Program.{widest, Line}
-use Rattle.lines_machine.specs.Contract.{open_of}
+use Rattle.lines_machine.specs.Program.{Line}
 use Rattle.claims.specs.declared.ClaimRecord.{ClaimRecord}
 use Rattle.claims.specs.declared.ClaimRecord.TheVariants.{Listed, Claim}
 use Rattle.claims.specs.Claims.{of_table, claim_with, claim_in, said_in, says, claim_text, check_text, tells_of, leaves_of, claims_program}
@@ -72,14 +71,6 @@ module _ (l : List ℕ) {b : Bool} (is : b ≡ same (get_or (fields_of l) 0 []) 
   unfolding record_of
   without_word w f g = ap Listed (g ∙ ap of_table f) ∙ rw (by_word (fields_of l) (some l), sym is ∙ w) refl
 
-pub said_so : (n : ℕ) (line : List ℕ) → n ≤ widest → said_in (fields_of (take (n - 0) line)) ≡ says (open_of n line)
-unfolding says
-said_so n line h = let z : n - 0 ≡ n = omega arith in rw (z, le-leb n widest h) refl
-
-pub said_over_lem : (n : ℕ) (line : List ℕ) → widest < n → Listed Bad ≡ says (open_of n line)
-unfolding says
-said_over_lem n line h = rw (lt-leb n widest h) refl
-
 -- ---- what a line gets
 module _ (c : Curve) (o : Line) {m : ClaimRecord} (e : m ≡ says o) where
   module _ {r : Record} (l : m ≡ Listed r) where
@@ -97,17 +88,6 @@ module _ (c : Curve) (o : Line) {m : ClaimRecord} (e : m ≡ says o) where
     unfolding leaves_of
     claim_leaves = ap (leaves_of c) (sym l ∙ e)
 
-    pub claim_wrote : {out : List ℕ} {at : ℕ} {out' : List ℕ} {next : ℕ} → Wrote out at (check_text c y s x ε) out' next
-        → Wrote out at (claims_program.tells c o) out' next
+    pub claim_tells : check_text c y s x ε ≡ claims_program.tells c o
     unfolding tells_of
-    claim_wrote {out} {at} {out'} {next} w = subst (λ (q : ClaimRecord). Wrote out at (tells_of c q) out' next) (sym l ∙ e) w
-
--- ---- a claim upon the first n knots of a table
-pub on_table : (t : Table) (m : EndsBy) (n : ℕ) (table : List Float) (y : Float) (s : ℕ) (x ε : Float) {q : ClaimAnswer}
-    → q ≡ claim_of t.basis y s x ε (take (n - 0) table)
-    → {out : List ℕ} {at : ℕ} {out' : List ℕ} {next : ℕ} → Wrote out at (claim_text q) out' next
-    → Wrote out at (check_text (on t m (take n table)) y s x ε) out' next
-unfolding check_text
-on_table t m n table y s x ε e {out} {at} {out'} {next} w =
-    let z : n - 0 ≡ n = omega arith in
-    subst (λ (q : ClaimAnswer). Wrote out at (claim_text q) out' next) (e ∙ ap (λ (i : ℕ). claim_of t.basis y s x ε (take i table)) z) w
+    claim_tells = ap (tells_of c) (sym l ∙ e)

@@ -1,11 +1,8 @@
 -- The checker of claims: what a line says, what it gets, and the table after it. Definitions only.
-use Rattle.std.specs.Prelude.{cond, List, [], ◌∷◌, ℕ, Float}
-use Rattle.claim.specs.declared.ClaimAnswer.{ClaimAnswer}
-use Rattle.claim.specs.declared.ClaimAnswer.TheVariants.{Refused, Holds, Differs}
+use Rattle.error.specs.declared.Refusal.{Refusal}
+use Rattle.std.specs.Prelude.{cond, List, [], ◌∷◌, ℕ, Float, Some, None, Option, Err, Ok, true, false, Result, Bool}
 use Rattle.claim.specs.Claim.{claim_of}
 use Rattle.error.specs.declared.Refusal.TheVariants.{BadLine}
-use Rattle.text.specs.declared.HexNumber.{HexNumber}
-use Rattle.text.specs.declared.HexNumber.TheVariants.{Is, Nothing}
 use Rattle.text.specs.Text.{bytes, same, fields_of, hex_of, double_of}
 use Rattle.text_decimals.specs.Decimals.{number_in}
 use Rattle.lines_record.specs.declared.Record.{Record}
@@ -29,12 +26,12 @@ of_table (Turn b) = Bad
 of_table Bad = Bad
 
 -- target, segment, local place and precision, where each is well written
-abbrev pub claim_with : HexNumber → HexNumber → HexNumber → HexNumber → ClaimRecord
-claim_with Nothing s x e = Listed Bad
-claim_with (Is y) Nothing x e = Listed Bad
-claim_with (Is y) (Is s) Nothing e = Listed Bad
-claim_with (Is y) (Is s) (Is x) Nothing = Listed Bad
-claim_with (Is y) (Is s) (Is x) (Is e) = Claim (double_of y) s (double_of x) (double_of e)
+abbrev pub claim_with : Option ℕ → Option ℕ → Option ℕ → Option ℕ → ClaimRecord
+claim_with None s x e = Listed Bad
+claim_with (Some y) None x e = Listed Bad
+claim_with (Some y) (Some s) None e = Listed Bad
+claim_with (Some y) (Some s) (Some x) None = Listed Bad
+claim_with (Some y) (Some s) (Some x) (Some e) = Claim (double_of y) s (double_of x) (double_of e)
 
 -- four fields follow the word; the segment's number has 1 to 4 digits
 unfoldable pub claim_in : List (List ℕ) → ClaimRecord
@@ -55,14 +52,14 @@ unfoldable pub says : Line → ClaimRecord
 says (so l) = said_in (fields_of l)
 says over = Listed Bad
 
-abbrev pub claim_text : ClaimAnswer → List ℕ
-claim_text (Refused r) = refused_text r
-claim_text Holds = bytes "holds\n"
-claim_text Differs = bytes "differs\n"
+abbrev pub claim_text : Result Bool Refusal → List ℕ
+claim_text (Err r) = refused_text r
+claim_text (Ok true) = bytes "holds\n"
+claim_text (Ok false) = bytes "differs\n"
 
 -- the reply to a claim; before the first curve it is a bad line
 unfoldable pub check_text : Curve → Float → ℕ → Float → Float → List ℕ
-check_text none y s x ε = claim_text (Refused BadLine)
+check_text none y s x ε = claim_text (Err BadLine)
 check_text (on t m ks) y s x ε = claim_text (claim_of t.basis y s x ε ks)
 
 -- what a line gets, and the table after it, which a claim leaves as it is

@@ -2,25 +2,22 @@
 #![tactic(auto)]
 
 ghost use Rattle.std.specs.Prelude.{◌≡◌, ◌+◌, ◌≤◌, ◌<◌, length, drop};
-ghost use Rattle.std.proofs.Math.Seq.{slice};
-ghost use Rattle.lines_answer.specs.Answer.{places};
+ghost use Rattle.lines_answer.specs.Answer.{none, Curve, places};
 ghost use Rattle.lines_answer.specs.Contract.{curve_of, count_of};
 ghost use Rattle.lines_reply.specs.Contract.{longest};
 ghost use Rattle.text.specs.Text.{fields_of, hex_of};
+ghost use Rattle.text.specs.Pens.{HasRoom, Writes};
 ghost use Rattle.text.specs.Wrote.{Wrote};
 ghost use Rattle.text_decimals.specs.Decimals.{number_in};
-ghost use Rattle.lines_machine.specs.Program.{widest};
-ghost use Rattle.lines_machine.specs.Bytes.{end_of};
-ghost use Rattle.lines_machine.specs.Contract.{open_of, Fed};
-ghost use Rattle.lines.specs.Contract.{state_of};
+ghost use Rattle.lines_machine.specs.Contract.{said_of};
 ghost use Rattle.claims.specs.Claims.{of_table, claim_with, claim_in, said_in, says, claim_text, check_text, claims_program};
 
-use claim::ClaimAnswer;
 use error::Refusal;
-use lines::{LineReader, LineResult, LinesFed};
+use lines::Lines;
 use lines_answer::Session;
+use lines_machine::Machine;
 use lines_record::Record;
-use text::HexNumber;
+use text::Pen;
 
 // What a line says: a record of a listing, or a claim: a target, a segment, a local place and a precision.
 #[derive(Clone, Copy)]
@@ -50,16 +47,16 @@ fn claim_with(y: &[u8], s: &[u8], x: &[u8], e: &[u8]) -> ClaimRecord
     ensures { result ≡ claim_with (hex_of y.now) (number_in 4 s.now) (hex_of x.now)
         (hex_of e.now) }
 {
-    let HexNumber::Is(target) = text::hex(y) else {
+    let Some(target) = text::hex(y) else {
         return ClaimRecord::Listed(Record::Bad);
     };
-    let HexNumber::Is(segment) = text_decimals::number_in(s, 4) else {
+    let Some(segment) = text_decimals::number_in(s, 4) else {
         return ClaimRecord::Listed(Record::Bad);
     };
-    let HexNumber::Is(place) = text::hex(x) else {
+    let Some(place) = text::hex(x) else {
         return ClaimRecord::Listed(Record::Bad);
     };
-    let HexNumber::Is(precision) = text::hex(e) else {
+    let Some(precision) = text::hex(e) else {
         return ClaimRecord::Listed(Record::Bad);
     };
     ClaimRecord::Claim(
@@ -95,180 +92,113 @@ fn said_in(line: &[u8]) -> ClaimRecord
     ClaimRecord::Listed(of_table(lines_record::record_of(line)))
 }
 
-// What the line of len bytes says.
-fn said_of(len: usize, line: &[u8]) -> ClaimRecord
-    requires { length line.now ≡ widest }
-    ensures { result ≡ says (open_of len line.now) }
+// What a line says.
+fn said_of(line: Option<&[u8]>) -> ClaimRecord
+    ensures { result ≡ says (said_of line.entry) }
 {
-    if len <= lines_machine::WIDEST {
-        return said_in(&line[0..len]);
+    match line {
+        Some(l) => said_in(l),
+        None => ClaimRecord::Listed(Record::Bad),
     }
-    ClaimRecord::Listed(Record::Bad)
 }
 
 // The reply to a claim.
-fn put_claimed(out: &mut [u8], at: usize, c: ClaimAnswer) -> usize
-    requires { at + 18 ≤ length out.old }
-    ensures text { Wrote out.old at (claim_text c) out.new result }
-    ensures short { result ≤ at + 18 }
+fn put_claimed(pen: &mut Pen, c: Result<bool, Refusal>)
+    requires { HasRoom pen.old 18 }
+    ensures { Writes pen.old (claim_text c) 18 pen.new }
 {
     match c {
-        ClaimAnswer::Refused(r) => lines_reply::put_refused(out, at, r),
-        ClaimAnswer::Holds => text::put_word(out, at, b"holds\n"),
-        ClaimAnswer::Differs => text::put_word(out, at, b"differs\n"),
+        Err(r) => lines_reply::put_refused(pen, r),
+        Ok(holds) => {
+            if holds {
+                pen.word(b"holds\n");
+            } else {
+                pen.word(b"differs\n");
+            }
+        }
     }
 }
 
 // The reply to a claim; before the first curve it is a bad line.
-fn checked(
+#[tactic(auto, using(text::proofs::Pens::pens), unfolding(crate::specs::Claims::check_text))]
+fn put_checked(
+    pen: &mut Pen,
     held: Session,
     y: f64,
     s: usize,
     x: f64,
     precision: f64,
     table: &[f64],
-    out: &mut [u8],
-    at: usize,
-) -> usize
+)
     requires held { count_of held ≤ places }
     requires table { length table.now ≡ places }
-    requires room { at + longest ≤ length out.old }
-    ensures wrote { Wrote out.old at (check_text (curve_of held table.now) y s x precision) out.new
-        result }
-    ensures short { result ≤ at + longest }
+    requires room { HasRoom pen.old longest }
+    ensures { Writes pen.old (check_text (curve_of held table.now) y s x precision) longest pen.new }
 {
     match held {
-        Session::Nothing => put_claimed(out, at, ClaimAnswer::Refused(Refusal::BadLine)),
+        Session::Nothing => put_claimed(pen, Err(Refusal::BadLine)),
         Session::Curve(t, _, n) => {
-            let b = t.basis;
-            put_claimed(
-                out,
-                at,
-                claim::check_claim(b, y, s, x, precision, &table[0..n]),
-            )
+            let c = claim::check_claim(t.basis, y, s, x, precision, &table[0..n]);
+            put_claimed(pen, c)
         }
     }
 }
 
-// A line of len bytes, the first ones of the lent 64; 65 for one that is too long. Its reply is written from place `at` of `out` on.
-pub fn line(
-    held: Session,
-    len: usize,
-    line: &[u8],
-    table: &mut [f64],
-    converted: &mut [f64],
-    out: &mut [u8],
-    at: usize,
-) -> LineResult
-    requires line { length line.now ≡ widest }
-    requires held { count_of held ≤ places }
-    requires table { length table.old ≡ places }
-    requires converted { length converted.old ≡ places }
-    requires room { at + longest ≤ length out.old }
-    ensures state { curve_of result.held table.new ≡ claims_program.after (curve_of held table.old)
-        (open_of len line.now) }
-    ensures few { count_of result.held ≤ places }
-    ensures wrote { Wrote out.old at
-        (claims_program.tells (curve_of held table.old) (open_of len line.now)) out.new result.at }
-    ensures short { result.at ≤ at + longest }
-{
-    let told = said_of(len, line);
-    match told {
-        ClaimRecord::Listed(r) => lines::answered(held, r, table, converted, out, at),
-        ClaimRecord::Claim(y, s, x, precision) => {
-            let next = checked(held, y, s, x, precision, &table[..], out, at);
-            LineResult {
-                held: held,
-                at: next,
+// The checker of claims, which holds what the line program does.
+#[derive(Drop)]
+pub struct Claims {
+    pub lines: Lines,
+}
+
+impl Claims {
+    // Before the first line.
+    pub fn new() -> Claims
+        ensures { curve_of result.lines.held result.lines.table ≡ none }
+    {
+        Claims {
+            lines: Lines::new(),
+        }
+    }
+}
+
+impl Machine for Claims {
+    const LINE_ROOM: usize = lines_reply::LONGEST;
+
+    const END_ROOM: usize = 0;
+
+    ghost LINE_ROOM = { longest };
+
+    ghost END_ROOM = { 0 };
+
+    ghost State = { Curve };
+
+    ghost program = { claims_program };
+
+    ghost held = { λ c. curve_of c.lines.held c.lines.table };
+
+    ghost Keeps = { λ c. Unit };
+
+    #[tactic(auto, using(text::proofs::Pens::lands))]
+    fn line(&mut self, line: Option<&[u8]>, out: &mut [u8], at: usize) -> usize {
+        match said_of(line) {
+            ClaimRecord::Listed(r) => self.lines.answered(r, out, at),
+            ClaimRecord::Claim(y, s, x, precision) => {
+                let mut pen = Pen::new(out, at);
+                put_checked(
+                    &mut pen,
+                    self.lines.held,
+                    y,
+                    s,
+                    x,
+                    precision,
+                    &self.lines.table,
+                );
+                pen.at()
             }
         }
     }
-}
 
-// The bytes of a chunk from `from` on, as long as `out` has room for any reply.
-pub fn feed(
-    st: LineReader,
-    chunk: &[u8],
-    from: usize,
-    begun: &mut [u8],
-    table: &mut [f64],
-    converted: &mut [f64],
-    out: &mut [u8],
-) -> LinesFed
-    requires start { from ≤ length chunk.now }
-    requires begun { length begun.old ≡ widest }
-    requires held { count_of st.held ≤ places }
-    requires table { length table.old ≡ places }
-    requires converted { length converted.old ≡ places }
-    ensures fed { Fed claims_program (state_of st begun.old table.old)
-        (slice from result.next chunk.now)
-        (state_of result.st begun.new table.new) out.old 0 out.new result.at }
-    ensures few { count_of result.st.held ≤ places }
-    ensures after { from ≤ result.next }
-    ensures within { result.next ≤ length chunk.now }
-    ensures short { result.at ≤ length out.new }
-    ensures progress { from < length chunk.now → longest ≤ length out.old → from < result.next }
-{
-    let mut n = st.len;
-    let mut held = st.held;
-    let mut at = 0;
-    let mut i = from;
-    while i < chunk.len() {
-        if out.len() - at < lines_reply::LONGEST {
-            return LinesFed {
-                st: LineReader { len: n, held: held },
-                at: at,
-                next: i,
-            };
-        }
-        let c = lines_machine::cut(chunk, i, n, &mut *begun);
-        n = c.len;
-        i = c.stop;
-        if i < chunk.len() {
-            let l = line(
-                held,
-                n,
-                &begun[..],
-                &mut *table,
-                &mut *converted,
-                &mut *out,
-                at,
-            );
-            held = l.held;
-            at = l.at;
-            n = 0;
-            i += 1;
-        }
+    fn end(&mut self, _out: &mut [u8], at: usize) -> usize {
+        at
     }
-    LinesFed {
-        st: LineReader { len: n, held: held },
-        at: at,
-        next: i,
-    }
-}
-
-// The end of the input: a last line may lack its LF.
-pub fn finish(
-    st: LineReader,
-    begun: &[u8],
-    table: &mut [f64],
-    converted: &mut [f64],
-    out: &mut [u8],
-) -> usize
-    requires begun { length begun.now ≡ widest }
-    requires held { count_of st.held ≤ places }
-    requires table { length table.old ≡ places }
-    requires converted { length converted.old ≡ places }
-    requires room { longest ≤ length out.old }
-    ensures text { Wrote out.old 0 (end_of claims_program (state_of st begun.now table.old))
-        out.new result }
-    ensures short { result ≤ longest }
-{
-    let len = st.len;
-    if len == 0 {
-        return 0;
-    }
-    let held = st.held;
-    let l = line(held, len, begun, table, converted, out, 0);
-    l.at
 }

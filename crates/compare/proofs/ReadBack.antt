@@ -1,5 +1,6 @@
 -- A comparison that was printed, read line by line, says its differences in order, then the last line, and nothing else: places below
 -- 10,000, patterns below 2^64. Assumes nothing.
+use Rattle.std.specs.Prelude.{Some}
 use mathlib.Core.Path.{◌≡◌, refl, ap, ◌∙◌}
 use mathlib.Core.Bool.{Bool, true, false, cond}
 use mathlib.Core.List.{List, [], ◌∷◌, ◌++◌, append_assoc}
@@ -14,7 +15,6 @@ use Rattle.text.specs.Text.{bytes, same, LF, TAB, onto, fields_of, hex_text, dec
 use Rattle.text.proofs.ReadBack.{parse_print}
 use Rattle.text_decimals.specs.Decimals.{number_in, digits_of}
 use Rattle.text_decimals.proofs.ReadBack.{number_back}
-use Rattle.lines_record.specs.declared.BasisName.TheVariants as N
 use Rattle.lines_record.specs.Record.{name_of, named_of}
 use Rattle.lines_machine.specs.Program.{lines_of}
 use Rattle.lines_machine.proofs.Breaking.{Free, free_append, freeb, free_of, free_hex, free_dec, field_ended, field_last, line_ended, broken}
@@ -54,7 +54,7 @@ name_lf Hermite = free_of LF (name_of Hermite) tt
 name_lf Linear = free_of LF (name_of Linear) tt
 name_lf Power = free_of LF (name_of Power) tt
 
-name_back : (b : Basis) → named_of (name_of b) ≡ N.Is b
+name_back : (b : Basis) → named_of (name_of b) ≡ Some b
 unfolding named_of same
 name_back Bspline = refl
 name_back Bezier = refl

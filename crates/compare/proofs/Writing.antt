@@ -3,7 +3,7 @@
 use mathlib.Core.Path.{◌≡◌, refl, sym, ap, subst, ◌∙◌}
 use mathlib.Core.Bool.{Bool, true, false, cond}
 use mathlib.Core.List.{List, [], ◌∷◌, ◌++◌, append_assoc, append-nil}
-use Prim.Native.Nat.{ℕ, suc, ◌+◌, ◌≤◌, ◌<◌}
+use Prim.Native.Nat.{ℕ, suc, ◌+◌, ◌*◌, ◌≤◌, ◌<◌}
 use native.Mathlib.Numerals.{add-one}
 use native.Mathlib.Omega.{arith}
 use borrow.Author.Tests.{lt-ltb, le-ltb, ltb-true, ltb-false, eq-eqb, ne_eqb}
@@ -11,20 +11,13 @@ use lib.Dec.{ltb, eqb}
 use lib.ListN.{length, get_or, drop, drop_of_length-le}
 use lib.Seq.{drop-cons}
 use Rattle.table_span.specs.declared.Table.{Table}
-use Rattle.text.specs.Wrote.{Wrote}
-use Rattle.text.proofs.Writing.{nothing, then}
+use Rattle.text.specs.Pens.{Writes}
+use Rattle.text.specs.declared.pen.Pen.{Pen}
+use Rattle.text.proofs.Pens.{written, wrote, nothing, within, chained}
 use Rattle.compare.specs.Differences.{Difference, basis, span, knot, only, basis_difference, span_difference, knots_from, differences_of, places_in}
 use Rattle.compare.specs.Comparison.{difference_text, lines_text, last_text, comparison_text}
-use Rattle.compare.specs.Contract.{at_place, last_line}
+use Rattle.compare.specs.Contract.{at_place, last_line, longest}
 use Rattle.compare.proofs.Same.{places_counted}
-
-pub no_line : (o : List ℕ) (at : ℕ) → Wrote o at (lines_text []) o at
-unfolding lines_text
-no_line o at = nothing o at
-
-pub one_line : (d : Difference) {o o' : List ℕ} {at r : ℕ} → Wrote o at (difference_text d) o' r → Wrote o at (lines_text (d ∷ [])) o' r
-unfolding lines_text
-one_line d w = rw append-nil w
 
 lines_append : (xs ys : List Difference) → lines_text (xs ++ ys) ≡ lines_text xs ++ lines_text ys
 unfolding lines_text
@@ -40,11 +33,6 @@ places_append (span r s ∷ xs) ys = places_append xs ys
 places_append (knot i a b ∷ xs) ys = let e : places_in (xs ++ ys) ≡ places_in xs + places_in ys = places_append xs ys in omega arith
 places_append (only i a ∷ xs) ys = let e : places_in (xs ++ ys) ≡ places_in xs + places_in ys = places_append xs ys in omega arith
 
--- texts one after the other
-pub lines_then : (xs ys : List Difference) {o o₁ o₂ : List ℕ} {at a₁ a₂ : ℕ} → Wrote o at (lines_text xs) o₁ a₁ → Wrote o₁ a₁ (lines_text ys) o₂ a₂
-    → Wrote o at (lines_text (xs ++ ys)) o₂ a₂
-lines_then xs ys u v = rw (lines_append xs ys) (then u v)
-
 -- ---- the difference at a place
 module _ (i : ℕ) (ks ls : List ℕ) where
   pub place_same : i < length ks → i < length ls → get_or ks i 0 ≡ get_or ls i 0 → at_place i ks ls ≡ []
@@ -59,6 +47,10 @@ module _ (i : ℕ) (ks ls : List ℕ) where
   pub place_new : length ks ≤ i → at_place i ks ls ≡ only i (get_or ls i 0) ∷ []
   place_new h = rw (le-ltb i (length ks) h) refl
 
+-- what the line of a place cites
+pub ruleset places = (place_same, place_knot, place_old, place_new, written, wrote, nothing, append-nil)
+
+module _ (i : ℕ) (ks ls : List ℕ) where
   -- the places from i on are place i and those behind it
   pub place_first : (length ks ≤ i → i < length ls)
       → knots_from i (drop i ks) (drop i ls) ≡ at_place i ks ls ++ knots_from (suc i) (drop (suc i) ks) (drop (suc i) ls)
@@ -90,38 +82,40 @@ module _ (i : ℕ) (ks ls : List ℕ) where
 
 -- ---- all places
 -- the places below i have been told
-pub record Upto (o : List ℕ) (at : ℕ) (ks ls : List ℕ) (i : ℕ) (o' : List ℕ) (r n : ℕ) : Type 0 where
+pub record Upto (p : Pen) (ks ls : List ℕ) (i : ℕ) (q : Pen) (n : ℕ) : Type 0 where
   pub told : List Difference
-  pub wrote : Wrote o at (lines_text told) o' r
+  pub wrote : Writes p (lines_text told) (44 * i) q
   pub count : n ≡ places_in told
+  pub most : n ≤ i
   pub whole : told ++ knots_from i (drop i ks) (drop i ls) ≡ knots_from 0 ks ls
 
 module _ (ks ls : List ℕ) where
-  pub upto_none : (o : List ℕ) (at : ℕ) → Upto o at ks ls 0 o at 0
-  unfolding places_in
-  upto_none o at = record { told = []; wrote = no_line o at; count = refl; whole = refl }
+  pub upto_none : (p : Pen) → Upto p ks ls 0 p 0
+  unfolding places_in lines_text
+  upto_none p = record { told = []; wrote = record { text = sym (nothing p); short = omega arith; room = refl }; count = refl; most = omega arith; whole = refl }
 
-  pub upto_more : (i : ℕ) {o o₁ o₂ : List ℕ} {at r₁ r₂ n₁ n₂ : ℕ} → (length ks ≤ i → i < length ls) → Upto o at ks ls i o₁ r₁ n₁
-      → Wrote o₁ r₁ (lines_text (at_place i ks ls)) o₂ r₂ → n₂ ≡ n₁ + places_in (at_place i ks ls) → Upto o at ks ls (i + 1) o₂ r₂ n₂
-  upto_more i {n₁ = n₁} f u w e = rw add-one (record {
+  pub upto_more : (i : ℕ) {p q r : Pen} {n₁ n₂ : ℕ} → (length ks ≤ i → i < length ls) → Upto p ks ls i q n₁
+      → Writes q (lines_text (at_place i ks ls)) 44 r → n₂ ≡ places_in (at_place i ks ls) → n₂ ≤ 1 → Upto p ks ls (i + 1) r (n₁ + n₂)
+  upto_more i {p} {q} {r} {n₁} {n₂} f u w e l = record {
     told = u.told ++ at_place i ks ls;
-    wrote = lines_then u.told (at_place i ks ls) u.wrote w;
-    count = e ∙ ap (λ (n : ℕ). n + places_in (at_place i ks ls)) u.count ∙ sym (places_append u.told (at_place i ks ls));
-    whole =
+    wrote = rw (lines_append u.told (at_place i ks ls)) (within (44 * (i + 1)) (chained u.wrote w) (omega arith));
+    count = cc (places_append u.told (at_place i ks ls), u.count, e);
+    most = omega (arith, u.most);
+    whole = rw add-one (
         append_assoc u.told (at_place i ks ls) (knots_from (suc i) (drop (suc i) ks) (drop (suc i) ls))
         ∙ ap (λ (ds : List Difference). u.told ++ ds) (sym (place_first i ks ls f))
-        ∙ u.whole;
-  })
+        ∙ u.whole);
+  }
 
-  pub upto_all : (i : ℕ) {o o' : List ℕ} {at r n : ℕ} → length ks ≤ i → length ls ≤ i → Upto o at ks ls i o' r n
-      → Wrote o at (lines_text (knots_from 0 ks ls)) o' r × (n ≡ places_in (knots_from 0 ks ls))
+  pub upto_all : (i : ℕ) {p q : Pen} {n : ℕ} → length ks ≤ i → length ls ≤ i → Upto p ks ls i q n
+      → Writes p (lines_text (knots_from 0 ks ls)) (44 * i) q × (n ≡ places_in (knots_from 0 ks ls))
   unfolding knots_from
-  upto_all i {o} {o'} {at} {r} h g u =
+  upto_all i {p} {q} h g u =
       let e : u.told ≡ knots_from 0 ks ls =
       sym (append-nil u.told)
       ∙ ap (λ (ds : List Difference). u.told ++ ds)
       (sym (ends (drop i ks) (drop i ls) (drop_of_length-le ks {i = i} h) (drop_of_length-le ls {i = i} g))) ∙ u.whole in
-      (subst (λ (ds : List Difference). Wrote o at (lines_text ds) o' r) e u.wrote, u.count ∙ ap (λ (ds : List Difference). places_in ds) e)
+      (subst (λ (ds : List Difference). Writes p (lines_text ds) (44 * i) q) e u.wrote, u.count ∙ ap (λ (ds : List Difference). places_in ds) e)
     where
       ends : (a b : List ℕ) → a ≡ [] → b ≡ [] → knots_from i a b ≡ []
       ends a b p q = rw (p, q) refl
@@ -142,15 +136,20 @@ last_is (d ∷ ds) at p n e f =
     let l : 0 < length (lines_text (d ∷ ds)) = some_line d ds in
     rw (ne_eqb p at (λ (g : p ≡ at). omega arith), f) refl
 
-pub compared : (t : Table) (ks : List ℕ) (u : Table) (ls : List ℕ) {o o₁ o₂ o₃ o₄ : List ℕ} {at a s p n r : ℕ}
-    → Wrote o at (lines_text (basis_difference t.basis u.basis)) o₁ a
-    → Wrote o₁ a (lines_text (span_difference t.span u.span)) o₂ s
-    → Wrote o₂ s (lines_text (knots_from 0 ks ls)) o₃ p
+pub compared : (t : Table) (ks : List ℕ) (u : Table) (ls : List ℕ) (b : Bool) (n : ℕ) {p a s q r : Pen}
+    → Writes p (lines_text (basis_difference t.basis u.basis)) 28 a
+    → Writes a (lines_text (span_difference t.span u.span)) 27 s
+    → Writes s (lines_text (knots_from 0 ks ls)) 180224 q
     → n ≡ places_in (knots_from 0 ks ls)
-    → Wrote o₃ p (last_line (eqb p at) n) o₄ r
-    → Wrote o at (comparison_text t ks u ls) o₄ r
+    → b ≡ eqb q.at p.at
+    → Writes q (last_line b n) 5 r
+    → Writes p (comparison_text t ks u ls) longest r
 unfolding comparison_text differences_of
-compared t ks u ls {o₃ = o₃} {o₄ = o₄} {at = at} {p = p} {n = n} {r = r} w x y c z =
+compared t ks u ls b n {p} {a} {s} {q} {r} w x y c e z =
     let ds : List Difference = differences_of t ks u ls in
-    let all = lines_then _ _ (lines_then _ _ w x) y in
-    then all (subst (λ (l : List ℕ). Wrote o₃ p l o₄ r) (last_is ds at p n all.next (c ∙ sym (places_counted t ks u ls))) z)
+    let k : lines_text ds ≡ lines_text (basis_difference t.basis u.basis) ++ lines_text (span_difference t.span u.span) ++ lines_text (knots_from 0 ks ls) =
+    lines_append (basis_difference t.basis u.basis ++ span_difference t.span u.span) (knots_from 0 ks ls)
+    ∙ ap (λ (v : List ℕ). v ++ lines_text (knots_from 0 ks ls)) (lines_append (basis_difference t.basis u.basis) (span_difference t.span u.span)) in
+    let all : Writes p (lines_text ds) 180279 q = rw k (within 180279 (chained (chained w x) y) (omega arith)) in
+    let l : last_line b n ≡ last_text ds = rw e (last_is ds p.at q.at n (ap (λ (v : Pen). v.at) all.text) (c ∙ sym (places_counted t ks u ls))) in
+    within longest (chained all (subst (λ (v : List ℕ). Writes q v 5 r) l z)) (omega arith)

@@ -1,14 +1,10 @@
 -- A printed comparison, read: what each of its lines says, from its bytes alone. Definitions only; proofs/ReadBack.antt and
 -- proofs/Printed.antt show what it says of a comparison.
-use Rattle.std.specs.Prelude.{cond, List, [], ◌∷◌, ℕ}
+use Rattle.std.specs.Prelude.{cond, List, [], ◌∷◌, ℕ, Some, None, Option}
 use Rattle.basis.specs.declared.Basis.{Basis}
 use Rattle.table_span.specs.declared.Table.{Table}
-use Rattle.text.specs.declared.HexNumber.{HexNumber}
-use Rattle.text.specs.declared.HexNumber.TheVariants as H
 use Rattle.text.specs.Text.{bytes, same, fields_of, hex_of}
 use Rattle.text_decimals.specs.Decimals.{number_in}
-use Rattle.lines_record.specs.declared.BasisName.{BasisName}
-use Rattle.lines_record.specs.declared.BasisName.TheVariants as N
 use Rattle.lines_record.specs.Record.{named_of}
 use Rattle.lines_machine.specs.Program.{lines_of}
 use Rattle.compare.specs.Differences.{Difference, basis, span, knot, only, places_in, rebuilt}
@@ -20,30 +16,30 @@ pub data Said : Type 0 where
   count : ℕ → Said
   unread : Said
 
-abbrev pub basis_said : BasisName → BasisName → Said
-basis_said (N.Is b) (N.Is c) = tells (basis b c)
-basis_said (N.Is b) N.Nothing = unread
-basis_said N.Nothing c = unread
+abbrev pub basis_said : Option Basis → Option Basis → Said
+basis_said (Some b) (Some c) = tells (basis b c)
+basis_said (Some b) None = unread
+basis_said None c = unread
 
-abbrev pub span_said : HexNumber → HexNumber → Said
-span_said (H.Is r) (H.Is s) = tells (span r s)
-span_said (H.Is r) H.Nothing = unread
-span_said H.Nothing s = unread
+abbrev pub span_said : Option ℕ → Option ℕ → Said
+span_said (Some r) (Some s) = tells (span r s)
+span_said (Some r) None = unread
+span_said None s = unread
 
-abbrev pub only_said : HexNumber → HexNumber → Said
-only_said (H.Is i) (H.Is a) = tells (only i a)
-only_said (H.Is i) H.Nothing = unread
-only_said H.Nothing a = unread
+abbrev pub only_said : Option ℕ → Option ℕ → Said
+only_said (Some i) (Some a) = tells (only i a)
+only_said (Some i) None = unread
+only_said None a = unread
 
-abbrev pub knot_said : HexNumber → HexNumber → HexNumber → Said
-knot_said (H.Is i) (H.Is a) (H.Is b) = tells (knot i a b)
-knot_said (H.Is i) (H.Is a) H.Nothing = unread
-knot_said (H.Is i) H.Nothing b = unread
-knot_said H.Nothing a b = unread
+abbrev pub knot_said : Option ℕ → Option ℕ → Option ℕ → Said
+knot_said (Some i) (Some a) (Some b) = tells (knot i a b)
+knot_said (Some i) (Some a) None = unread
+knot_said (Some i) None b = unread
+knot_said None a b = unread
 
-abbrev pub count_said : HexNumber → Said → Said
-count_said (H.Is n) r = count n
-count_said H.Nothing r = r
+abbrev pub count_said : Option ℕ → Said → Said
+count_said (Some n) r = count n
+count_said None r = r
 
 -- a place and a number of places have 1 to 4 digits, a span 1 to 10, a knot 16
 unfoldable pub said_by : List (List ℕ) → Said

@@ -8,7 +8,6 @@ use borrow.Author.Tests.{le-leb, lt-leb}
 use lib.ListN.{length, take, get_or}
 use Rattle.text.specs.Text.{bytes, same, fields_of}
 use Rattle.lines_machine.specs.Program.{widest}
-use Rattle.lines_machine.specs.Contract.{open_of}
 use Rattle.compare_lines.specs.declared.CompareRecord.TheVariants.{Other, Bad}
 use Rattle.compare_lines.specs.CompareRecord.{meaning_of, of_fields, said_of}
 use Rattle.compare_lines.specs.Listings.{says}
@@ -42,12 +41,3 @@ no_record l h k = go (fields_of l) h k
     go (w ∷ []) h k = absurd (h refl)
     go (w ∷ s ∷ []) h k = absurd (k refl)
     go (w ∷ s ∷ t ∷ ts) h k = refl
-
--- ---- the lent 64
-pub said_so : (n : ℕ) (line : List ℕ) → n ≤ widest → said_of (take (n - 0) line) ≡ says (open_of n line)
-unfolding says
-said_so n line h = let z : n - 0 ≡ n = omega arith in rw (z, le-leb n widest h) refl
-
-pub said_over_lem : (n : ℕ) (line : List ℕ) → widest < n → Bad ≡ says (open_of n line)
-unfolding says
-said_over_lem n line h = rw (lt-leb n widest h) refl

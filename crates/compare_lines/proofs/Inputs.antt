@@ -1,5 +1,6 @@
 -- Two listings of which no line is refused, parted by `other`, print the comparison of the two tables that they hold; those are tables that a
 -- printed comparison is read back for. Assumes nothing.
+use Rattle.std.specs.Prelude.{Ok, Err, Some, None, Option, ℕ}
 use mathlib.Core.Path.{◌≡◌, refl, sym, ap, subst, ◌∙◌}
 use mathlib.Core.Logic.{◌⊎◌, inl, inr}
 use mathlib.Core.Bool.{Bool, true, false, cond, ◌&&◌}
@@ -12,19 +13,15 @@ use lib.ListN.{length, length-append}
 use Rattle.basis.specs.declared.Basis.{Basis}
 use Rattle.basis.specs.declared.Basis.TheVariants.{Bspline, Bezier, CatmullRom, Hermite, Linear, Power}
 use Rattle.error.proofs.First.{never}
+use Rattle.error.specs.Refusals.{Verdict}
 use Rattle.error.specs.declared.Refusal.{Refusal}
 use Rattle.error.specs.declared.Refusal.TheVariants.{NoComparison}
-use Rattle.error.specs.declared.Verdict.TheVariants.{Passed, Failed}
 use Rattle.table_span.specs.declared.Table.{Table}
 use Rattle.table_span.specs.Second.{day, good_span, spans_of}
-use Rattle.text.specs.declared.HexNumber.{HexNumber}
-use Rattle.text.specs.declared.HexNumber.TheVariants as H
 use Rattle.text.specs.Text.{bytes, same, LF, TAB, onto, fields_of, hex_of, hex_text, dec_text}
 use Rattle.text.proofs.ReadBack.{length_hex, parse_print, read_small}
 use Rattle.text_decimals.specs.Decimals.{number_in}
 use Rattle.text_decimals.proofs.ReadBack.{number_back, dec_length}
-use Rattle.lines_record.specs.declared.BasisName.{BasisName}
-use Rattle.lines_record.specs.declared.BasisName.TheVariants as N
 use Rattle.lines_record.specs.Record.{name_of, named_of}
 use Rattle.lines_machine.specs.Program.{lines_of, widest, Line, so, over, line_of, prints_of, output_of}
 use Rattle.lines_machine.proofs.Breaking.{Free, free_append, freeb, free_of, free_hex, free_dec, field_last, broken}
@@ -86,10 +83,10 @@ unfolding prints_of verdict_of after_of says said_of of_fields fields_of onto sa
 other_line l ys = refl
 
 -- ---- where no line is refused
-failed : {A : Type 0} {r : Refusal} → Failed r ≡ Passed → A
+failed : {A : Type 0} {r : Refusal} → ◌≡◌ {A = Verdict} (Err r) (Ok tt) → A
 failed e = never (cc)
 
-not_other : (l : Listing) (s : CompareRecord) → heard l s ≡ Passed → is_other s ≡ false
+not_other : (l : Listing) (s : CompareRecord) → heard l s ≡ Ok tt → is_other s ≡ false
 unfolding heard
 not_other l (Curve b) e = refl
 not_other l (Span n) e = refl
@@ -121,17 +118,17 @@ Sized (Knot n) = n < 2 ^ 64
 Sized Other = Unit
 Sized Bad = Unit
 
-curve_sized : (r : BasisName) → Sized (curve_said r)
-curve_sized (N.Is b) = tt
-curve_sized N.Nothing = tt
+curve_sized : (r : Option Basis) → Sized (curve_said r)
+curve_sized (Some b) = tt
+curve_sized None = tt
 
-span_sized : (r : HexNumber) → Sized (span_said r)
-span_sized (H.Is n) = tt
-span_sized H.Nothing = tt
+span_sized : (r : Option ℕ) → Sized (span_said r)
+span_sized (Some n) = tt
+span_sized None = tt
 
-knot_sized : (s : List ℕ) (r : HexNumber) → hex_of s ≡ r → Sized (knot_said r)
-knot_sized s (H.Is n) e = read_small s n e
-knot_sized s H.Nothing e = tt
+knot_sized : (s : List ℕ) (r : Option ℕ) → hex_of s ≡ r → Sized (knot_said r)
+knot_sized s (Some n) e = read_small s n e
+knot_sized s None e = tt
 
 meaning_sized : (w s : List ℕ) → Sized (meaning_of w s)
 unfolding meaning_of
@@ -362,7 +359,7 @@ abbrev Holds : Listing → List (List ℕ) → Listing → Type 0
 Holds h xs l = Heard h xs × (listed h xs ≡ l)
 
 -- a line, and those after it
-then_holds : (h k l : Listing) (r : CompareRecord) (x : List ℕ) (xs : List (List ℕ)) → says (line_of x) ≡ r → heard h r ≡ Passed → entered h r ≡ k
+then_holds : (h k l : Listing) (r : CompareRecord) (x : List ℕ) (xs : List (List ℕ)) → says (line_of x) ≡ r → heard h r ≡ Ok tt → entered h r ≡ k
     → Holds k xs l → Holds h (x ∷ xs) l
 unfolding listed
 then_holds h k l r x xs e p q s =

@@ -1,14 +1,13 @@
 -- The lines of refusals say no difference, so whatever is refused, what an input of two listings prints is read as the differences of the two
 -- tables that they hold, and the second is rebuilt from it. Assumes nothing.
+use Rattle.std.specs.Prelude.{Ok, Err}
 use mathlib.Core.Path.{◌≡◌, refl, ap, ◌∙◌}
 use mathlib.Core.List.{List, [], ◌∷◌, ◌++◌, append_assoc}
 use Prim.Native.Nat.{ℕ}
 use native.Mathlib.Omega.{arith}
 use lib.ListN.{length}
 use Rattle.error.specs.declared.Refusal.{Refusal}
-use Rattle.error.specs.declared.Verdict.{Verdict}
-use Rattle.error.specs.declared.Verdict.TheVariants.{Passed, Failed}
-use Rattle.error.specs.Refusals.{number_of, places_of}
+use Rattle.error.specs.Refusals.{number_of, places_of, Verdict}
 use Rattle.table_span.specs.declared.Table.{Table}
 use Rattle.text.specs.Text.{bytes, same, LF, TAB, fields_of, dec_text}
 use Rattle.text_decimals.specs.Decimals.{number_in, digits_of}
@@ -58,8 +57,8 @@ refused_says r =
 -- ---- no difference is told by refusals
 refusal_told : (v : Verdict) (y : List ℕ) → told_in (read_of (verdict_text v ++ y)) ≡ told_in (read_of y)
 unfolding said_over told_in
-refusal_told Passed y = refl
-refusal_told (Failed r) y = ap (λ (l : List (List ℕ)). told_in (said_over l)) (broken (refused_line r) y (refused_plain r)) ∙ rw (refused_says r) refl
+refusal_told (Ok _) y = refl
+refusal_told (Err r) y = ap (λ (l : List (List ℕ)). told_in (said_over l)) (broken (refused_line r) y (refused_plain r)) ∙ rw (refused_says r) refl
 
 refusals_told : (h : Listing) (xs : List (List ℕ)) (y : List ℕ) → told_in (read_of (refusals_of h xs ++ y)) ≡ told_in (read_of y)
 unfolding refusals_of

@@ -1,27 +1,24 @@
 -- What a line says to the comparison: `curve` BASIS, `span` N, `knot` D, `other`, or none of these. Definitions only.
-use Rattle.std.specs.Prelude.{Bool, true, false, cond, List, [], ◌∷◌, ℕ}
-use Rattle.text.specs.declared.HexNumber.{HexNumber}
-use Rattle.text.specs.declared.HexNumber.TheVariants as H
+use Rattle.basis.specs.declared.Basis.{Basis}
+use Rattle.std.specs.Prelude.{Bool, true, false, cond, List, [], ◌∷◌, ℕ, Some, None, Option}
 use Rattle.text.specs.Text.{bytes, same, fields_of, hex_of}
 use Rattle.text_decimals.specs.Decimals.{number_in}
-use Rattle.lines_record.specs.declared.BasisName.{BasisName}
-use Rattle.lines_record.specs.declared.BasisName.TheVariants as N
 use Rattle.lines_record.specs.Record.{named_of}
 use Rattle.compare_lines.specs.declared.CompareRecord.{CompareRecord}
 use Rattle.compare_lines.specs.declared.CompareRecord.TheVariants.{Curve, Span, Knot, Other, Bad}
 
-abbrev pub curve_said : BasisName → CompareRecord
-curve_said (N.Is b) = Curve b
-curve_said N.Nothing = Bad
+abbrev pub curve_said : Option Basis → CompareRecord
+curve_said (Some b) = Curve b
+curve_said None = Bad
 
-abbrev pub span_said : HexNumber → CompareRecord
-span_said (H.Is n) = Span n
-span_said H.Nothing = Bad
+abbrev pub span_said : Option ℕ → CompareRecord
+span_said (Some n) = Span n
+span_said None = Bad
 
 -- a knot is the number that its 16 digits make, and not a double: so two patterns of NaN are two knots
-abbrev pub knot_said : HexNumber → CompareRecord
-knot_said (H.Is n) = Knot n
-knot_said H.Nothing = Bad
+abbrev pub knot_said : Option ℕ → CompareRecord
+knot_said (Some n) = Knot n
+knot_said None = Bad
 
 -- a word and the field after it; a span has 1 to 5 digits
 unfoldable pub meaning_of : List ℕ → List ℕ → CompareRecord

@@ -1,8 +1,5 @@
 -- How code holds two listings, and what it is to have taken in a record. Definitions only.
 use Rattle.std.specs.Prelude.{◌≡◌, List, ℕ, ◌≤◌, max, take}
-use Rattle.lines_machine.specs.Bytes.{State, state_at}
-use Rattle.lines_machine.specs.Contract.{open_of}
-use Rattle.compare_lines.specs.declared.CompareReader.{CompareReader}
 use Rattle.compare_lines.specs.declared.EntryResult.{EntryResult}
 use Rattle.compare_lines.specs.declared.Comparison.{Comparison}
 use Rattle.compare_lines.specs.declared.Comparison.TheVariants.{Before, Parted}
@@ -29,10 +26,6 @@ both_of (Parted k l) old new = parted (listing_of k old) (listing_of l new)
 abbrev pub count_of : Comparison → ℕ
 count_of (Before l) = knots_of l
 count_of (Parted k l) = max (knots_of k) (knots_of l)
-
--- the line that is being read, and the listings
-abbrev pub state_of : CompareReader → List ℕ → List ℕ → List ℕ → State Both
-state_of st begun old new = state_at (open_of st.len begun) (both_of st.held old new)
 
 -- a record came upon the listing l
 pub record Enters (l : Listing) (s : CompareRecord) (e : EntryResult) (knots : List ℕ) : Type 0 where

@@ -1,7 +1,6 @@
 -- Inputs that hold two listings: what the lines of a listing hold, that none of them is refused, and a table written as a listing.
 -- Definitions only; proofs/Inputs.antt shows what the program prints for them.
-use Rattle.std.specs.Prelude.{◌≡◌, false, List, [], ◌∷◌, ◌++◌, ℕ}
-use Rattle.error.specs.declared.Verdict.TheVariants.{Passed}
+use Rattle.std.specs.Prelude.{◌≡◌, false, List, [], ◌∷◌, ◌++◌, ℕ, Ok}
 use Rattle.table_span.specs.declared.Table.{Table}
 use Rattle.table_span.specs.Second.{spans_of}
 use Rattle.text.specs.Text.{bytes, LF, hex_text}
@@ -29,7 +28,7 @@ NoOther (l ∷ ls) = (is_other (says (line_of l)) ≡ false) × NoOther ls
 -- none of them is refused
 abbrev pub Heard : Listing → List (List ℕ) → Type 0
 Heard h [] = Unit
-Heard h (l ∷ ls) = (heard h (says (line_of l)) ≡ Passed) × Heard (entered h (says (line_of l))) ls
+Heard h (l ∷ ls) = (heard h (says (line_of l)) ≡ Ok tt) × Heard (entered h (says (line_of l))) ls
 
 -- ---- a table as a listing: `curve`, `span` where it has one, and the 16 digits of each knot
 unfoldable pub knots_text : List ℕ → List ℕ

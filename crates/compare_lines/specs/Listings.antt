@@ -1,9 +1,8 @@
 -- Two listings on one input, parted by `other`, and what they print. Definitions only.
-use Rattle.std.specs.Prelude.{cond, List, [], ℕ}
+use Rattle.error.specs.Refusals.{Verdict}
+use Rattle.std.specs.Prelude.{cond, List, [], ℕ, Ok, Err}
 use Rattle.basis.specs.declared.Basis.{Basis}
 use Rattle.error.specs.declared.Refusal.TheVariants.{TooMany, BadSpan, BadLine, NoComparison}
-use Rattle.error.specs.declared.Verdict.{Verdict}
-use Rattle.error.specs.declared.Verdict.TheVariants.{Passed, Failed}
 use Rattle.keeper.specs.Table as table
 use Rattle.keeper.specs.Table.{has_room, kept}
 use Rattle.table_span.specs.declared.Table.{Table}
@@ -29,16 +28,16 @@ bare b = record { basis = b; span = 0 }
 
 -- whether a record is refused there: 12 without a `curve`; 14, a span out of range; 3, a knot beyond the last place
 unfoldable pub heard : Listing → CompareRecord → Verdict
-heard none (Curve b) = Passed
-heard none (Span s) = Failed BadLine
-heard none (Knot n) = Failed BadLine
-heard none Other = Failed BadLine
-heard none Bad = Failed BadLine
-heard (on t ks) (Curve b) = Passed
-heard (on t ks) (Span s) = cond (good_span s) Passed (Failed BadSpan)
-heard (on t ks) (Knot n) = cond (has_room ks) Passed (Failed TooMany)
-heard (on t ks) Other = Failed BadLine
-heard (on t ks) Bad = Failed BadLine
+heard none (Curve b) = Ok tt
+heard none (Span s) = Err BadLine
+heard none (Knot n) = Err BadLine
+heard none Other = Err BadLine
+heard none Bad = Err BadLine
+heard (on t ks) (Curve b) = Ok tt
+heard (on t ks) (Span s) = cond (good_span s) (Ok tt) (Err BadSpan)
+heard (on t ks) (Knot n) = cond (has_room ks) (Ok tt) (Err TooMany)
+heard (on t ks) Other = Err BadLine
+heard (on t ks) Bad = Err BadLine
 
 -- the listing after it: `curve` clears knots and span, so the last one counts; `span` replaces the one before
 unfoldable pub entered : Listing → CompareRecord → Listing
@@ -60,7 +59,7 @@ pub data Both : Type 0 where
 
 -- the first `other` parts the two, and the second begins with none; any other `other` is a bad line
 unfoldable pub verdict_of : Both → CompareRecord → Verdict
-verdict_of (before l) s = cond (is_other s) Passed (heard l s)
+verdict_of (before l) s = cond (is_other s) (Ok tt) (heard l s)
 verdict_of (parted k l) s = heard l s
 
 unfoldable pub after_of : Both → CompareRecord → Both
@@ -69,8 +68,8 @@ after_of (parted k l) s = parted k (entered l s)
 
 -- ---- what is printed
 abbrev pub verdict_text : Verdict → List ℕ
-verdict_text Passed = []
-verdict_text (Failed r) = refused_text r
+verdict_text (Ok _) = []
+verdict_text (Err r) = refused_text r
 
 -- at the end the comparison, or 20 in its place
 unfoldable pub ends_of : Both → List ℕ

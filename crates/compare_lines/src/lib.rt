@@ -2,25 +2,23 @@
 #![tactic(auto)]
 
 ghost use Rattle.std.specs.Prelude.{◌≡◌, List, ℕ, ◌+◌, ◌≤◌, ◌<◌, length, take};
-ghost use Rattle.std.proofs.Math.Seq.{slice};
 ghost use Rattle.text.specs.Text.{hex_of};
+ghost use Rattle.text.specs.Pens.{HasRoom, Writes};
 ghost use Rattle.text.specs.Wrote.{Wrote};
 ghost use Rattle.text_decimals.specs.Decimals.{number_in};
 ghost use Rattle.lines_record.specs.Record.{named_of};
-ghost use Rattle.lines_machine.specs.Program.{widest};
-ghost use Rattle.lines_machine.specs.Bytes.{start, end_of};
-ghost use Rattle.lines_machine.specs.Contract.{open_of, Fed};
+ghost use Rattle.lines_machine.specs.Contract.{said_of as line_said};
 ghost use Rattle.compare.specs.Contract.{longest};
 ghost use Rattle.compare_lines.specs.declared.CompareRecord.TheVariants.{Span, Knot};
 ghost use Rattle.compare_lines.specs.CompareRecord.{curve_said, span_said, knot_said, meaning_of, said_of, is_other};
-ghost use Rattle.compare_lines.specs.Listings.{none, on, before, places, parted, verdict_text, ends_of, says, compare_program};
-ghost use Rattle.compare_lines.specs.Contract.{listing_of, knots_of, both_of, count_of, state_of, Enters, Takes};
+ghost use Rattle.compare_lines.specs.Listings.{none, on, before, Both, places, parted, verdict_text, ends_of, says, compare_program};
+ghost use Rattle.compare_lines.specs.Contract.{listing_of, knots_of, both_of, count_of, Enters, Takes};
 
 use basis::Basis;
-use error::{Refusal, Verdict};
-use lines_record::BasisName;
+use error::Refusal;
+use lines_machine::Machine;
 use table_span::Table;
-use text::HexNumber;
+use text::Pen;
 
 // What a line says. A knot is its 64 bits.
 #[derive(Clone, Copy)]
@@ -50,28 +48,21 @@ pub enum Comparison {
 #[derive(Clone, Copy)]
 pub struct EntryResult {
     pub listing: Listing,
-    pub verdict: Verdict,
+    pub verdict: Result<(), Refusal>,
 }
 
 // Both listings after a record, and whether it was refused.
 #[derive(Clone, Copy)]
 pub struct TakeResult {
     pub held: Comparison,
-    pub verdict: Verdict,
-}
-
-// Both listings after a line, and the place behind its reply.
-#[derive(Clone, Copy)]
-pub struct LineResult {
-    pub held: Comparison,
-    pub at: usize,
+    pub verdict: Result<(), Refusal>,
 }
 
 // The record of `curve` with this field.
 fn curve_of(s: &[u8]) -> CompareRecord
     ensures { result ≡ curve_said (named_of s.now) }
 {
-    let BasisName::Is(b) = lines_record::basis_named(s) else {
+    let Some(b) = lines_record::basis_named(s) else {
         return CompareRecord::Bad;
     };
     CompareRecord::Curve(b)
@@ -81,7 +72,7 @@ fn curve_of(s: &[u8]) -> CompareRecord
 fn span_of(s: &[u8]) -> CompareRecord
     ensures { result ≡ span_said (number_in 5 s.now) }
 {
-    let HexNumber::Is(n) = text_decimals::number_in(s, 5) else {
+    let Some(n) = text_decimals::number_in(s, 5) else {
         return CompareRecord::Bad;
     };
     CompareRecord::Span(n as u32)
@@ -91,7 +82,7 @@ fn span_of(s: &[u8]) -> CompareRecord
 fn knot_of(s: &[u8]) -> CompareRecord
     ensures { result ≡ knot_said (hex_of s.now) }
 {
-    let HexNumber::Is(n) = text::hex(s) else {
+    let Some(n) = text::hex(s) else {
         return CompareRecord::Bad;
     };
     CompareRecord::Knot(n)
@@ -130,15 +121,14 @@ fn said_of(line: &[u8]) -> CompareRecord
     meaning(text::field(line, 0), text::field(line, 1))
 }
 
-// What the line of len bytes says; 65 stands for one that is too long.
-fn said_by(len: usize, line: &[u8]) -> CompareRecord
-    requires { length line.now ≡ widest }
-    ensures { result ≡ says (open_of len line.now) }
+// What a line says.
+fn said_by(line: Option<&[u8]>) -> CompareRecord
+    ensures { result ≡ says (line_said line.entry) }
 {
-    if len <= lines_machine::WIDEST {
-        return said_of(&line[0..len]);
+    match line {
+        Some(l) => said_of(l),
+        None => CompareRecord::Bad,
     }
-    CompareRecord::Bad
 }
 
 // Whether the second listing starts here.
@@ -160,12 +150,12 @@ fn first(s: CompareRecord, knots: &[u64]) -> EntryResult
 {
     let bad = EntryResult {
         listing: Listing::Nothing,
-        verdict: Verdict::Failed(Refusal::BadLine),
+        verdict: Err(Refusal::BadLine),
     };
     match s {
         CompareRecord::Curve(b) => EntryResult {
             listing: Listing::On(Table { basis: b, span: 0 }, 0),
-            verdict: Verdict::Passed,
+            verdict: Ok(()),
         },
         CompareRecord::Span(_) => bad,
         CompareRecord::Knot(_) => bad,
@@ -183,12 +173,12 @@ fn spanned(t: Table, n: usize, s: u32, knots: &[u64]) -> EntryResult
         let b = t.basis;
         return EntryResult {
             listing: Listing::On(Table { basis: b, span: s }, n),
-            verdict: Verdict::Passed,
+            verdict: Ok(()),
         };
     }
     EntryResult {
         listing: Listing::On(t, n),
-        verdict: Verdict::Failed(Refusal::BadSpan),
+        verdict: Err(Refusal::BadSpan),
     }
 }
 
@@ -198,18 +188,15 @@ fn add(t: Table, n: usize, x: u64, knots: &mut [u64]) -> EntryResult
     requires knots { length knots.old ≡ places }
     ensures { Enters (on t (take n knots.old)) (Knot x) result knots.new }
 {
-    let k = keeper::keep_bits(x, n, knots);
-    let count = k.count;
-    let after = Listing::On(t, count);
-    if k.taken {
-        return EntryResult {
-            listing: after,
-            verdict: Verdict::Passed,
-        };
-    }
-    EntryResult {
-        listing: after,
-        verdict: Verdict::Failed(Refusal::TooMany),
+    match keeper::keep(x, n, knots) {
+        Some(count) => EntryResult {
+            listing: Listing::On(t, count),
+            verdict: Ok(()),
+        },
+        None => EntryResult {
+            listing: Listing::On(t, n),
+            verdict: Err(Refusal::TooMany),
+        },
     }
 }
 
@@ -221,12 +208,12 @@ fn later(t: Table, n: usize, s: CompareRecord, knots: &mut [u64]) -> EntryResult
 {
     let bad = EntryResult {
         listing: Listing::On(t, n),
-        verdict: Verdict::Failed(Refusal::BadLine),
+        verdict: Err(Refusal::BadLine),
     };
     match s {
         CompareRecord::Curve(b) => EntryResult {
             listing: Listing::On(Table { basis: b, span: 0 }, 0),
-            verdict: Verdict::Passed,
+            verdict: Ok(()),
         },
         CompareRecord::Span(r) => spanned(t, n, r, &knots[..]),
         CompareRecord::Knot(x) => add(t, n, x, knots),
@@ -259,7 +246,7 @@ fn take_in(h: Comparison, s: CompareRecord, old: &mut [u64], new: &mut [u64]) ->
             if is_other(s) {
                 return TakeResult {
                     held: Comparison::Parted(l, Listing::Nothing),
-                    verdict: Verdict::Passed,
+                    verdict: Ok(()),
                 };
             }
             let e = enter(l, s, old);
@@ -283,94 +270,66 @@ fn take_in(h: Comparison, s: CompareRecord, old: &mut [u64], new: &mut [u64]) ->
 }
 
 // A refusal; nothing if there is none.
-fn put_verdict(v: Verdict, out: &mut [u8], at: usize) -> usize
-    requires { at + 18 ≤ length out.old }
-    ensures text { Wrote out.old at (verdict_text v) out.new result }
-    ensures short { result ≤ at + 18 }
+#[tactic(auto, using(text::proofs::Pens::pens))]
+fn put_verdict(pen: &mut Pen, v: Result<(), Refusal>)
+    requires { HasRoom pen.old 18 }
+    ensures { Writes pen.old (verdict_text v) 18 pen.new }
 {
     match v {
-        Verdict::Passed => at,
-        Verdict::Failed(r) => lines_reply::put_refused(out, at, r),
-    }
-}
-
-// A line of len bytes, the first ones of the lent 64; 65 for one that is too long. Its refusal, if any, is written from place `at` on.
-pub fn line(
-    h: Comparison,
-    len: usize,
-    line: &[u8],
-    old: &mut [u64],
-    new: &mut [u64],
-    out: &mut [u8],
-    at: usize,
-) -> LineResult
-    requires line { length line.now ≡ widest }
-    requires held { count_of h ≤ places }
-    requires old { length old.old ≡ places }
-    requires new { length new.old ≡ places }
-    requires room { at + 18 ≤ length out.old }
-    ensures state { both_of result.held old.new new.new ≡ compare_program.after
-        (both_of h old.old new.old) (open_of len line.now) }
-    ensures few { count_of result.held ≤ places }
-    ensures wrote { Wrote out.old at
-        (compare_program.tells (both_of h old.old new.old) (open_of len line.now)) out.new
-        result.at }
-    ensures short { result.at ≤ at + 18 }
-{
-    let s = said_by(len, line);
-    let t = take_in(h, s, old, new);
-    let after = t.held;
-    let verdict = t.verdict;
-    let next = put_verdict(verdict, out, at);
-    LineResult {
-        held: after,
-        at: next,
+        Ok(()) => {}
+        Err(r) => lines_reply::put_refused(pen, r),
     }
 }
 
 // The end, where the first listing has a table and the second may have one.
-fn end_on(
-    t: Table,
-    n: usize,
-    l: Listing,
-    old: &[u64],
-    new: &[u64],
-    out: &mut [u8],
-    at: usize,
-) -> usize
+#[tactic(auto, using(text::proofs::Pens::pens), unfolding(crate::specs::Listings::ends_of))]
+fn end_on(pen: &mut Pen, t: Table, n: usize, l: Listing, old: &[u64], new: &[u64])
     requires count { n ≤ places }
     requires knots_l { knots_of l ≤ places }
     requires old { length old.now ≡ places }
     requires new { length new.now ≡ places }
-    requires room { at + longest ≤ length out.old }
-    ensures text { Wrote out.old at (ends_of (parted (on t (take n old.now)) (listing_of l new.now)))
-        out.new result }
-    ensures short { result ≤ at + longest }
+    requires room { HasRoom pen.old longest }
+    ensures { Writes pen.old (ends_of (parted (on t (take n old.now)) (listing_of l new.now))) longest pen.new }
 {
     match l {
-        Listing::Nothing => lines_reply::put_refused(out, at, Refusal::NoComparison),
-        Listing::On(u, m) => compare::put_comparison(t, &old[0..n], u, &new[0..m], out, at),
+        Listing::Nothing => lines_reply::put_refused(pen, Refusal::NoComparison),
+        Listing::On(u, m) => compare::put_comparison(pen, t, &old[0..n], u, &new[0..m]),
     }
 }
 
 // The end after an `other`.
-fn end_parted(k: Listing, l: Listing, old: &[u64], new: &[u64], out: &mut [u8], at: usize) -> usize
+#[tactic(auto, using(text::proofs::Pens::pens), unfolding(crate::specs::Listings::ends_of))]
+fn end_parted(pen: &mut Pen, k: Listing, l: Listing, old: &[u64], new: &[u64])
     requires knots_k { knots_of k ≤ places }
     requires knots_l { knots_of l ≤ places }
     requires old { length old.now ≡ places }
     requires new { length new.now ≡ places }
-    requires room { at + longest ≤ length out.old }
-    ensures text { Wrote out.old at (ends_of (parted (listing_of k old.now) (listing_of l new.now)))
-        out.new result }
-    ensures short { result ≤ at + longest }
+    requires room { HasRoom pen.old longest }
+    ensures { Writes pen.old (ends_of (parted (listing_of k old.now) (listing_of l new.now))) longest pen.new }
 {
     match k {
-        Listing::Nothing => lines_reply::put_refused(out, at, Refusal::NoComparison),
-        Listing::On(t, n) => end_on(t, n, l, old, new, out, at),
+        Listing::Nothing => lines_reply::put_refused(pen, Refusal::NoComparison),
+        Listing::On(t, n) => end_on(pen, t, n, l, old, new),
+    }
+}
+
+// What differs, or 20 in its place.
+#[tactic(auto, using(text::proofs::Pens::pens), unfolding(crate::specs::Listings::ends_of))]
+fn put_end(pen: &mut Pen, h: Comparison, old: &[u64], new: &[u64])
+    requires held { count_of h ≤ places }
+    requires old { length old.now ≡ places }
+    requires new { length new.now ≡ places }
+    requires room { HasRoom pen.old longest }
+    ensures { Writes pen.old (ends_of (both_of h old.now new.now)) longest pen.new }
+{
+    match h {
+        Comparison::Before(_) => lines_reply::put_refused(pen, Refusal::NoComparison),
+        Comparison::Parted(k, l) => end_parted(pen, k, l, old, new),
     }
 }
 
 // The end of the input: what differs, or 20 in its place.
+#[tactic(auto, using(text::proofs::Pens::lands))]
 pub fn end(h: Comparison, old: &[u64], new: &[u64], out: &mut [u8], at: usize) -> usize
     requires held { count_of h ≤ places }
     requires old { length old.now ≡ places }
@@ -379,116 +338,60 @@ pub fn end(h: Comparison, old: &[u64], new: &[u64], out: &mut [u8], at: usize) -
     ensures text { Wrote out.old at (ends_of (both_of h old.now new.now)) out.new result }
     ensures short { result ≤ at + longest }
 {
-    match h {
-        Comparison::Before(_) => lines_reply::put_refused(out, at, Refusal::NoComparison),
-        Comparison::Parted(k, l) => end_parted(k, l, old, new, out, at),
-    }
+    let mut pen = Pen::new(out, at);
+    put_end(&mut pen, h, old, new);
+    pen.at()
 }
 
-// `len`: bytes of the current line in the lent 64; 65 means that the line is too long.
-#[derive(Clone, Copy)]
-pub struct CompareReader {
-    pub len: usize,
+// The comparison between two lines: both listings, whose knots are the first of `old` and of `new`.
+#[derive(Drop)]
+pub struct Comparisons {
     pub held: Comparison,
+    pub old: [u64; 4096],
+    pub new: [u64; 4096],
+    ghost few: { count_of held ≤ places },
 }
 
-// Before the first byte.
-pub fn begin() -> CompareReader
-    ensures state { (begun old new : List ℕ) → state_of result begun old new ≡ start (before none) }
-    ensures few { count_of result.held ≤ places }
-{
-    CompareReader {
-        len: 0,
-        held: Comparison::Before(Listing::Nothing),
-    }
-}
-
-// Where the program stands, where the text in `out` ends, and the chunk's first byte that was not taken.
-#[derive(Clone, Copy)]
-pub struct CompareFed {
-    pub st: CompareReader,
-    pub at: usize,
-    pub next: usize,
-}
-
-// The bytes of a chunk from `from` on, as long as `out` has room for any refusal.
-pub fn feed(
-    st: CompareReader,
-    chunk: &[u8],
-    from: usize,
-    begun: &mut [u8],
-    old: &mut [u64],
-    new: &mut [u64],
-    out: &mut [u8],
-) -> CompareFed
-    requires start { from ≤ length chunk.now }
-    requires begun { length begun.old ≡ widest }
-    requires held { count_of st.held ≤ places }
-    requires old { length old.old ≡ places }
-    requires new { length new.old ≡ places }
-    ensures fed { Fed compare_program (state_of st begun.old old.old new.old)
-        (slice from result.next chunk.now)
-        (state_of result.st begun.new old.new new.new) out.old 0 out.new result.at }
-    ensures few { count_of result.st.held ≤ places }
-    ensures after { from ≤ result.next }
-    ensures within { result.next ≤ length chunk.now }
-    ensures short { result.at ≤ length out.new }
-    ensures progress { from < length chunk.now → 18 ≤ length out.old → from < result.next }
-{
-    let mut n = st.len;
-    let mut held = st.held;
-    let mut at = 0;
-    let mut i = from;
-    while i < chunk.len() {
-        if out.len() - at < 18 {
-            return CompareFed {
-                st: CompareReader { len: n, held: held },
-                at: at,
-                next: i,
-            };
-        }
-        let c = lines_machine::cut(chunk, i, n, &mut *begun);
-        n = c.len;
-        i = c.stop;
-        if i < chunk.len() {
-            let l = line(held, n, &begun[..], &mut *old, &mut *new, &mut *out, at);
-            held = l.held;
-            at = l.at;
-            n = 0;
-            i += 1;
+impl Comparisons {
+    // Before the first line.
+    pub fn new() -> Comparisons
+        ensures { both_of result.held result.old result.new ≡ before none }
+    {
+        Comparisons {
+            held: Comparison::Before(Listing::Nothing),
+            old: [0; 4096],
+            new: [0; 4096],
         }
     }
-    CompareFed {
-        st: CompareReader { len: n, held: held },
-        at: at,
-        next: i,
-    }
 }
 
-// The end of the input: a last line may lack its LF.
-pub fn finish(
-    st: CompareReader,
-    begun: &[u8],
-    old: &mut [u64],
-    new: &mut [u64],
-    out: &mut [u8],
-) -> usize
-    requires begun { length begun.now ≡ widest }
-    requires held { count_of st.held ≤ places }
-    requires old { length old.old ≡ places }
-    requires new { length new.old ≡ places }
-    requires room { 18 + longest ≤ length out.old }
-    ensures text { Wrote out.old 0 (end_of compare_program
-        (state_of st begun.now old.old new.old)) out.new result }
-    ensures short { result ≤ 18 + longest }
-{
-    let len = st.len;
-    let held = st.held;
-    if len == 0 {
-        return end(held, &old[..], &new[..], out, 0);
+impl Machine for Comparisons {
+    const LINE_ROOM: usize = 18;
+
+    const END_ROOM: usize = compare::LONGEST;
+
+    ghost LINE_ROOM = { 18 };
+
+    ghost END_ROOM = { longest };
+
+    ghost State = { Both };
+
+    ghost program = { compare_program };
+
+    ghost held = { λ c. both_of c.held c.old c.new };
+
+    ghost Keeps = { λ c. Unit };
+
+    #[tactic(auto, using(text::proofs::Pens::lands))]
+    fn line(&mut self, line: Option<&[u8]>, out: &mut [u8], at: usize) -> usize {
+        let t = take_in(self.held, said_by(line), &mut self.old, &mut self.new);
+        self.held = t.held;
+        let mut pen = Pen::new(out, at);
+        put_verdict(&mut pen, t.verdict);
+        pen.at()
     }
-    let l = line(held, len, begun, &mut *old, &mut *new, &mut *out, 0);
-    let after = l.held;
-    let at = l.at;
-    end(after, &old[..], &new[..], out, at)
+
+    fn end(&mut self, out: &mut [u8], at: usize) -> usize {
+        crate::end(self.held, &self.old, &self.new, out, at)
+    }
 }

@@ -1,21 +1,18 @@
 -- The two calls, from their parts. Assumes nothing.
+use Rattle.std.specs.Prelude.{Ok, Err, Result, ℕ}
 use mathlib.Core.Path.{◌≡◌, refl, sym, ap, ◌∙◌}
 use mathlib.Core.List.{List, ◌++◌}
 use Prim.Native.Nat.{ℕ, ◌+◌, ◌-◌, ◌*◌, ◌/◌, ◌≤◌}
 use lib.ListN.{length, drop}
 use lib.Ieee.{Float}
 use Rattle.error.specs.declared.Refusal.{Refusal}
-use Rattle.error.specs.declared.Verdict.{Verdict}
-use Rattle.error.specs.declared.Verdict.TheVariants.{Passed, Failed}
-use Rattle.error.specs.Refusals.{first}
+use Rattle.error.specs.Refusals.{first, Verdict}
 use Rattle.basis.specs.declared.Basis.{Basis}
 use Rattle.basis.specs.Basis.{step_of}
 use Rattle.spline.specs.declared.RowSums.{RowSums}
 use Rattle.spline.specs.Segment.{row_sums_of}
 use Rattle.convert_matrix.specs.Matrix.{Matrix}
 use Rattle.convert_matrix.specs.Elimination.{conversion_of}
-use Rattle.convert.specs.declared.ConversionAnswer.{ConversionAnswer}
-use Rattle.convert.specs.declared.ConversionAnswer.TheVariants.{Written, Refused}
 use Rattle.convert.specs.Output.{windows, segment_output, spline_output}
 use Rattle.convert.specs.Conversion.{Conversion, gives, refuses, unless, convert_segment_uses, convert_uses, converted_segment_of, converted_of}
 use Rattle.convert.specs.Buffer.{answer_of, buffer_of}
@@ -24,27 +21,27 @@ use Rattle.convert.proofs.Verdicts.{less_one}
 use Rattle.convert.proofs.Writing.{windows_length}
 
 -- an answer and a buffer tell a conversion
-pub record Agreement (t : Conversion) (r : ConversionAnswer) (out out' : List Float) : Type 0 where
+pub record Agreement (t : Conversion) (r : Result ℕ Refusal) (out out' : List Float) : Type 0 where
   pub answer : r ≡ answer_of t
   pub buffer : out' ≡ buffer_of t out
 
-told_refusal : {t : Conversion} (r : Refusal) (out : List Float) → t ≡ refuses r → Agreement t (Refused r) out out
+told_refusal : {t : Conversion} (r : Refusal) (out : List Float) → t ≡ refuses r → Agreement t (Err r) out out
 told_refusal r out e = record { answer = sym (ap answer_of e); buffer = sym (ap (λ (x : Conversion). buffer_of x out) e) }
 
 told_gift : {t : Conversion} (l : List Float) (n : ℕ) (out out' : List Float) → t ≡ gives l → n ≡ length l → out' ≡ buffer_of (gives l) out
-    → Agreement t (Written n) out out'
-told_gift l n out out' e p q = record { answer = ap Written p ∙ sym (ap answer_of e); buffer = q ∙ sym (ap (λ (x : Conversion). buffer_of x out) e) }
+    → Agreement t (Ok n) out out'
+told_gift l n out out' e p q = record { answer = ap Ok p ∙ sym (ap answer_of e); buffer = q ∙ sym (ap (λ (x : Conversion). buffer_of x out) e) }
 
 -- ---- one segment
 module _ (from to : Basis) (cv out : List Float) where
-  pub segment_refused : (r : Refusal) → first (convert_segment_uses to cv (length out)) ≡ Failed r
-      → Agreement (converted_segment_of from to cv (length out)) (Refused r) out out
+  pub segment_refused : (r : Refusal) → first (convert_segment_uses to cv (length out)) ≡ Err r
+      → Agreement (converted_segment_of from to cv (length out)) (Err r) out out
   unfolding converted_segment_of
   segment_refused r e = told_refusal r out (ap (λ (v : Verdict). unless v (segment_output from to cv)) e)
 
-  pub segment_written : (m : Matrix) (w : RowSums) (out' : List Float) → first (convert_segment_uses to cv (length out)) ≡ Passed
+  pub segment_written : (m : Matrix) (w : RowSums) (out' : List Float) → first (convert_segment_uses to cv (length out)) ≡ Ok tt
       → m ≡ conversion_of from to → w ≡ row_sums_of m cv → out' ≡ placed 0 (drop (4 - 4) (list_of w)) out
-      → Agreement (converted_segment_of from to cv (length out)) (Written 4) out out'
+      → Agreement (converted_segment_of from to cv (length out)) (Ok 4) out out'
   unfolding converted_segment_of segment_output
   segment_written m w out' e p q r =
       told_gift (segment_output from to cv) 4 out out' (ap (λ (v : Verdict). unless v (segment_output from to cv)) e) refl
@@ -52,16 +49,16 @@ module _ (from to : Basis) (cv out : List Float) where
 
 -- ---- a curve
 module _ (from to : Basis) (ks out : List Float) where
-  pub spline_refused : (r : Refusal) → first (convert_uses from to ks (length out)) ≡ Failed r
-      → Agreement (converted_of from to ks (length out)) (Refused r) out out
+  pub spline_refused : (r : Refusal) → first (convert_uses from to ks (length out)) ≡ Err r
+      → Agreement (converted_of from to ks (length out)) (Err r) out out
   unfolding converted_of
   spline_refused r e = told_refusal r out (ap (λ (v : Verdict). unless v (spline_output from to ks)) e)
 
-  pub spline_written : (m : Matrix) (step stride n : ℕ) (out' : List Float) → first (convert_uses from to ks (length out)) ≡ Passed
+  pub spline_written : (m : Matrix) (step stride n : ℕ) (out' : List Float) → first (convert_uses from to ks (length out)) ≡ Ok tt
       → m ≡ conversion_of from to → step ≡ step_of from → stride ≡ step_of to → stride ≤ 4
       → n ≡ 4 + (length ks - 4) / step * stride
       → out' ≡ buffer_of (gives (windows m step stride ks ((length ks - 4) / step))) out
-      → Agreement (converted_of from to ks (length out)) (Written n) out out'
+      → Agreement (converted_of from to ks (length out)) (Ok n) out out'
   unfolding converted_of spline_output
   spline_written m step stride n out' e p a b g l q =
       let k = (length ks - 4) / step in

@@ -1,5 +1,6 @@
 -- What a conversion leaves alone, and how much it writes. Assumes nothing.
-use mathlib.Core.Path.{◌≡◌, sym, ap, ◌∙◌}
+use Rattle.std.specs.Prelude.{Ok, Err}
+use mathlib.Core.Path.{◌≡◌, refl, sym, ap, ◌∙◌}
 use mathlib.Core.List.{List, ◌++◌}
 use Prim.Native.Nat.{ℕ, ◌+◌, ◌-◌, ◌≤◌}
 use native.Mathlib.Nat.{le_trans, le_of_eq}
@@ -8,9 +9,7 @@ use lib.Dec.{lit≤}
 use lib.ListN.{length, get_or, drop}
 use lib.Seq.{get_or-append-add, get_or-drop}
 use lib.Ieee.{Float, nan}
-use Rattle.error.specs.declared.Verdict.{Verdict}
-use Rattle.error.specs.declared.Verdict.TheVariants.{Passed, Failed}
-use Rattle.error.specs.Refusals.{first}
+use Rattle.error.specs.Refusals.{first, Verdict}
 use Rattle.error.proofs.First.{never}
 use Rattle.basis.specs.declared.Basis.{Basis}
 use Rattle.basis.specs.declared.Basis.TheVariants.{Bspline, Bezier, CatmullRom, Hermite, Linear, Power}
@@ -33,9 +32,9 @@ beyond_stays l out i h =
     ∙ ap (λ (k : ℕ). get_or out k nan) (sym e)
 
 -- where doubles are given, nothing is refused
-pub given : (v : Verdict) {l r : List Float} → unless v l ≡ gives r → (v ≡ Passed) × (l ≡ r)
-given Passed e = (cc, cc)
-given (Failed q) e = never (cc)
+pub given : (v : Verdict) {l r : List Float} → unless v l ≡ gives r → (v ≡ Ok tt) × (l ≡ r)
+given (Ok _) e = (refl, cc)
+given (Err q) e = never (cc)
 
 four_at_most : (b : Basis) → step_of b ≤ 4
 four_at_most Bspline = lit≤ tt

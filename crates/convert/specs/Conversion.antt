@@ -1,10 +1,8 @@
 -- The two calls of conversion: what each refuses, and what it gives. Definitions only.
-use Rattle.std.specs.Prelude.{List, [], ◌∷◌, ◌++◌, ℕ, ltb, length, Float}
+use Rattle.std.specs.Prelude.{List, [], ◌∷◌, ◌++◌, ℕ, ltb, length, Float, Ok, Err}
 use Rattle.error.specs.declared.Refusal.{Refusal}
 use Rattle.error.specs.declared.Refusal.TheVariants.{LinearOutput, ShortBuffer}
-use Rattle.error.specs.declared.Verdict.{Verdict}
-use Rattle.error.specs.declared.Verdict.TheVariants.{Passed, Failed}
-use Rattle.error.specs.Refusals.{Uses, first}
+use Rattle.error.specs.Refusals.{Uses, first, Verdict}
 use Rattle.basis.specs.declared.Basis.{Basis}
 use Rattle.basis.specs.Basis.{is_linear}
 use Rattle.checks.specs.Checks.{curve_length, segment_length, bad_knot}
@@ -16,8 +14,8 @@ pub data Conversion : Type 0 where
   refuses : Refusal → Conversion
 
 abbrev pub unless : Verdict → List Float → Conversion
-unless Passed l = gives l
-unless (Failed r) l = refuses r
+unless (Ok _) l = gives l
+unless (Err r) l = refuses r
 
 -- the output's basis, the room for need doubles, and the knots
 abbrev pub output_uses : Basis → List Float → ℕ → ℕ → Uses

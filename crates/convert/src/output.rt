@@ -61,6 +61,7 @@ fn put_window(out: &mut [f64], at: usize, m: [[f64; 4]; 4], cv: &[f64], stride: 
 
 // Segment 0 fills four places, and each later one `stride` more. The matrix is a value: so no write to the buffer can change it, and it is
 // read once.
+#[tactic(auto, using(crate::proofs::Writing::window_places, crate::proofs::Verdicts::few_steps))]
 pub fn put_windows(
     m: [[f64; 4]; 4],
     step: usize,
@@ -81,12 +82,9 @@ pub fn put_windows(
 {
     let last = (knots.len() - 4) / step;
     put_last(&mut *out, 0, spline::segment::sums(m, knots), 4);
-    let mut s = 0;
-    while s < last {
-        let at = 4 + s * stride;
-        s += 1;
-        let start = s * step;
-        put_window(&mut *out, at, m, &knots[start..], stride);
+    for s in 0..last {
+        let start = (s + 1) * step;
+        put_window(&mut *out, 4 + s * stride, m, &knots[start..], stride);
     }
     4 + last * stride
 }

@@ -1,4 +1,5 @@
 -- One step of the elimination's code each, over plain values. Assumes nothing.
+use Rattle.std.specs.Prelude.{Some, None, Option, ℕ}
 use mathlib.Core.Path.{◌≡◌, refl, sym, ap, ◌∙◌, subst}
 use mathlib.Core.List.{List, [], ◌∷◌}
 use mathlib.Core.Bool.{true, false}
@@ -6,8 +7,6 @@ use Prim.Native.Nat.{ℕ, zero, suc, ◌+◌, ◌<◌, ◌≤◌}
 use native.Mathlib.Omega.{arith}
 use borrow.Author.Tests.{eq-eqb, ne_eqb}
 use lib.ListN.{drop, drop_of_length-le}
-use Rattle.convert_matrix.specs.declared.Pivot.{Pivot}
-use Rattle.convert_matrix.specs.declared.Pivot.TheVariants.{Row, Missing}
 use Rattle.convert_matrix.specs.Matrix.{Matrix, row, entry}
 use Rattle.convert_matrix.specs.Elimination.{
   Elimination,
@@ -64,30 +63,27 @@ module _ (a : Matrix) (i k : ℕ) where
   unfolding first_nonzero
   passed_by h z = sym (ap (λ (ks : List ℕ). first_nonzero ks a i) (from_next k h) ∙ simp z)
 
-  pub found : k < 4 → is_zero (entry a k i) ≡ false → Row k ≡ first_nonzero (from k) a i
+  pub found : k < 4 → is_zero (entry a k i) ≡ false → Some k ≡ first_nonzero (from k) a i
   unfolding first_nonzero
   found h z = sym (ap (λ (ks : List ℕ). first_nonzero ks a i) (from_next k h) ∙ simp z)
 
-  pub none_left : 4 ≤ k → Missing ≡ first_nonzero (from k) a i
+  pub none_left : 4 ≤ k → None ≡ first_nonzero (from k) a i
   unfolding first_nonzero
   none_left h = ap (λ (ks : List ℕ). first_nonzero ks a i) (sym (from_end k h))
 
 -- ---- a column
-pub in_turn : (a s d r : Matrix) (i k : ℕ) → s ≡ swapped a i k → d ≡ divided s i → r ≡ cleared d i → r ≡ cleared (divided (swapped a i k) i) i
-in_turn a s d r i k p q e = e ∙ ap (λ (x : Matrix). cleared x i) (q ∙ ap (λ (x : Matrix). divided x i) p)
-
 module _ (a : Matrix) (i : ℕ) where
-  pub goes_on : (b : Matrix) (k : ℕ) → i < 4 → pivot_of a i ≡ Row k → b ≡ cleared (divided (swapped a i k) i) i → columns (from (i + 1)) b ≡ columns (from i) a
+  pub goes_on : (b : Matrix) (k : ℕ) → i < 4 → pivot_of a i ≡ Some k → b ≡ cleared (divided (swapped a i k) i) i → columns (from (i + 1)) b ≡ columns (from i) a
   unfolding columns
   goes_on b k h p e =
       sym
       (ap (λ (is : List ℕ). columns is a) (from_next i h)
-      ∙ ap (λ (q : Pivot). then (with_pivot a i q) (columns (from (i + 1)))) p
+      ∙ ap (λ (q : Option ℕ). then (with_pivot a i q) (columns (from (i + 1)))) p
       ∙ ap (columns (from (i + 1))) (sym e))
 
-  pub stops : i < 4 → pivot_of a i ≡ Missing → columns (from i) a ≡ no_inverse
+  pub stops : i < 4 → pivot_of a i ≡ None → columns (from i) a ≡ no_inverse
   unfolding columns
-  stops h p = ap (λ (is : List ℕ). columns is a) (from_next i h) ∙ ap (λ (q : Pivot). then (with_pivot a i q) (columns (from (i + 1)))) p
+  stops h p = ap (λ (is : List ℕ). columns is a) (from_next i h) ∙ ap (λ (q : Option ℕ). then (with_pivot a i q) (columns (from (i + 1)))) p
 
   pub all_done : 4 ≤ i → columns (from i) a ≡ goes a
   unfolding columns
@@ -99,5 +95,5 @@ pub answers : (m : Matrix) (a : Matrix) (e : Elimination) → a ≡ widened m �
 unfolding inverse
 answers m a e p q = ap (λ (x : Elimination). shown (then x (λ a. goes (right_half a)))) (q ∙ ap (columns (from 0)) p)
 
-pub found_below : (p : Pivot) (k : ℕ) → p ≡ Row k → Found p → k < 4
+pub found_below : (p : Option ℕ) (k : ℕ) → p ≡ Some k → Found p → k < 4
 found_below p k e h = subst Found e h

@@ -1,15 +1,14 @@
 -- The elimination's answer as the code hands it on. Definitions only.
-use Rattle.convert_elimination.specs.declared.Inverse.{Inverse}
-use Rattle.convert_matrix.specs.declared.Pivot.{Pivot}
-use Rattle.convert_matrix.specs.declared.Pivot.TheVariants.{Row, Missing}
-use Rattle.convert_matrix.specs.Matrix.{row}
-use Rattle.convert_matrix.specs.Elimination.{Elimination, exists, rows_of}
-use Rattle.std.specs.Prelude.{◌<◌}
+use Rattle.convert_matrix.specs.Matrix.{Matrix}
+use Rattle.convert_matrix.specs.Elimination.{Elimination, goes, no_inverse}
+use Rattle.std.specs.Prelude.{◌<◌, Option, Some, None, ℕ}
 
-abbrev pub shown : Elimination → Inverse
-shown e = record { exists = exists e; r0 = row (rows_of e) 0; r1 = row (rows_of e) 1; r2 = row (rows_of e) 2; r3 = row (rows_of e) 3 }
+-- the four rows of the inverse, if there is one
+abbrev pub shown : Elimination → Option Matrix
+shown (goes a) = Some a
+shown no_inverse = None
 
 -- a row that was found is one of the four
-abbrev pub Found : Pivot → Type 0
-Found (Row k) = k < 4
-Found Missing = Unit
+abbrev pub Found : Option ℕ → Type 0
+Found (Some k) = k < 4
+Found None = Unit

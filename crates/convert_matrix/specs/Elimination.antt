@@ -1,12 +1,10 @@
 -- Gauss-Jordan elimination on four rows of eight doubles, columns in order. Definitions only.
-use Rattle.std.specs.Prelude.{List, [], ◌∷◌, ◌++◌, Bool, true, false, cond, ◌||◌, ℕ, ◌+◌, eqb, drop, set, Float}
+use Rattle.std.specs.Prelude.{List, [], ◌∷◌, ◌++◌, Bool, true, false, cond, ◌||◌, ℕ, ◌+◌, eqb, drop, set, Float, Some, None, Option}
 use Rattle.std.specs.Float.{binary64}
 use Rattle.std.specs.Float.Ieee.{sub, mul, div, eq}
 use Rattle.basis.specs.declared.Basis.{Basis}
 use Rattle.basis.specs.Basis.{matrix_of}
 use Rattle.doubles.specs.Numbers.{nought, one}
-use Rattle.convert_matrix.specs.declared.Pivot.{Pivot}
-use Rattle.convert_matrix.specs.declared.Pivot.TheVariants.{Row, Missing}
 use Rattle.convert_matrix.specs.Matrix.{Matrix, at, row, entry, four, product}
 
 -- a zero of either sign
@@ -21,13 +19,13 @@ abbrev pub widened : Matrix → Matrix
 widened m = four (λ i. four (entry m i) ++ four (λ j. cond (eqb i j) one nought))
 
 -- the first of the rows ks whose entry in column i is not zero
-unfoldable pub first_nonzero : List ℕ → Matrix → ℕ → Pivot
+unfoldable pub first_nonzero : List ℕ → Matrix → ℕ → Option ℕ
 unfolding eq
-first_nonzero [] a i = Missing
-first_nonzero (k ∷ ks) a i = cond (is_zero (entry a k i)) (first_nonzero ks a i) (Row k)
+first_nonzero [] a i = None
+first_nonzero (k ∷ ks) a i = cond (is_zero (entry a k i)) (first_nonzero ks a i) (Some k)
 
 -- row i itself, and where its entry is zero the first row below whose entry is not
-abbrev pub pivot_of : Matrix → ℕ → Pivot
+abbrev pub pivot_of : Matrix → ℕ → Option ℕ
 pivot_of a i = first_nonzero (drop i (0 ∷ 1 ∷ 2 ∷ 3 ∷ [])) a i
 
 -- rows i and k change places
@@ -60,9 +58,9 @@ abbrev pub then : Elimination → (Matrix → Elimination) → Elimination
 then (goes a) f = f a
 then no_inverse f = no_inverse
 
-abbrev pub with_pivot : Matrix → ℕ → Pivot → Elimination
-with_pivot a i (Row k) = goes (cleared (divided (swapped a i k) i) i)
-with_pivot a i Missing = no_inverse
+abbrev pub with_pivot : Matrix → ℕ → Option ℕ → Elimination
+with_pivot a i (Some k) = goes (cleared (divided (swapped a i k) i) i)
+with_pivot a i None = no_inverse
 
 abbrev pub eliminated : ℕ → Matrix → Elimination
 eliminated i a = with_pivot a i (pivot_of a i)

@@ -31,6 +31,7 @@ const BSPLINE: [[f64; 4]; 4] = [
 ];
 
 // The inverse of each basis's matrix, as the elimination yields it. Linear's matrix has none.
+// A function for each: with the constants themselves in the arms of `inverse_of` a conversion's matrix took 33 ns for 29.
 pub fn bspline() -> [[f64; 4]; 4]
     ensures { result ≡ inverse_of Bspline }
 {

@@ -9,13 +9,6 @@ use basis::Basis;
 
 pub mod constants;
 
-// The row that holds a column's pivot. The definition of the elimination has it; the code that eliminates is `convert_elimination`.
-#[derive(Clone, Copy)]
-pub enum Pivot {
-    Row(usize),
-    Missing,
-}
-
 // A row times a matrix.
 fn mul_row(r: [f64; 4], b: [[f64; 4]; 4]) -> [f64; 4]
     ensures { result ≡ row_times r b }

@@ -1,5 +1,6 @@
 -- The strict conversion beside the plain one: they are one where the allowance is good and no seam is lost, 15 tells the lowest seam that is,
 -- and where doubles are given each dropped one lies within the allowance of the one that stands. Assumes nothing.
+use Rattle.std.specs.Prelude.{Ok, Err}
 use mathlib.Core.Path.{◌≡◌, refl, sym, ap, subst, ◌∙◌}
 use mathlib.Core.Bool.{Bool, true, false}
 use mathlib.Core.List.{List}
@@ -12,9 +13,7 @@ use lib.Ieee.{Float, nan}
 use borrow.Author.Tests.{ltb-true, ltb-false, lt-ltb, not-false}
 use Rattle.error.specs.declared.Refusal.{Refusal}
 use Rattle.error.specs.declared.Refusal.TheVariants.{BadAllowance, LostSeam}
-use Rattle.error.specs.declared.Verdict.{Verdict}
-use Rattle.error.specs.declared.Verdict.TheVariants.{Passed, Failed}
-use Rattle.error.specs.Refusals.{first}
+use Rattle.error.specs.Refusals.{first, Verdict}
 use Rattle.error.proofs.First.{never, clear}
 use Rattle.basis.specs.declared.Basis.{Basis}
 use Rattle.basis.specs.declared.Basis.TheVariants.{Bspline, Bezier, CatmullRom, Hermite, Linear, Power}
@@ -118,17 +117,17 @@ module _ (from to : Basis) (ks : List Float) (allowance : Float) (room : ℕ) wh
   abbrev verdict : Verdict
   verdict = first (strict_uses from to ks allowance room)
 
-  pub strict_refuses : {r : Refusal} → verdict ≡ Failed r → strict_of from to ks allowance room ≡ refuses r
+  pub strict_refuses : {r : Refusal} → verdict ≡ Err r → strict_of from to ks allowance room ≡ refuses r
   unfolding strict_of
   strict_refuses e = ap (λ (v : Verdict). unless v (spline_output from to ks)) e
 
-  pub refused_by : {r : Refusal} → strict_of from to ks allowance room ≡ refuses r → verdict ≡ Failed r
+  pub refused_by : {r : Refusal} → strict_of from to ks allowance room ≡ refuses r → verdict ≡ Err r
   unfolding strict_of
   refused_by {r} e = go verdict e
     where
-      go : (v : Verdict) → unless v (spline_output from to ks) ≡ refuses r → v ≡ Failed r
-      go Passed p = never (cc)
-      go (Failed q) p = let z : q ≡ r = cc in ap Failed z
+      go : (v : Verdict) → unless v (spline_output from to ks) ≡ refuses r → v ≡ Err r
+      go (Ok _) p = never (cc)
+      go (Err q) p = let z : q ≡ r = cc in ap Err z
 
   same_conversion : verdict ≡ first (convert_uses from to ks room) → strict_of from to ks allowance room ≡ converted_of from to ks room
   unfolding strict_of converted_of
@@ -140,13 +139,13 @@ module _ (from to : Basis) (ks : List Float) (allowance : Float) (room : ℕ) wh
   strict_is_plain x y = same_conversion (same_verdict from to ks allowance room (λ p. x (strict_refuses p))
       (λ p. y (lost_seam_of from to ks allowance) (strict_refuses p)))
 
-  pub strict_passes : verdict ≡ Passed → strict_of from to ks allowance room ≡ converted_of from to ks room
+  pub strict_passes : verdict ≡ Ok tt → strict_of from to ks allowance room ≡ converted_of from to ks room
   strict_passes e = same_conversion (same_verdict from to ks allowance room (λ p. let z : ◌≡◌ {A = ℕ} 0 1 = cc in omega arith)
       (λ p. let z : ◌≡◌ {A = ℕ} 0 1 = cc in omega arith))
 
   -- 15 with segment s exactly where the plain conversion would answer, the allowance is good, and s is the lowest segment that loses a double
   abbrev pub SeamLost : ℕ → Type 0
-  SeamLost s = (first (convert_uses from to ks room) ≡ Passed) × ((allowable allowance ≡ true) × LosesFirst from to ks allowance s)
+  SeamLost s = (first (convert_uses from to ks room) ≡ Ok tt) × ((allowable allowance ≡ true) × LosesFirst from to ks allowance s)
 
   pub lost_only : (s : ℕ) → strict_of from to ks allowance room ≡ refuses (LostSeam s) → SeamLost s
   lost_only s e =

@@ -6,8 +6,7 @@ ghost use Rattle.convert.specs.Buffer.{answer_of, buffer_of};
 ghost use Rattle.convert_strict.specs.Strict.{strict_of};
 
 use basis::Basis;
-use convert::ConversionAnswer;
-use error::{Refusal, Verdict};
+use error::Refusal;
 
 pub mod refusals;
 pub mod seams;
@@ -19,23 +18,17 @@ pub fn convert_spline_strict(
     knots: &[f64],
     allowance: f64,
     out: &mut [f64],
-) -> ConversionAnswer
+) -> Result<usize, Refusal>
     ensures answer { result ≡ answer_of (strict_of from to knots.now allowance (length out.old)) }
     ensures buffer { out.new ≡ buffer_of (strict_of from to knots.now allowance (length out.old))
         out.old }
 {
-    let v = refusals::allowed_verdict(from, to, knots, allowance, out.len());
-    match v {
-        Verdict::Failed(r) => ConversionAnswer::Refused(r),
-        Verdict::Passed => {
-            let m = convert_matrix::conversion_matrix(from, to);
-            let step = basis::step(from);
-            let stride = basis::step(to);
-            let s = seams::lost_seam(m, step, knots, stride, allowance);
-            if 0 < s {
-                return ConversionAnswer::Refused(Refusal::LostSeam(s as u16));
-            }
-            ConversionAnswer::Written(convert::output::put_windows(m, step, knots, stride, out))
-        }
+    refusals::allowed_verdict(from, to, knots, allowance, out.len())?;
+    let m = convert_matrix::conversion_matrix(from, to);
+    let step = basis::step(from);
+    let stride = basis::step(to);
+    if let Some(s) = seams::lost_seam(m, step, knots, stride, allowance) {
+        return Err(Refusal::LostSeam(s as u16));
     }
+    Ok(convert::output::put_windows(m, step, knots, stride, out))
 }

@@ -7,7 +7,7 @@ ghost use Rattle.convert.specs.Conversion.{output_uses};
 ghost use Rattle.convert_strict.specs.Strict.{allowable, bad_allowance, allowed_uses};
 
 use basis::Basis;
-use error::{Refusal, Verdict};
+use error::Refusal;
 
 // An allowance is zero or more, and finite.
 pub fn is_allowance(x: f64) -> bool
@@ -17,17 +17,23 @@ pub fn is_allowance(x: f64) -> bool
 }
 
 // The rows after those of the lengths: that of the allowance comes between that of the output's basis and that of its room.
-fn later_verdict(from: Basis, to: Basis, knots: &[f64], allowance: f64, room: usize) -> Verdict
+fn later_verdict(
+    from: Basis,
+    to: Basis,
+    knots: &[f64],
+    allowance: f64,
+    room: usize,
+) -> Result<(), Refusal>
     requires enough { 4 ≤ length knots.now }
     requires most { length knots.now ≤ most_knots }
     ensures { result ≡ first
         (output_uses to knots.now (output_length from to (length knots.now)) room ++ (bad_allowance allowance ∷ [])) }
 {
     if basis::is_linear(to) {
-        return Verdict::Failed(Refusal::LinearOutput);
+        return Err(Refusal::LinearOutput);
     }
     if !is_allowance(allowance) {
-        return Verdict::Failed(Refusal::BadAllowance);
+        return Err(Refusal::BadAllowance);
     }
     let need = convert::refusals::output_length(from, to, knots.len());
     convert::refusals::output_verdict(to, knots, need, room)
@@ -40,12 +46,9 @@ pub fn allowed_verdict(
     knots: &[f64],
     allowance: f64,
     room: usize,
-) -> Verdict
+) -> Result<(), Refusal>
     ensures { result ≡ first (allowed_uses from to knots.now allowance room) }
 {
-    let l = checks::curve_length(from, knots.len());
-    let Verdict::Passed = l else {
-        return l;
-    };
+    checks::curve_length(from, knots.len())?;
     later_verdict(from, to, knots, allowance, room)
 }

@@ -1,5 +1,5 @@
 // The seams of a conversion: what a later segment would drop, beside what stands at its place of the output.
-ghost use Rattle.std.specs.Prelude.{◌≡◌, ◌++◌, ◌-◌, ◌*◌, ◌/◌, ◌+◌, ◌≤◌, ◌<◌, length, drop, get_or};
+ghost use Rattle.std.specs.Prelude.{◌≡◌, ◌++◌, ◌-◌, ◌*◌, ◌/◌, ◌+◌, ◌≤◌, ◌<◌, length, drop, get_or, MatchOption, IfSome};
 ghost use Rattle.std.specs.Float.{nan};
 ghost use Rattle.basis.specs.Basis.{most_knots};
 ghost use Rattle.convert.specs.Contract.{list_of};
@@ -74,35 +74,37 @@ fn shifted(stride: usize, h: RowSums, w: RowSums) -> RowSums
     w
 }
 
-// The lowest segment at whose seam a double is lost; 0 where none is. Nothing is written: `held` has the four doubles of the output that
-// the next seam overlaps.
+// The lowest segment at whose seam a double is lost, if one is. Nothing is written: `held` has the four doubles of the output that the next
+// seam overlaps.
+#[tactic(auto, using(convert::proofs::Writing::window_places, spline::proofs::Parts::few))]
 pub fn lost_seam(
     m: [[f64; 4]; 4],
     step: usize,
     knots: &[f64],
     stride: usize,
     allowance: f64,
-) -> usize
+) -> Option<usize>
     requires step { 0 < step }
     requires some { 0 < stride }
     requires few { stride ≤ 4 }
     requires enough { 4 ≤ length knots.now }
     requires most { length knots.now ≤ most_knots }
-    ensures lowest { result ≡ lost_seam m step stride allowance knots.now ((length knots.now - 4) / step) }
-    ensures small { result ≤ 4092 }
+    ensures lowest { MatchOption result (lost_seam m step stride allowance knots.now ((length knots.now - 4) / step) ≡ 0)
+        (λ s. s ≡ lost_seam m step stride allowance knots.now ((length knots.now - 4) / step)) }
+    ensures later { IfSome result (λ s. 0 < s) }
+    ensures small { IfSome result (λ s. s ≤ 4092) }
 {
     let last = (knots.len() - 4) / step;
     let mut held = spline::segment::sums(m, knots);
-    let mut s = 0;
-    while s < last {
-        s += 1;
-        let start = s * step;
+    for s in 0..last {
+        let segment = s + 1;
+        let start = segment * step;
         let w = spline::segment::sums(m, &knots[start..]);
         if loses(allowance, stride, w, held) {
-            return s;
+            return Some(segment);
         }
         let next = shifted(stride, held, w);
         held = next;
     }
-    0
+    None
 }

@@ -1,4 +1,5 @@
 -- The text of so many thousandths, read as a sheet reads a decimal, says those thousandths. Assumes nothing.
+use Rattle.std.specs.Prelude.{Some}
 use mathlib.Core.Path.{◌≡◌, refl, sym, ap, ◌∙◌}
 use mathlib.Core.Bool.{Bool, true, false, cond}
 use mathlib.Core.List.{List, [], ◌∷◌, ◌++◌, append_assoc}
@@ -8,7 +9,6 @@ use borrow.Author.Tests.{lt-ltb, ne_eqb}
 use lib.Dec.{ltb}
 use lib.ListN.{length, take, drop, length-append}
 use Rattle.sheet_depth.specs.Depth.{greatest}
-use Rattle.text.specs.declared.HexNumber.TheVariants.{Is}
 use Rattle.text.specs.Text.{place_of, dec_text}
 use Rattle.text_decimals.specs.Decimals.{POINT, digit_in, digits_of, number_in, scaled, behind_of, thousandths_of}
 use Rattle.text_decimals.proofs.Digits.{digit_is}
@@ -56,7 +56,7 @@ module _ (a b c : ℕ) (A : a < 10) (B : b < 10) (C : c < 10) where
   unfolding digits_of
   step n d s h = rw (value d h, ne_eqb d 10 (λ (e : d ≡ 10). omega arith)) refl
 
-  three : behind_of ((48 + a) ∷ (48 + b) ∷ (48 + c) ∷ []) ≡ Is ((((0 * 10 + a) * 10 + b) * 10 + c) * 1)
+  three : behind_of ((48 + a) ∷ (48 + b) ∷ (48 + c) ∷ []) ≡ Some ((((0 * 10 + a) * 10 + b) * 10 + c) * 1)
   unfolding behind_of number_in digits_of
   three = ap (scaled 1) (step 0 a ((48 + b) ∷ (48 + c) ∷ []) A ∙ step (0 * 10 + a) b ((48 + c) ∷ []) B ∙ step ((0 * 10 + a) * 10 + b) c [] C)
 
@@ -64,15 +64,15 @@ fixed_parts : (n : ℕ) → fixed_text 3 n ≡ dec_text 12 (n / 10 / 10 / 10) ++
 unfolding fixed_text
 fixed_parts n = simp append_assoc
 
-pub thousandths_back : (n : ℕ) → n ≤ greatest → thousandths_of (fixed_text 3 n) ≡ Is n
+pub thousandths_back : (n : ℕ) → n ≤ greatest → thousandths_of (fixed_text 3 n) ≡ Some n
 unfolding thousandths_of
 thousandths_back n h =
     let w = dec_text 12 (n / 10 / 10 / 10) in
     let t = (48 + n / 10 / 10 % 10) ∷ (48 + n / 10 % 10) ∷ (48 + n % 10) ∷ [] in
     let l : length w < length (w ++ (POINT ∷ t)) = simp length-append (omega arith) in
-    let f : number_in 9 w ≡ Is (n / 10 / 10 / 10) = number_back 12 8 (n / 10 / 10 / 10) (omega arith) (omega arith) in
-    let g : behind_of t ≡ Is ((((0 * 10 + n / 10 / 10 % 10) * 10 + n / 10 % 10) * 10 + n % 10) * 1) =
+    let f : number_in 9 w ≡ Some (n / 10 / 10 / 10) = number_back 12 8 (n / 10 / 10 / 10) (omega arith) (omega arith) in
+    let g : behind_of t ≡ Some ((((0 * 10 + n / 10 / 10 % 10) * 10 + n / 10 % 10) * 10 + n % 10) * 1) =
     three (n / 10 / 10 % 10) (n / 10 % 10) (n % 10) (omega arith) (omega arith) (omega arith) in
     ap thousandths_of (fixed_parts n)
     ∙ rw (point_place t w (dec_digits 12 (n / 10 / 10 / 10)), lt-ltb (length w) (length (w ++ (POINT ∷ t))) l, before_point t w, behind_point t w, f, g)
-    (ap Is (omega arith))
+    (ap Some (omega arith))

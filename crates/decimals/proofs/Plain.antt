@@ -1,11 +1,11 @@
 -- A line none of whose fields is a pattern is printed as it is. Assumes nothing.
+use Rattle.std.specs.Prelude.{None}
 use mathlib.Core.Path.{◌≡◌, refl, sym, ap, ◌∙◌}
 use mathlib.Core.Bool.{Bool, true, false, cond}
 use mathlib.Core.List.{List, [], ◌∷◌, ◌++◌}
 use Prim.Native.Nat.{ℕ}
 use borrow.Author.Tests.{eqb-true}
 use lib.Dec.{eqb}
-use Rattle.text.specs.declared.HexNumber.TheVariants.{Nothing}
 use Rattle.text.specs.Text.{TAB, LF, onto, fields_of, hex_of}
 use Rattle.lines_machine.specs.Program.{so}
 use Rattle.decimals.specs.Decimals.{digits_in, shown_of, fields_text, shown_line}
@@ -13,7 +13,7 @@ use Rattle.decimals.specs.Decimals.{digits_in, shown_of, fields_text, shown_line
 -- no field is 16 uppercase hexadecimal digits
 pub data Plain : List (List ℕ) → Type 0 where
   none : Plain []
-  more : {f : List ℕ} {fs : List (List ℕ)} → hex_of f ≡ Nothing → Plain fs → Plain (f ∷ fs)
+  more : {f : List ℕ} {fs : List (List ℕ)} → hex_of f ≡ None → Plain fs → Plain (f ∷ fs)
 
 -- texts with tabs between them
 tabbed : List (List ℕ) → List ℕ

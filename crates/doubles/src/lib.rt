@@ -7,7 +7,7 @@ ghost use Rattle.doubles.specs.Lerp.{lerp_of};
 
 pub mod whole;
 
-// The number without its sign. Minus zero keeps its sign, as in the crate.
+// The number without its sign. Minus zero keeps its sign, as in the crate: `abs` would take it away.
 pub fn magnitude(x: f64) -> f64
     ensures { result ≡ magnitude_of x }
 {
@@ -18,13 +18,7 @@ pub fn magnitude(x: f64) -> f64
 pub fn clamped(x: f64) -> f64
     ensures { result ≡ clamp x }
 {
-    if x < 0.0 {
-        0.0
-    } else if 1.0 < x {
-        1.0
-    } else {
-        x
-    }
+    x.clamp(0.0, 1.0)
 }
 
 // The place that is t of the way from lower to upper. At t = 1 it may miss upper by a rounding.

@@ -1,5 +1,5 @@
 // The whole part of a double. Rust: `to_usize`.
-ghost use Rattle.std.specs.Prelude.{◌≡◌, ◌≤◌, min};
+ghost use Rattle.std.specs.Prelude.{◌≡◌, ◌≤◌, ◌<◌, ◌^◌, min};
 ghost use Rattle.doubles.specs.Whole.{double, whole_up_to};
 
 // By way of a signed number: that is one instruction.
@@ -15,13 +15,13 @@ pub fn double_of(n: usize) -> f64
 pub fn lesser(a: usize, b: usize) -> usize
     ensures { result ≡ min a b }
 {
-    if a < b { a } else { b }
+    a.min(b)
 }
 
 // 1.5 × 2^52, and its pattern: the last bit of a double of this size counts units.
-const UNITS: f64 = 6755399441055744.0;
+pub const UNITS: f64 = 6755399441055744.0;
 
-const UNITS_PATTERN: u64 = 4843621399236968448;
+pub const UNITS_PATTERN: u64 = 4843621399236968448;
 
 // A guess at the whole part of y, 4096 at most. To y - 1/2, or very nearly that, UNITS is added: the bits of the sum less those of UNITS
 // are a whole number. Nothing rests on the guess: whoever takes it tests it by comparing.
@@ -36,16 +36,18 @@ pub fn guess(y: f64) -> usize
     if n < 4096 { n as usize } else { 4096 }
 }
 
-// The greatest whole number up to m that is at most y, by comparing with the whole number in the middle.
-fn by_halving(m: usize, y: f64) -> usize
-    requires { m ≤ 4096 }
-    ensures { result ≡ whole_up_to m y }
+// The greatest whole number up to m that is at most y, by comparing with the whole number in the middle. No slice is searched, so no
+// method of the library serves.
+pub fn by_halving(m: u32, y: f64) -> u32
+    requires { m < 2 ^ 31 }
+    ensures answer { result ≡ whole_up_to m y }
+    ensures most { result ≤ m }
 {
     let mut low = 0;
     let mut high = m;
     while low < high {
         let mid = (low + high + 1) / 2;
-        if double_of(mid) <= y {
+        if mid as f64 <= y {
             low = mid;
         } else {
             high = mid - 1;
@@ -63,8 +65,8 @@ pub fn whole_up_to(m: usize, y: f64) -> usize
     let n = guess(y);
     if double_of(n) <= y {
         if y < double_of(n + 1) {
-            return lesser(n, m);
+            return n.min(m);
         }
     }
-    by_halving(m, y)
+    by_halving(m as u32, y) as usize
 }

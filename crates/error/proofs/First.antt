@@ -1,4 +1,5 @@
 -- The first row that applies: rows tested in groups, and what a verdict says of each row, by its number wherever it stands. Assumes nothing.
+use Rattle.std.specs.Prelude.{Ok, Err}
 use mathlib.Core.Path.{◌≡◌, refl, sym, ap, ◌∙◌, subst}
 use mathlib.Core.Bool.{Bool, true, false, cond}
 use mathlib.Core.List.{List, [], ◌∷◌, ◌++◌}
@@ -29,9 +30,7 @@ use Rattle.error.specs.declared.Refusal.TheVariants.{
   NoComparison,
   LostSeam,
 }
-use Rattle.error.specs.declared.Verdict.{Verdict}
-use Rattle.error.specs.declared.Verdict.TheVariants.{Passed, Failed}
-use Rattle.error.specs.Refusals.{number_of, rows, Uses, applies, refusal_by, first_of, first}
+use Rattle.error.specs.Refusals.{number_of, rows, Uses, applies, refusal_by, first_of, first, Verdict}
 
 -- two cases of one type are never the same: `never (cc)`
 pub never : {A : Type 0} → ◌≡◌ {A = ℕ} 0 1 → A
@@ -40,23 +39,23 @@ never e = absurd (omega arith)
 -- ---- rows in two groups, tested one after the other
 -- a verdict, and the next one where it is passed
 abbrev and_then : Verdict → Verdict → Verdict
-and_then Passed w = w
-and_then (Failed r) w = Failed r
+and_then (Ok _) w = w
+and_then (Err r) w = Err r
 
 graft : (ms ns : List ℕ) (us : Uses) → first_of (ms ++ ns) us ≡ and_then (first_of ms us) (first_of ns us)
 graft [] ns us = refl
 graft (m ∷ ms) ns us = go (applies m us) (graft ms ns us)
   where
     go : (t : Bool) → first_of (ms ++ ns) us ≡ and_then (first_of ms us) (first_of ns us)
-        → cond t (Failed (refusal_by m us)) (first_of (ms ++ ns) us) ≡ and_then (cond t (Failed (refusal_by m us)) (first_of ms us)) (first_of ns us)
+        → cond t (Err (refusal_by m us)) (first_of (ms ++ ns) us) ≡ and_then (cond t (Err (refusal_by m us)) (first_of ms us)) (first_of ns us)
     go true h = refl
     go false h = h
 
 module _ (ms ns : List ℕ) (us : Uses) {l : Verdict} (e : l ≡ first_of ms us) where
-  pub stops_in : {r : Refusal} → l ≡ Failed r → l ≡ first_of (ms ++ ns) us
+  pub stops_in : {r : Refusal} → l ≡ Err r → l ≡ first_of (ms ++ ns) us
   stops_in k = k ∙ sym (graft ms ns us ∙ ap (λ (v : Verdict). and_then v (first_of ns us)) (sym e ∙ k))
 
-  pub goes_past : {w : Verdict} → l ≡ Passed → w ≡ first_of ns us → w ≡ first_of (ms ++ ns) us
+  pub goes_past : {w : Verdict} → l ≡ Ok tt → w ≡ first_of ns us → w ≡ first_of (ms ++ ns) us
   goes_past k h = h ∙ sym (graft ms ns us ∙ ap (λ (v : Verdict). and_then v (first_of ns us)) (sym e ∙ k))
 
 -- the rows of a list up to the one with a number, and those after it
@@ -75,10 +74,10 @@ length_rows = through 3 rows
 abbrev pub other_rows : List ℕ
 other_rows = after 3 rows
 
-pub stops : (us : Uses) {l : Verdict} {r : Refusal} → l ≡ first_of length_rows us → l ≡ Failed r → l ≡ first us
+pub stops : (us : Uses) {l : Verdict} {r : Refusal} → l ≡ first_of length_rows us → l ≡ Err r → l ≡ first us
 stops us e k = stops_in length_rows other_rows us e k
 
-pub goes_on : (us : Uses) {l w : Verdict} → l ≡ first_of length_rows us → l ≡ Passed → w ≡ first_of other_rows us → w ≡ first us
+pub goes_on : (us : Uses) {l w : Verdict} → l ≡ first_of length_rows us → l ≡ Ok tt → w ≡ first_of other_rows us → w ≡ first us
 goes_on us e k h = goes_past length_rows other_rows us e k h
 
 -- ---- what a verdict says of the rows
@@ -87,16 +86,16 @@ abbrev pub None : List ℕ → Uses → Type 0
 None [] us = Unit
 None (n ∷ ns) us = (applies n us ≡ false) × None ns us
 
-pub passed : (ns : List ℕ) (us : Uses) → first_of ns us ≡ Passed → None ns us
+pub passed : (ns : List ℕ) (us : Uses) → first_of ns us ≡ Ok tt → None ns us
 passed [] us e = tt
 passed (n ∷ ns) us e = go (applies n us) refl e (passed ns us)
   where
-    go : (t : Bool) → applies n us ≡ t → cond t (Failed (refusal_by n us)) (first_of ns us) ≡ Passed → (first_of ns us ≡ Passed → None ns us)
+    go : (t : Bool) → applies n us ≡ t → cond t (Err (refusal_by n us)) (first_of ns us) ≡ Ok tt → (first_of ns us ≡ Ok tt → None ns us)
         → (applies n us ≡ false) × None ns us
     go true p h k = never (cc)
     go false p h k = (p, k h)
 
-pub none_pass : (ns : List ℕ) (us : Uses) → None ns us → first_of ns us ≡ Passed
+pub none_pass : (ns : List ℕ) (us : Uses) → None ns us → first_of ns us ≡ Ok tt
 none_pass [] us n = refl
 none_pass (m ∷ ns) us n = simp n.0 (none_pass ns us n.1)
 
@@ -105,16 +104,16 @@ pub data First (us : Uses) : List ℕ → Refusal → Type 0 where
   here : {n : ℕ} {ns : List ℕ} {r : Refusal} → applies n us ≡ true → refusal_by n us ≡ r → First us (n ∷ ns) r
   there : {n : ℕ} {ns : List ℕ} {r : Refusal} → applies n us ≡ false → First us ns r → First us (n ∷ ns) r
 
-pub first_sound : (ns : List ℕ) (us : Uses) (r : Refusal) → first_of ns us ≡ Failed r → First us ns r
+pub first_sound : (ns : List ℕ) (us : Uses) (r : Refusal) → first_of ns us ≡ Err r → First us ns r
 first_sound [] us r e = never (cc)
 first_sound (n ∷ ns) us r e = go (applies n us) refl e (first_sound ns us r)
   where
-    go : (t : Bool) → applies n us ≡ t → cond t (Failed (refusal_by n us)) (first_of ns us) ≡ Failed r → (first_of ns us ≡ Failed r → First us ns r)
+    go : (t : Bool) → applies n us ≡ t → cond t (Err (refusal_by n us)) (first_of ns us) ≡ Err r → (first_of ns us ≡ Err r → First us ns r)
         → First us (n ∷ ns) r
     go true p h k = let e : refusal_by n us ≡ r = cc in here p e
     go false p h k = there p (k h)
 
-pub first_complete : (ns : List ℕ) (us : Uses) (r : Refusal) → First us ns r → first_of ns us ≡ Failed r
+pub first_complete : (ns : List ℕ) (us : Uses) (r : Refusal) → First us ns r → first_of ns us ≡ Err r
 first_complete [] us r f = elim f [ ]
 first_complete (n ∷ ns) us r (here p e) = simp (p, e)
 first_complete (n ∷ ns) us r (there p f) = simp p (first_complete ns us r f)
@@ -181,7 +180,7 @@ none_else (u ∷ us) n e = go (eqb n (number_of u.0)) refl (none_else us n e)
     go true p h = let q : has n rows ≡ true = subst (λ (i : ℕ). has i rows ≡ true) (sym (eqb-true n (number_of u.0) p)) (in_table u.0) in never (cc)
     go false p h = h
 
-pub clear : (us : Uses) → first us ≡ Passed → (n : ℕ) → applies n us ≡ false
+pub clear : (us : Uses) → first us ≡ Ok tt → (n : ℕ) → applies n us ≡ false
 clear us e n = go (has n rows) refl
   where
     go : (t : Bool) → has n rows ≡ t → applies n us ≡ false

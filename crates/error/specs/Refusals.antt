@@ -1,5 +1,5 @@
 -- Numbered replies: the table's rows, their numbers and their order. Definitions only.
-use Rattle.std.specs.Prelude.{Bool, false, cond, List, [], ◌∷◌, ℕ, ◌+◌, ◌*◌, eqb}
+use Rattle.std.specs.Prelude.{Bool, false, cond, List, [], ◌∷◌, ℕ, ◌+◌, ◌*◌, eqb, Result, Ok, Err}
 use Rattle.error.specs.declared.Refusal.{Refusal}
 use Rattle.error.specs.declared.Refusal.TheVariants.{
   TooFew,
@@ -25,8 +25,6 @@ use Rattle.error.specs.declared.Refusal.TheVariants.{
 }
 use Rattle.error.specs.declared.Where.{Where}
 use Rattle.error.specs.declared.Where.TheVariants.{Nowhere, Knot, Segment}
-use Rattle.error.specs.declared.Verdict.{Verdict}
-use Rattle.error.specs.declared.Verdict.TheVariants.{Passed, Failed}
 
 -- the number of each refusal
 abbrev pub number_of : Refusal → ℕ
@@ -113,10 +111,14 @@ abbrev pub refusal_by : ℕ → Uses → Refusal
 refusal_by n [] = BadLine
 refusal_by n (u ∷ us) = cond (eqb n (number_of u.0)) u.0 (refusal_by n us)
 
+-- what the tests of a call come to: nothing is refused, or a refusal
+abbrev pub Verdict : Type 0
+Verdict = Result Unit Refusal
+
 -- by the first of the rows that applies
 abbrev pub first_of : List ℕ → Uses → Verdict
-first_of [] us = Passed
-first_of (n ∷ ns) us = cond (applies n us) (Failed (refusal_by n us)) (first_of ns us)
+first_of [] us = Ok tt
+first_of (n ∷ ns) us = cond (applies n us) (Err (refusal_by n us)) (first_of ns us)
 
 abbrev pub first : Uses → Verdict
 first us = first_of rows us

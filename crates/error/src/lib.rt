@@ -28,14 +28,8 @@ pub enum Refusal {
     LostSeam(u16),
 }
 
-// What the tests of a call come to: nothing is refused, or the first refusal that applies.
-#[derive(Clone, Copy)]
-pub enum Verdict {
-    Passed,
-    Failed(Refusal),
-}
-
 // The refusal's number in the table.
+// No From: docs/CALLS.md names it, `place` and `reply` as functions with these answers, and C gets them.
 pub fn number(r: Refusal) -> u8
     ensures { result ≡ number_of r }
 {
@@ -64,6 +58,7 @@ pub fn number(r: Refusal) -> u8
 }
 
 // What a refusal tells besides its number: nothing, a knot or a segment, counted from 0.
+// Three cases of one enum: an Option around an enum of two would be no plainer.
 #[derive(Clone, Copy)]
 pub enum Where {
     Nowhere,
@@ -76,26 +71,9 @@ pub fn where_told(r: Refusal) -> Where
     ensures { result ≡ where_of r }
 {
     match r {
-        Refusal::TooFew => Where::Nowhere,
-        Refusal::BadPattern => Where::Nowhere,
-        Refusal::TooMany => Where::Nowhere,
-        Refusal::BadSpan => Where::Nowhere,
-        Refusal::NotANumber => Where::Nowhere,
-        Refusal::BadPrecision => Where::Nowhere,
-        Refusal::NoRounds => Where::Nowhere,
-        Refusal::LinearOutput => Where::Nowhere,
-        Refusal::BadAllowance => Where::Nowhere,
-        Refusal::ShortBuffer => Where::Nowhere,
-        Refusal::BadStep => Where::Nowhere,
-        Refusal::NoSegment => Where::Nowhere,
-        Refusal::BadKnot(i) => Where::Knot(i),
-        Refusal::TurnsBack(i) => Where::Knot(i),
-        Refusal::UnequalSegments => Where::Nowhere,
-        Refusal::OffCurve => Where::Nowhere,
-        Refusal::BadLine => Where::Nowhere,
-        Refusal::BadSheet => Where::Nowhere,
-        Refusal::NoComparison => Where::Nowhere,
+        Refusal::BadKnot(i) | Refusal::TurnsBack(i) => Where::Knot(i),
         Refusal::LostSeam(i) => Where::Segment(i),
+        _ => Where::Nowhere,
     }
 }
 
@@ -105,8 +83,7 @@ pub fn place(r: Refusal) -> u16
 {
     match where_told(r) {
         Where::Nowhere => 0,
-        Where::Knot(i) => i,
-        Where::Segment(i) => i,
+        Where::Knot(i) | Where::Segment(i) => i,
     }
 }
 

@@ -7,8 +7,6 @@ ghost use Rattle.convert.specs.Buffer.{answer_of, buffer_of};
 ghost use Rattle.convert_strict.specs.Strict.{strict_of};
 ghost use Rattle.exports_reply.specs.Replies.{chosen_of, no_basis, chosen, converted_reply, length_left};
 
-use exports_reply::BasisChoice;
-
 // One segment's conversion, into the first four places of out.
 pub fn convert_segment(from: u8, to: u8, cv: &[f64], out: &mut [f64]) -> u32
     ensures answer { result ≡ chosen (chosen_of from) no_basis
@@ -19,11 +17,11 @@ pub fn convert_segment(from: u8, to: u8, cv: &[f64], out: &mut [f64]) -> u32
         (λ t. buffer_of (converted_segment_of f t cv.now (length out.old)) out.old)) }
 {
     let c = exports_reply::basis_of(from);
-    let BasisChoice::Known(f) = c else {
+    let Some(f) = c else {
         return exports_reply::UNKNOWN;
     };
     let d = exports_reply::basis_of(to);
-    let BasisChoice::Known(t) = d else {
+    let Some(t) = d else {
         return exports_reply::UNKNOWN;
     };
     exports_reply::conversion_reply(convert::convert_segment(f, t, cv, out))
@@ -42,11 +40,11 @@ pub fn convert_spline(from: u8, to: u8, knots: &[f64], out: &mut [f64], written:
         (λ t. buffer_of (converted_of f t knots.now (length out.old)) out.old)) }
 {
     let c = exports_reply::basis_of(from);
-    let BasisChoice::Known(f) = c else {
+    let Some(f) = c else {
         return exports_reply::UNKNOWN;
     };
     let d = exports_reply::basis_of(to);
-    let BasisChoice::Known(t) = d else {
+    let Some(t) = d else {
         return exports_reply::UNKNOWN;
     };
     exports_reply::length_told(convert::convert_spline(f, t, knots, out), written)
@@ -73,11 +71,11 @@ pub fn convert_spline_strict(
         (λ t. buffer_of (strict_of f t knots.now allowance (length out.old)) out.old)) }
 {
     let c = exports_reply::basis_of(from);
-    let BasisChoice::Known(f) = c else {
+    let Some(f) = c else {
         return exports_reply::UNKNOWN;
     };
     let d = exports_reply::basis_of(to);
-    let BasisChoice::Known(t) = d else {
+    let Some(t) = d else {
         return exports_reply::UNKNOWN;
     };
     exports_reply::length_told(

@@ -7,8 +7,6 @@ ghost use Rattle.inverse.specs.Inverse.{inverse_of, inverse_by, steady_of, most_
 ghost use Rattle.exports_reply.specs.Replies.{chosen_of, no_basis, chosen, inverted_reply, place_left, whole_left};
 ghost use Rattle.exports_reply.specs.Options.{chosen_by};
 
-use exports_reply::BasisChoice;
-use exports_reply::options::Way;
 use inverse::Options;
 
 // A curve's inversion with the defaults.
@@ -28,7 +26,7 @@ pub fn spline_inverse(
         (λ b. whole_left (inverse_of b y knots.now check default_limit default_precision) whole.old) }
 {
     let c = exports_reply::basis_of(basis);
-    let BasisChoice::Known(b) = c else {
+    let Some(b) = c else {
         return exports_reply::UNKNOWN;
     };
     exports_reply::place_told(inverse::spline_inverse(b, y, knots, check), place, whole)
@@ -53,7 +51,7 @@ pub fn spline_inverse_with(
         (λ b. whole_left (inverse_of b y knots.now check limit precision) whole.old) }
 {
     let c = exports_reply::basis_of(basis);
-    let BasisChoice::Known(b) = c else {
+    let Some(b) = c else {
         return exports_reply::UNKNOWN;
     };
     exports_reply::place_told(
@@ -84,11 +82,11 @@ pub fn spline_inverse_by(
         (λ b e m. whole_left (inverse_by e m b y knots.now check limit precision) whole.old) }
 {
     let c = exports_reply::basis_of(basis);
-    let BasisChoice::Known(b) = c else {
+    let Some(b) = c else {
         return exports_reply::UNKNOWN;
     };
     let w = exports_reply::options::way_of(ends, method);
-    let Way::Known(e, m) = w else {
+    let Some((e, m)) = w else {
         return exports_reply::UNKNOWN;
     };
     let o = Options {
@@ -117,7 +115,7 @@ pub fn spline_inverse_steady(
         (λ b. whole_left (steady_of b y knots.now check) whole.old) }
 {
     let c = exports_reply::basis_of(basis);
-    let BasisChoice::Known(b) = c else {
+    let Some(b) = c else {
         return exports_reply::UNKNOWN;
     };
     exports_reply::place_told(
@@ -140,11 +138,11 @@ pub fn most_evaluations(
     ensures most { most.new ≡ chosen_by basis ends method most.old (λ b e m. most_of e m b n limit) }
 {
     let c = exports_reply::basis_of(basis);
-    let BasisChoice::Known(b) = c else {
+    let Some(b) = c else {
         return exports_reply::UNKNOWN;
     };
     let w = exports_reply::options::way_of(ends, method);
-    let Way::Known(e, m) = w else {
+    let Some((e, m)) = w else {
         return exports_reply::UNKNOWN;
     };
     *most = inverse::most_evaluations(b, n, limit, e, m) as usize;

@@ -7,9 +7,6 @@ ghost use Rattle.inverse_segment.specs.Method.{rule_of, steady_segment_of};
 ghost use Rattle.exports_reply.specs.Replies.{chosen_of, no_basis, chosen, inverted_reply, place_left, whole_left};
 ghost use Rattle.exports_reply.specs.Options.{chosen_by};
 
-use exports_reply::BasisChoice;
-use exports_reply::options::Way;
-
 // One segment's inversion with the defaults: the crate's method among the others, so that the archive has its rounds once.
 pub fn spline_inverse_segment(
     basis: u8,
@@ -26,7 +23,7 @@ pub fn spline_inverse_segment(
         (λ b. whole_left (inverse_segment_of b y cv.now default_limit default_precision) whole.old) }
 {
     let c = exports_reply::basis_of(basis);
-    let BasisChoice::Known(b) = c else {
+    let Some(b) = c else {
         return exports_reply::UNKNOWN;
     };
     exports_reply::place_told(
@@ -54,7 +51,7 @@ pub fn spline_inverse_segment_with(
         (λ b. whole_left (inverse_segment_of b y cv.now limit precision) whole.old) }
 {
     let c = exports_reply::basis_of(basis);
-    let BasisChoice::Known(b) = c else {
+    let Some(b) = c else {
         return exports_reply::UNKNOWN;
     };
     exports_reply::place_told(
@@ -83,11 +80,11 @@ pub fn spline_inverse_segment_by(
         (λ b _ m. whole_left (inverse_segment_by (rule_of m) b y cv.now limit precision) whole.old) }
 {
     let c = exports_reply::basis_of(basis);
-    let BasisChoice::Known(b) = c else {
+    let Some(b) = c else {
         return exports_reply::UNKNOWN;
     };
     let w = exports_reply::options::way_of(0, method);
-    let Way::Known(_, m) = w else {
+    let Some((_, m)) = w else {
         return exports_reply::UNKNOWN;
     };
     exports_reply::place_told(
@@ -112,7 +109,7 @@ pub fn spline_inverse_segment_steady(
         (λ b. whole_left (steady_segment_of b y cv.now) whole.old) }
 {
     let c = exports_reply::basis_of(basis);
-    let BasisChoice::Known(b) = c else {
+    let Some(b) = c else {
         return exports_reply::UNKNOWN;
     };
     exports_reply::place_told(

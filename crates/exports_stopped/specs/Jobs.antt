@@ -1,51 +1,52 @@
 -- What a caller from C sees of a stopped job: the reply, and what stands behind each pointer when the call returns. Definitions only.
-use Rattle.std.specs.Prelude.{List, ℕ, Float}
+use Rattle.stopped.specs.declared.Job.{Job}
+use Rattle.inverse_segment.specs.declared.Miss.{Miss}
+use Rattle.stopped.specs.declared.Job.TheVariants.{Flat, Before, Start, UnderWay, End, Beyond}
+use Rattle.inverse_segment.specs.declared.Miss.TheVariants.{OffCurve, Refused}
+use Rattle.std.specs.Prelude.{List, ℕ, Float, Ok, Err, Result}
 use Rattle.error.specs.declared.Refusal.TheVariants.{OffCurve as OffCurveRow}
 use Rattle.error.specs.Refusals.{reply_of}
-use Rattle.stopped.specs.declared.Job.{Job}
-use Rattle.stopped.specs.declared.Job.TheVariants.{Refused, OffCurve, Flat, Before, Start, UnderWay, End, Beyond}
-use Rattle.table.specs.declared.TableInversion.TheVariants as T
 use Rattle.exports_table.specs.Tables.{timed_place, timed_whole}
 
-abbrev pub said_reply : Job → ℕ
-said_reply (Refused r) = reply_of r
-said_reply (OffCurve n) = reply_of OffCurveRow
-said_reply Flat = 0
-said_reply Before = 0
-said_reply Start = 0
-said_reply (UnderWay s p) = 0
-said_reply End = 0
-said_reply Beyond = 0
+abbrev pub said_reply : Result Job Miss → ℕ
+said_reply (Err (Refused r)) = reply_of r
+said_reply (Err (OffCurve n)) = reply_of OffCurveRow
+said_reply (Ok Flat) = 0
+said_reply (Ok Before) = 0
+said_reply (Ok Start) = 0
+said_reply (Ok (UnderWay s p)) = 0
+said_reply (Ok End) = 0
+said_reply (Ok Beyond) = 0
 
 -- what is said, from 1 to 6; a refusal leaves what stood there
-abbrev pub said_job : Job → ℕ → ℕ
-said_job (Refused r) old = old
-said_job (OffCurve n) old = old
-said_job Flat old = 1
-said_job Before old = 2
-said_job Start old = 3
-said_job (UnderWay s p) old = 4
-said_job End old = 5
-said_job Beyond old = 6
+abbrev pub said_job : Result Job Miss → ℕ → ℕ
+said_job (Err (Refused r)) old = old
+said_job (Err (OffCurve n)) old = old
+said_job (Ok Flat) old = 1
+said_job (Ok Before) old = 2
+said_job (Ok Start) old = 3
+said_job (Ok (UnderWay s p)) old = 4
+said_job (Ok End) old = 5
+said_job (Ok Beyond) old = 6
 
 -- the place of a job that is under way, as an inversion of the table leaves it; else what stood there
-abbrev pub said_place : Job → List Float → List Float
-said_place (Refused r) old = old
-said_place (OffCurve n) old = old
-said_place Flat old = old
-said_place Before old = old
-said_place Start old = old
-said_place (UnderWay s p) old = timed_place (T.At p s) old
-said_place End old = old
-said_place Beyond old = old
+abbrev pub said_place : Result Job Miss → List Float → List Float
+said_place (Err (Refused r)) old = old
+said_place (Err (OffCurve n)) old = old
+said_place (Ok Flat) old = old
+said_place (Ok Before) old = old
+said_place (Ok Start) old = old
+said_place (Ok (UnderWay s p)) old = timed_place (Ok (p, s)) old
+said_place (Ok End) old = old
+said_place (Ok Beyond) old = old
 
 -- its ground, segment, count and second; refusal 11 its count
-abbrev pub said_whole : Job → List ℕ → List ℕ
-said_whole (Refused r) old = old
-said_whole (OffCurve n) old = timed_whole (T.OffCurve n) old
-said_whole Flat old = old
-said_whole Before old = old
-said_whole Start old = old
-said_whole (UnderWay s p) old = timed_whole (T.At p s) old
-said_whole End old = old
-said_whole Beyond old = old
+abbrev pub said_whole : Result Job Miss → List ℕ → List ℕ
+said_whole (Err (Refused r)) old = old
+said_whole (Err (OffCurve n)) old = timed_whole (Err (OffCurve n)) old
+said_whole (Ok Flat) old = old
+said_whole (Ok Before) old = old
+said_whole (Ok Start) old = old
+said_whole (Ok (UnderWay s p)) old = timed_whole (Ok (p, s)) old
+said_whole (Ok End) old = old
+said_whole (Ok Beyond) old = old

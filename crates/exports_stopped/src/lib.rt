@@ -8,42 +8,41 @@ ghost use Rattle.exports_stopped.specs.Jobs.{said_reply, said_job, said_place, s
 ghost use Rattle.exports_table.specs.Tables.{table_of};
 ghost use Rattle.stopped.specs.Stopped.{stopped_of};
 
-use exports_reply::BasisChoice;
+use inverse_segment::Miss;
 use stopped::Job;
-use table::TableInversion;
 use table_span::Table;
 
 // What is said is left by its number. A job that is under way leaves its place and its second besides; refusal 11 its count.
-fn job_told(a: Job, job: &mut u8, place: &mut [f64; 4], whole: &mut [usize; 4]) -> u32
+fn job_told(a: Result<Job, Miss>, job: &mut u8, place: &mut [f64; 4], whole: &mut [usize; 4]) -> u32
     ensures answer { result ≡ said_reply a }
     ensures job { job.new ≡ said_job a job.old }
     ensures place { place.new ≡ said_place a place.old }
     ensures whole { whole.new ≡ said_whole a whole.old }
 {
     match a {
-        Job::Refused(r) => error::reply(r),
-        Job::OffCurve(n) => exports_table::timed_told(TableInversion::OffCurve(n), place, whole),
-        Job::UnderWay(s, p) => {
+        Err(Miss::Refused(r)) => error::reply(r),
+        Err(Miss::OffCurve(n)) => exports_table::timed_told(Err(Miss::OffCurve(n)), place, whole),
+        Ok(Job::UnderWay(s, p)) => {
             *job = 4;
-            exports_table::timed_told(TableInversion::At(p, s), place, whole)
+            exports_table::timed_told(Ok((p, s)), place, whole)
         }
-        Job::Flat => {
+        Ok(Job::Flat) => {
             *job = 1;
             0
         }
-        Job::Before => {
+        Ok(Job::Before) => {
             *job = 2;
             0
         }
-        Job::Start => {
+        Ok(Job::Start) => {
             *job = 3;
             0
         }
-        Job::End => {
+        Ok(Job::End) => {
             *job = 5;
             0
         }
-        Job::Beyond => {
+        Ok(Job::Beyond) => {
             *job = 6;
             0
         }
@@ -71,7 +70,7 @@ pub fn stopped(
         (λ b. said_whole (stopped_of (table_of span b) y knots.now check) whole.old) }
 {
     let c = exports_reply::basis_of(basis);
-    let BasisChoice::Known(b) = c else {
+    let Some(b) = c else {
         return exports_reply::UNKNOWN;
     };
     let t = Table {

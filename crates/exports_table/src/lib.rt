@@ -21,20 +21,22 @@ ghost use Rattle.exports_table.specs.Tables.{
 };
 
 use error::Refusal;
-use exports_reply::BasisChoice;
-use exports_reply::options::Way;
 use inverse::Options;
-use table::{TableConversion, TableInversion};
+use inverse_segment::{Miss, Place};
 use table_span::Table;
 
 // A place leaves what it leaves without a span, and its second; refusal 11 its count.
-pub fn timed_told(a: TableInversion, place: &mut [f64; 4], whole: &mut [usize; 4]) -> u32
+pub fn timed_told(
+    a: Result<(Place, u32), Miss>,
+    place: &mut [f64; 4],
+    whole: &mut [usize; 4],
+) -> u32
     ensures answer { result ≡ timed_reply a }
     ensures place { place.new ≡ timed_place a place.old }
     ensures whole { whole.new ≡ timed_whole a whole.old }
 {
     match a {
-        TableInversion::At(p, s) => {
+        Ok((p, s)) => {
             *place = [p.parameter, p.local, p.lower, p.upper];
             let g = p.ground;
             *whole = [
@@ -45,27 +47,27 @@ pub fn timed_told(a: TableInversion, place: &mut [f64; 4], whole: &mut [usize; 4
             ];
             0
         }
-        TableInversion::OffCurve(n) => {
+        Err(Miss::OffCurve(n)) => {
             whole[2] = n;
             error::reply(Refusal::OffCurve)
         }
-        TableInversion::Refused(r) => error::reply(r),
+        Err(Miss::Refused(r)) => error::reply(r),
     }
 }
 
 // The answer of a conversion that hands the span on, into what C lent for it.
-fn handed_told(a: TableConversion, handed: &mut u32, written: &mut usize) -> u32
+fn handed_told(a: Result<(Table, usize), Refusal>, handed: &mut u32, written: &mut usize) -> u32
     ensures answer { result ≡ handed_reply a }
     ensures handed { handed.new ≡ handed_span a handed.old }
     ensures written { written.new ≡ handed_length a written.old }
 {
     match a {
-        TableConversion::On(t, n) => {
+        Ok((t, n)) => {
             *handed = t.span;
             *written = n;
             0
         }
-        TableConversion::Refused(r) => error::reply(r),
+        Err(r) => error::reply(r),
     }
 }
 
@@ -89,7 +91,7 @@ pub fn table_spline_inverse(
         whole.old) }
 {
     let c = exports_reply::basis_of(basis);
-    let BasisChoice::Known(b) = c else {
+    let Some(b) = c else {
         return exports_reply::UNKNOWN;
     };
     let t = Table {
@@ -125,11 +127,11 @@ pub fn table_spline_inverse_by(
         (λ b e m. timed_whole (table_inverse_by e m (table_of span b) y knots.now check limit precision) whole.old) }
 {
     let c = exports_reply::basis_of(basis);
-    let BasisChoice::Known(b) = c else {
+    let Some(b) = c else {
         return exports_reply::UNKNOWN;
     };
     let w = exports_reply::options::way_of(ends, method);
-    let Way::Known(e, m) = w else {
+    let Some((e, m)) = w else {
         return exports_reply::UNKNOWN;
     };
     let o = Options {
@@ -164,7 +166,7 @@ pub fn table_spline_inverse_steady(
         (λ b. timed_whole (table_steady_of (table_of span b) y knots.now check) whole.old) }
 {
     let c = exports_reply::basis_of(basis);
-    let BasisChoice::Known(b) = c else {
+    let Some(b) = c else {
         return exports_reply::UNKNOWN;
     };
     let t = Table {
@@ -207,11 +209,11 @@ pub fn table_convert_spline(
         (λ t. buffer_of (table_converted_of (table_of span f) t knots.now (length out.old)) out.old)) }
 {
     let c = exports_reply::basis_of(from);
-    let BasisChoice::Known(f) = c else {
+    let Some(f) = c else {
         return exports_reply::UNKNOWN;
     };
     let d = exports_reply::basis_of(to);
-    let BasisChoice::Known(t) = d else {
+    let Some(t) = d else {
         return exports_reply::UNKNOWN;
     };
     let old = Table {
@@ -256,11 +258,11 @@ pub fn table_convert_spline_strict(
         out.old)) }
 {
     let c = exports_reply::basis_of(from);
-    let BasisChoice::Known(f) = c else {
+    let Some(f) = c else {
         return exports_reply::UNKNOWN;
     };
     let d = exports_reply::basis_of(to);
-    let BasisChoice::Known(t) = d else {
+    let Some(t) = d else {
         return exports_reply::UNKNOWN;
     };
     let old = Table {

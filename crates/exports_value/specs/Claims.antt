@@ -1,16 +1,13 @@
 -- What a caller from C sees of a claim: the reply, and what stands behind the pointer when the call returns. Definitions only.
-use Rattle.std.specs.Prelude.{Bool, true, false, ℕ}
+use Rattle.error.specs.declared.Refusal.{Refusal}
+use Rattle.std.specs.Prelude.{Bool, ℕ, Err, Ok, Result}
 use Rattle.error.specs.Refusals.{reply_of}
-use Rattle.claim.specs.declared.ClaimAnswer.{ClaimAnswer}
-use Rattle.claim.specs.declared.ClaimAnswer.TheVariants.{Refused, Holds, Differs}
 
-abbrev pub claimed_reply : ClaimAnswer → ℕ
-claimed_reply Holds = 0
-claimed_reply Differs = 0
-claimed_reply (Refused r) = reply_of r
+abbrev pub claimed_reply : Result Bool Refusal → ℕ
+claimed_reply (Ok h) = 0
+claimed_reply (Err r) = reply_of r
 
 -- whether it holds; a refusal leaves what stood there
-abbrev pub holds_left : ClaimAnswer → Bool → Bool
-holds_left Holds old = true
-holds_left Differs old = false
-holds_left (Refused r) old = old
+abbrev pub holds_left : Result Bool Refusal → Bool → Bool
+holds_left (Ok h) old = h
+holds_left (Err r) old = old

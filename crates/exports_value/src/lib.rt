@@ -10,17 +10,15 @@ ghost use Rattle.exports_reply.specs.Replies.{chosen_of, no_basis, chosen, evalu
 ghost use Rattle.exports_value.specs.Claims.{claimed_reply, holds_left};
 ghost use Rattle.exports_value.specs.Uneven.{named_reply, sounded_reply, depth_left, depth_place_left, depth_whole_left};
 
-use claim::ClaimAnswer;
 use error::Refusal;
-use exports_reply::BasisChoice;
-use uneven::{DepthAnswer, WhichTable};
+use uneven::{Depth, DepthMiss, WhichTable};
 
 // 1 or 0; 255 for a number that is no basis, here and in every other call.
 pub fn is_len_ok(basis: u8, n: usize) -> u8
     ensures { result ≡ chosen (chosen_of basis) no_basis (λ b. cond (length_ok b n) 1 0) }
 {
     let c = exports_reply::basis_of(basis);
-    let BasisChoice::Known(b) = c else {
+    let Some(b) = c else {
         return 255;
     };
     if basis::is_len_ok(b, n) { 1 } else { 0 }
@@ -33,7 +31,7 @@ pub fn spline(basis: u8, x: f64, knots: &[f64], value: &mut f64) -> u32
         (λ b. value_left (spline_of b x knots.now) value.old) }
 {
     let c = exports_reply::basis_of(basis);
-    let BasisChoice::Known(b) = c else {
+    let Some(b) = c else {
         return exports_reply::UNKNOWN;
     };
     exports_reply::value_told(spline::spline(b, x, knots), value)
@@ -46,27 +44,23 @@ pub fn spline_segment(basis: u8, x: f64, cv: &[f64], value: &mut f64) -> u32
         (λ b. value_left (spline_segment_of b x cv.now) value.old) }
 {
     let c = exports_reply::basis_of(basis);
-    let BasisChoice::Known(b) = c else {
+    let Some(b) = c else {
         return exports_reply::UNKNOWN;
     };
     exports_reply::value_told(spline::spline_segment(b, x, cv), value)
 }
 
 // Whether the claim holds is written and answered by 0; a refusal writes nothing.
-fn claimed_told(c: ClaimAnswer, holds: &mut bool) -> u32
+fn claimed_told(c: Result<bool, Refusal>, holds: &mut bool) -> u32
     ensures answer { result ≡ claimed_reply c }
     ensures holds { holds.new ≡ holds_left c holds.old }
 {
     match c {
-        ClaimAnswer::Holds => {
-            *holds = true;
+        Ok(h) => {
+            *holds = h;
             0
         }
-        ClaimAnswer::Differs => {
-            *holds = false;
-            0
-        }
-        ClaimAnswer::Refused(r) => error::reply(r),
+        Err(r) => error::reply(r),
     }
 }
 
@@ -86,7 +80,7 @@ pub fn check_claim(
         (λ b. holds_left (claim_of b y segment x precision knots.now) holds.old) }
 {
     let c = exports_reply::basis_of(basis);
-    let BasisChoice::Known(b) = c else {
+    let Some(b) = c else {
         return exports_reply::UNKNOWN;
     };
     claimed_told(
@@ -109,7 +103,7 @@ fn named_reply(t: WhichTable, r: Refusal) -> u32
 
 // A depth leaves all; 11 leaves the count of the inversion.
 fn sounded_told(
-    a: DepthAnswer,
+    a: Result<Depth, DepthMiss>,
     depth: &mut f64,
     place: &mut [f64; 4],
     whole: &mut [usize; 4],
@@ -120,7 +114,7 @@ fn sounded_told(
     ensures whole { whole.new ≡ depth_whole_left a whole.old }
 {
     match a {
-        DepthAnswer::At(d) => {
+        Ok(d) => {
             let p = d.place;
             let g = p.ground;
             *depth = d.depth;
@@ -133,11 +127,11 @@ fn sounded_told(
             ];
             0
         }
-        DepthAnswer::OffCurve(n) => {
+        Err(DepthMiss::OffCurve(n)) => {
             whole[2] = n;
             error::reply(Refusal::OffCurve)
         }
-        DepthAnswer::Refused(t, r) => named_reply(t, r),
+        Err(DepthMiss::Refused(t, r)) => named_reply(t, r),
     }
 }
 
@@ -168,11 +162,11 @@ pub fn depth_at(
         (λ d. depth_whole_left (depth_of t times.now d depths.now y limit precision) whole.old)) }
 {
     let c = exports_reply::basis_of(tb);
-    let BasisChoice::Known(t) = c else {
+    let Some(t) = c else {
         return exports_reply::UNKNOWN;
     };
     let e = exports_reply::basis_of(db);
-    let BasisChoice::Known(d) = e else {
+    let Some(d) = e else {
         return exports_reply::UNKNOWN;
     };
     sounded_told(

@@ -1,4 +1,7 @@
 -- What an inversion past the refusals tells, for any curve g of k segments and any end rule e. Assumes nothing.
+use Rattle.inverse_segment.specs.Inversion.{Inversion}
+use Rattle.inverse_segment.specs.declared.Miss.TheVariants.{OffCurve}
+use Rattle.std.specs.Prelude.{Err, Ok}
 use mathlib.Core.Path.{◌≡◌, refl, sym, subst}
 use mathlib.Core.Bool.{Bool, true, false, not, cond}
 use Prim.Native.Nat.{ℕ, ◌+◌, ◌-◌, ◌*◌, ◌≤◌, ◌<◌}
@@ -10,8 +13,6 @@ use lib.Ieee.{Float, lt}
 use Rattle.doubles.specs.Numbers.{nought, one}
 use Rattle.doubles.proofs.Tests.{branch}
 use Rattle.inverse_segment.specs.declared.Place.{Place}
-use Rattle.inverse_segment.specs.declared.Inversion.{Inversion}
-use Rattle.inverse_segment.specs.declared.Inversion.TheVariants.{OffCurve, At}
 use Rattle.inverse_segment.specs.Evaluations.{Evaluations}
 use Rattle.inverse_segment.specs.Segment.{Outcome, off, placed}
 use Rattle.inverse_segment.specs.Answer.{answered}
@@ -57,8 +58,8 @@ module _ (e : Ends) (ev : Evaluations) (g : ℕ → Float → Float) (k : ℕ) (
   pub data AnswerCase : Inversion → Type 0 where
     at_low_lem : T (at_low e y) → AnswerCase (ended ev 0 nought)
     at_high_lem : T (not (at_low e y)) → T (at_high e y) → AnswerCase (ended ev (k - 1) one)
-    entered : {p : Place} → Silent → In p → AnswerCase (At p)
-    nowhere : {n : ℕ} → Silent → n ≤ most → (Supposed → NoneHolds) → AnswerCase (OffCurve n)
+    entered : {p : Place} → Silent → In p → AnswerCase (Ok p)
+    nowhere : {n : ℕ} → Silent → n ≤ most → (Supposed → NoneHolds) → AnswerCase (Err (OffCurve n))
 
 module _ (R : Rule) (lawful : Lawful R) (e : Ends) (ev : Evaluations) (g : ℕ → Float → Float) (k : ℕ) (y ε : Float) (limit : ℕ) (some : 0 < k)
     (fits : k ≤ 4093) (numbers : (s : ℕ) → s < k → Numbers (g s) y) where

@@ -1,4 +1,7 @@
 -- Demand by demand, what an inversion past the refusals promises, for any curve g of k segments and any end rule e. Assumes nothing.
+use Rattle.inverse_segment.specs.Inversion.{Inversion}
+use Rattle.inverse_segment.specs.declared.Miss.TheVariants.{Refused, OffCurve}
+use Rattle.std.specs.Prelude.{Err, Ok}
 use mathlib.Core.Path.{◌≡◌, refl, ap}
 use mathlib.Core.Logic.{◌⊎◌, inl, inr}
 use mathlib.Core.Bool.{Bool, true, false, not, cond}
@@ -17,8 +20,6 @@ use Rattle.doubles.proofs.Share.{share_in}
 use Rattle.inverse_segment.specs.declared.Ground.{Ground}
 use Rattle.inverse_segment.specs.declared.Ground.TheVariants.{End, Edge, Value, Width, Spent}
 use Rattle.inverse_segment.specs.declared.Place.{Place}
-use Rattle.inverse_segment.specs.declared.Inversion.{Inversion}
-use Rattle.inverse_segment.specs.declared.Inversion.TheVariants.{Refused, OffCurve, At}
 use Rattle.inverse_segment.specs.Agreed.{Agreed}
 use Rattle.inverse_segment.specs.Evaluations.{Evaluations}
 use Rattle.inverse_segment.specs.Segment.{Outcome, off, placed, encloses, near, evaluations_of}
@@ -38,15 +39,15 @@ use Rattle.inverse.proofs.Cases.{Silent, NoneHolds, Supposed, most, In, AnswerCa
 
 -- where the answer is a place, it is one of which P holds
 abbrev pub AtPlace : (Place → Type 0) → Inversion → Type 0
-AtPlace P (At p) = P p
-AtPlace P (OffCurve n) = Unit
-AtPlace P (Refused r) = Unit
+AtPlace P (Ok p) = P p
+AtPlace P (Err (OffCurve n)) = Unit
+AtPlace P (Err (Refused r)) = Unit
 
 -- where the answer is refusal 11, P holds
 abbrev pub IfOff : Type 0 → Inversion → Type 0
-IfOff P (At p) = Unit
-IfOff P (OffCurve n) = P
-IfOff P (Refused r) = Unit
+IfOff P (Ok p) = Unit
+IfOff P (Err (OffCurve n)) = P
+IfOff P (Err (Refused r)) = Unit
 
 -- parameter, local place and both bracket ends lie in 0 to 1, the lower end not above the upper
 pub record Proper (p : Place) : Type 0 where
@@ -238,18 +239,18 @@ module _ (R : Rule) (lawful : Lawful R) (e : Ends) (ev : Evaluations) (g : ℕ �
   pub off_only : IfOff (Silent e ev g k y ε limit × (Supposed e ev g k y ε limit → NoneHolds e ev g k y ε limit)) (located R e ev g k y ε limit)
   off_only = told_off (located R e ev g k y ε limit) (located_told R lawful e ev g k y ε limit some fits numbers)
 
-  told_nowhere : (r : Inversion) → AnswerCase e ev g k y ε limit r → Silent e ev g k y ε limit → NoneHolds e ev g k y ε limit → (n : ℕ) × (r ≡ OffCurve n)
+  told_nowhere : (r : Inversion) → AnswerCase e ev g k y ε limit r → Silent e ev g k y ε limit → NoneHolds e ev g k y ε limit → (n : ℕ) × (r ≡ Err (OffCurve n))
   told_nowhere _ (at_low_lem h) q N = absurd (T_not (at_low e y) q.0 h)
   told_nowhere _ (at_high_lem p h) q N = absurd (T_not (at_high e y) q.1 h)
   told_nowhere _ (entered {p} _ r) q N = absurd (T_not (Holds g y k p.segment) (N p.segment r.below) r.holds)
   told_nowhere _ (nowhere {n} _ _ _) q N = (n, refl)
 
   -- and everywhere there: so a segment that is entered is never refused
-  pub off_where : Silent e ev g k y ε limit → NoneHolds e ev g k y ε limit → (n : ℕ) × (located R e ev g k y ε limit ≡ OffCurve n)
+  pub off_where : Silent e ev g k y ε limit → NoneHolds e ev g k y ε limit → (n : ℕ) × (located R e ev g k y ε limit ≡ Err (OffCurve n))
   off_where = told_nowhere (located R e ev g k y ε limit) (located_told R lawful e ev g k y ε limit some fits numbers)
 
   told_place : (r : Inversion) → AnswerCase e ev g k y ε limit r → Silent e ev g k y ε limit → Supposed e ev g k y ε limit → (s : ℕ) → s < k → T (Holds g y k s)
-      → (p : Place) × (r ≡ At p)
+      → (p : Place) × (r ≡ Ok p)
   told_place _ (at_low_lem h) q S s l H = absurd (T_not (at_low e y) q.0 h)
   told_place _ (at_high_lem p h) q S s l H = absurd (T_not (at_high e y) q.1 h)
   told_place _ (entered {p} _ r) q S s l H = (p, refl)
@@ -257,5 +258,5 @@ module _ (R : Rule) (lawful : Lawful R) (e : Ends) (ev : Evaluations) (g : ℕ �
 
   -- where some segment's ends enclose the target, the answer is a place
   pub place_where : Silent e ev g k y ε limit → Supposed e ev g k y ε limit → (s : ℕ) → s < k → T (Holds g y k s)
-      → (p : Place) × (located R e ev g k y ε limit ≡ At p)
+      → (p : Place) × (located R e ev g k y ε limit ≡ Ok p)
   place_where = told_place (located R e ev g k y ε limit) (located_told R lawful e ev g k y ε limit some fits numbers)

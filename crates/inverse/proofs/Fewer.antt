@@ -1,5 +1,8 @@
 -- Beside the crate's way, in which an entered segment's ends are evaluated twice: every answer is the same but for the count, which is lower by two where a
 -- segment was entered. For any end rule and any weighting. Assumes nothing.
+use Rattle.inverse_segment.specs.Inversion.{Inversion}
+use Rattle.inverse_segment.specs.declared.Miss.TheVariants.{Refused, OffCurve}
+use Rattle.std.specs.Prelude.{Ok, Err}
 use mathlib.Core.Path.{◌≡◌, refl, ap, ◌∙◌}
 use mathlib.Core.List.{List}
 use mathlib.Core.Bool.{Bool, true, false, cond}
@@ -7,16 +10,12 @@ use Prim.Native.Nat.{ℕ, ◌+◌, ◌-◌}
 use lib.ListN.{length}
 use lib.Ieee.{Float}
 use Rattle.error.specs.declared.Refusal.{Refusal}
-use Rattle.error.specs.declared.Verdict.{Verdict}
-use Rattle.error.specs.declared.Verdict.TheVariants.{Passed, Failed}
-use Rattle.error.specs.Refusals.{first}
+use Rattle.error.specs.Refusals.{first, Verdict}
 use Rattle.basis.specs.declared.Basis.{Basis}
 use Rattle.basis.specs.Basis.{segments_of}
 use Rattle.doubles.specs.Numbers.{nought, one}
 use Rattle.spline.specs.Segment.{segment_of}
 use Rattle.inverse_segment.specs.declared.Place.{Place}
-use Rattle.inverse_segment.specs.declared.Inversion.{Inversion}
-use Rattle.inverse_segment.specs.declared.Inversion.TheVariants.{Refused, OffCurve, At}
 use Rattle.inverse_segment.specs.Evaluations.{Evaluations}
 use Rattle.inverse_segment.specs.Round.{Rule}
 use Rattle.inverse_segment.specs.Rounds.{Arrival}
@@ -46,10 +45,10 @@ pub record CountDiffers (n : ℕ) (p q : Place) : Type 0 where
 
 -- n fewer where a segment was entered; and where none was, the two answers are one: a refusal, refusal 11 or a place by the end rule
 pub data Fewer (n : ℕ) : Inversion → Inversion → Type 0 where
-  refused : {r : Refusal} → Fewer n (Refused r) (Refused r)
-  off_curve : {c : ℕ} → Fewer n (OffCurve c) (OffCurve c)
-  by_end : {p : Place} → is_end p.ground ≡ true → Fewer n (At p) (At p)
-  fewer : {p q : Place} → is_end p.ground ≡ false → CountDiffers n p q → Fewer n (At p) (At q)
+  refused : {r : Refusal} → Fewer n (Err (Refused r)) (Err (Refused r))
+  off_curve : {c : ℕ} → Fewer n (Err (OffCurve c)) (Err (OffCurve c))
+  by_end : {p : Place} → is_end p.ground ≡ true → Fewer n (Ok p) (Ok p)
+  fewer : {p q : Place} → is_end p.ground ≡ false → CountDiffers n p q → Fewer n (Ok p) (Ok q)
 
 either : (n : ℕ) (t : Bool) {a b c d : Inversion} → Fewer n a c → Fewer n b d → Fewer n (cond t a b) (cond t c d)
 either n true p q = p
@@ -98,6 +97,6 @@ module _ (m : EndsBy) (how : Method) (b : Basis) (y : Float) (ks : List Float) (
       go : (v : Verdict) → let r = end_rule_of m b ks (segment_of b ks) in
           Fewer 2 (inverted v (located (rule_of how) r.ends r.made (segment_of b ks) (segments_of b (length ks)) y ε limit))
           (inverted v (located_twice (rule_of how) r.ends r.made (segment_of b ks) (segments_of b (length ks)) y ε limit))
-      go Passed = let r = end_rule_of m b ks (segment_of b ks)
+      go (Ok _) = let r = end_rule_of m b ks (segment_of b ks)
           in located_fewer (rule_of how) r.ends r.made (segment_of b ks) (segments_of b (length ks)) y ε limit
-      go (Failed r) = refused
+      go (Err r) = refused

@@ -1,4 +1,7 @@
 -- The inversion of a curve, put together from what the code's calls give. Assumes nothing.
+use Rattle.inverse_segment.specs.Inversion.{Inversion}
+use Rattle.inverse_segment.specs.declared.Miss.TheVariants.{OffCurve}
+use Rattle.std.specs.Prelude.{Err, Ok}
 use mathlib.Core.Path.{◌≡◌, refl, sym, ap, ◌∙◌}
 use mathlib.Core.List.{List}
 use mathlib.Core.Bool.{true, false}
@@ -8,8 +11,6 @@ use lib.Ieee.{Float, lt}
 use Rattle.error.proofs.First.{never}
 use Rattle.doubles.specs.Numbers.{nought, one}
 use Rattle.inverse_segment.specs.declared.Place.{Place}
-use Rattle.inverse_segment.specs.declared.Inversion.{Inversion}
-use Rattle.inverse_segment.specs.declared.Inversion.TheVariants.{OffCurve, At}
 use Rattle.inverse_segment.specs.declared.Stop.{Stop}
 use Rattle.inverse_segment.specs.Segment.{Outcome, off, placed}
 use Rattle.inverse_segment.specs.Answer.{answered}
@@ -37,23 +38,23 @@ use Rattle.inverse.specs.Curve.{parameter_of, ended, located}
 
 -- ---- the search's answer, with the parameter
 module _ (P : ℕ → Float → Float) (o : Outcome) {r : SearchResult} where
-  pub off_kept : {m n : ℕ} → r ≡ NotOn m → r ≡ result_of o → n ≡ count_in r → OffCurve n ≡ answered P o
+  pub off_kept : {m n : ℕ} → r ≡ NotOn m → r ≡ result_of o → n ≡ count_in r → Err (OffCurve n) ≡ answered P o
   off_kept {m} {n} d e i = go o e
     where
-      go : (o : Outcome) → r ≡ result_of o → OffCurve n ≡ answered P o
-      go (off ev) e = ap OffCurve (i ∙ ap count_in e)
+      go : (o : Outcome) → r ≡ result_of o → Err (OffCurve n) ≡ answered P o
+      go (off ev) e = ap (λ a. Err (OffCurve a)) (i ∙ ap count_in e)
       go (placed p) e = never (cc)
 
   pub with_parameter : {s : ℕ} {a : Stop} {x : Float} {p : Place} → r ≡ Entered s a → r ≡ result_of o → x ≡ P s a.local → p ≡ place_at x s a
-      → At p ≡ answered P o
+      → Ok p ≡ answered P o
   with_parameter {s} {a} {x} {p} d e h z = go o (sym d ∙ e)
     where
-      go : (o : Outcome) → Entered s a ≡ result_of o → At p ≡ answered P o
+      go : (o : Outcome) → Entered s a ≡ result_of o → Ok p ≡ answered P o
       go (off ev) e = never (cc)
       go (placed q) e =
           let n : q.segment ≡ s = cc in
           let t : a ≡ stop_of q = cc in
-          ap At (z ∙ place_at_lem P q n t h)
+          ap Ok (z ∙ place_at_lem P q n t h)
 
 -- ---- the end rule's two tests, then the search
 module _ (R : Rule) (e : Ends) (ev : Evaluations) (g : ℕ → Float → Float) (k : ℕ) (y ε : Float) (limit : ℕ) {r : Inversion} where

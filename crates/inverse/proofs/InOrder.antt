@@ -1,4 +1,6 @@
 -- Up to 12 segments: the first in order whose ends enclose the target is the one entered. Assumes nothing.
+use Rattle.inverse_segment.specs.Inversion.{Inversion}
+use Rattle.std.specs.Prelude.{Ok}
 use mathlib.Core.Path.{◌≡◌, ap}
 use mathlib.Core.Bool.{Bool}
 use mathlib.Core.List.{List}
@@ -11,8 +13,6 @@ use Rattle.basis.specs.declared.Basis.{Basis}
 use Rattle.basis.specs.Basis.{segments_of}
 use Rattle.spline.specs.Segment.{segment_of}
 use Rattle.inverse_segment.specs.declared.Place.{Place}
-use Rattle.inverse_segment.specs.declared.Inversion.{Inversion}
-use Rattle.inverse_segment.specs.declared.Inversion.TheVariants.{At}
 use Rattle.inverse_segment.specs.Rounds.{Arrival}
 use Rattle.inverse_segment.specs.Segment.{Outcome, placed}
 use Rattle.inverse_segment.specs.Answer.{answered}
@@ -37,7 +37,7 @@ module _ (m : EndsBy) (how : Method) (b : Basis) (y : Float) (ks : List Float) (
 
   -- the answer is a place in segment s
   abbrev pub In : ℕ → Inversion → Type 0
-  In s r = (p : Place) × (r ≡ At p) × (p.segment ≡ s)
+  In s r = (p : Place) × (r ≡ Ok p) × (p.segment ≡ s)
 
   placed_in : (s : ℕ) (o : Outcome) (p : Arrival) → o ≡ placed p → p.segment ≡ s → In s (answered (parameter_of k) o)
   placed_in s o p e q = (_, ap (answered (parameter_of k)) e, q)

@@ -1,5 +1,6 @@
 -- A lawful rule kept to the pace, on a curve: where N rounds are enough for the precision and the limit is above N, it is never told as spent; and the count is
 -- bounded by N as by a limit. Assumes nothing.
+use Rattle.inverse_segment.specs.Inversion.{Inversion}
 use mathlib.Core.Bool.{Bool, true, false, not, cond}
 use Prim.Native.Nat.{ℕ, ◌+◌, ◌*◌, ◌≤◌, ◌<◌}
 use native.Mathlib.Nat.{le_trans, lt_of_le_of_lt}
@@ -10,7 +11,6 @@ use lib.Ieee.{Float}
 use Rattle.doubles.specs.Numbers.{nought, one}
 use Rattle.doubles.proofs.Tests.{branch}
 use Rattle.doubles.proofs.Units.{nought_in, one_in}
-use Rattle.inverse_segment.specs.declared.Inversion.{Inversion}
 use Rattle.inverse_segment.specs.Evaluations.{Evaluations}
 use Rattle.inverse_segment.specs.Rounds.{Arrival}
 use Rattle.inverse_segment.specs.Segment.{encloses, enter, Outcome, off, placed}

@@ -1,5 +1,8 @@
 -- What the inversion of a curve promises on every input, by either rule m of the ends. b, y, ks, check, limit and ε are the call's arguments: basis, target,
 -- knots, order check yes or no, limit, precision. Assumes nothing.
+use Rattle.inverse_segment.specs.Inversion.{Inversion}
+use Rattle.inverse_segment.specs.declared.Miss.TheVariants.{Refused, OffCurve}
+use Rattle.std.specs.Prelude.{Ok, Err}
 use mathlib.Core.Path.{◌≡◌, refl, sym, ap, ◌∙◌, subst}
 use mathlib.Core.Bool.{Bool}
 use mathlib.Core.List.{List}
@@ -11,15 +14,11 @@ use lib.Dec.{T}
 use lib.ListN.{length}
 use lib.Ieee.{Float}
 use Rattle.error.specs.declared.Refusal.{Refusal}
-use Rattle.error.specs.declared.Verdict.{Verdict}
-use Rattle.error.specs.declared.Verdict.TheVariants.{Passed, Failed}
-use Rattle.error.specs.Refusals.{first}
+use Rattle.error.specs.Refusals.{first, Verdict}
 use Rattle.basis.specs.declared.Basis.{Basis}
 use Rattle.basis.specs.Basis.{segments_of}
 use Rattle.spline.specs.Segment.{segment_of}
 use Rattle.inverse_segment.specs.declared.Place.{Place}
-use Rattle.inverse_segment.specs.declared.Inversion.{Inversion}
-use Rattle.inverse_segment.specs.declared.Inversion.TheVariants.{Refused, OffCurve, At}
 use Rattle.inverse_segment.specs.Agreed.{Agreed}
 use Rattle.inverse_segment.specs.Answer.{inverted, count_told, unless_refused}
 use Rattle.inverse_segment.specs.declared.Method.{Method}
@@ -62,9 +61,9 @@ rule_same Knots b ks g h a = refl
 rule_same Curve b ks g h a = rw (a.0, a.1.0)
 
 with_pass : (P Q R : Type 0) (r : Inversion) → P → IfOff (Q × R) r → IfOff (P × Q × R) r
-with_pass P Q R (At p) e h = tt
-with_pass P Q R (OffCurve n) e h = (e, h.0, h.1)
-with_pass P Q R (Refused r) e h = tt
+with_pass P Q R (Ok p) e h = tt
+with_pass P Q R (Err (OffCurve n)) e h = (e, h.0, h.1)
+with_pass P Q R (Err (Refused r)) e h = tt
 
 module _ (m : EndsBy) (how : Method) (b : Basis) (y : Float) (ks : List Float) (check : Bool) (limit : ℕ) (ε : Float) where
   abbrev pub k : ℕ
@@ -80,7 +79,7 @@ module _ (m : EndsBy) (how : Method) (b : Basis) (y : Float) (ks : List Float) (
 
   -- no row of the refusal table applies
   abbrev pub Pass : Type 0
-  Pass = first (inverse_uses b y ks check limit ε) ≡ Passed
+  Pass = first (inverse_uses b y ks check limit ε) ≡ Ok tt
 
   -- the end rule is silent
   abbrev pub Quiet : Type 0
@@ -94,13 +93,13 @@ module _ (m : EndsBy) (how : Method) (b : Basis) (y : Float) (ks : List Float) (
   abbrev pub Premise : Type 0
   Premise = Supposed rule.ends rule.made (segment_of b ks) k y ε limit
 
-  pub by_verdict : (P : Inversion → Type 0) → ((r : Refusal) → P (Refused r)) → (Admitted b y ks check → P here) → P (inverse_by m how b y ks check limit ε)
+  pub by_verdict : (P : Inversion → Type 0) → ((r : Refusal) → P (Err (Refused r))) → (Admitted b y ks check → P here) → P (inverse_by m how b y ks check limit ε)
   unfolding inverse_by
   by_verdict P f h = go (first (inverse_uses b y ks check limit ε)) refl
     where
       go : (v : Verdict) → first (inverse_uses b y ks check limit ε) ≡ v → P (inverted v here)
-      go Passed e = h (admitted b y ks check limit ε e)
-      go (Failed r) e = f r
+      go (Ok _) e = h (admitted b y ks check limit ε e)
+      go (Err r) e = f r
 
   pub numbers : Admitted b y ks check → (s : ℕ) → s < k → Numbers (segment_of b ks s) y
   numbers a = curve_numbers b y ks a.long a.number a.in_range_lem
@@ -119,8 +118,8 @@ module _ (m : EndsBy) (how : Method) (b : Basis) (y : Float) (ks : List Float) (
     where
       go : (v : Verdict)
           → count_told (inverted v here) ≡ length (unless_refused v (evaluations (rule_of how) rule.ends rule.made (segment_of b ks) k y ε limit))
-      go Passed = count_is_length (rule_of how) rule.ends rule.made (segment_of b ks) k y ε limit
-      go (Failed r) = refl
+      go (Ok _) = count_is_length (rule_of how) rule.ends rule.made (segment_of b ks) k y ε limit
+      go (Err r) = refl
 
   -- it misses none: a curve h that agrees with this one at every listed place gets the same answer
   pub inverse_unlisted : (h : ℕ → Float → Float) → Agreed (segment_of b ks) h (evaluations_by m how b y ks check limit ε)
@@ -131,11 +130,11 @@ module _ (m : EndsBy) (how : Method) (b : Basis) (y : Float) (ks : List Float) (
     where
       go : (v : Verdict) → Agreed (segment_of b ks) h (unless_refused v (evaluations (rule_of how) rule.ends rule.made (segment_of b ks) k y ε limit))
           → inverted v here ≡ inverted v (located (rule_of how) (end_rule_of m b ks h).ends (end_rule_of m b ks h).made h k y ε limit)
-      go Passed a =
+      go (Ok _) a =
           none_unlisted (rule_of how) rule.ends rule.made (segment_of b ks) k y ε limit h a
           ∙ ap (λ (r : EndRule). located (rule_of how) r.ends r.made h k y ε limit)
           (rule_same m b ks (segment_of b ks) h (rule_listed (rule_of how) rule.ends rule.made (segment_of b ks) k y ε limit h a))
-      go (Failed r) a = refl
+      go (Err r) a = refl
 
   -- a place and refusal 11 carry at most so many
   pub inverse_bounded : count_told (inverse_by m how b y ks check limit ε) ≤ own m + bound_of k limit
@@ -171,7 +170,7 @@ module _ (m : EndsBy) (how : Method) (b : Basis) (y : Float) (ks : List Float) (
 
   -- ---- where some segment's ends enclose the target, and the end rule is silent, a segment is entered and not refused
   pub inverse_entered : Pass → Quiet → Premise
-      → (s : ℕ) → s < k → T (Holds (segment_of b ks) y k s) → (p : Place) × (inverse_by m how b y ks check limit ε ≡ At p)
+      → (s : ℕ) → s < k → T (Holds (segment_of b ks) y k s) → (p : Place) × (inverse_by m how b y ks check limit ε ≡ Ok p)
   unfolding inverse_by
   inverse_entered v q S s l H =
       let a = admitted b y ks check limit ε v in
@@ -183,14 +182,14 @@ module _ (m : EndsBy) (how : Method) (b : Basis) (y : Float) (ks : List Float) (
   inverse_off_only = go (first (inverse_uses b y ks check limit ε)) refl
     where
       go : (v : Verdict) → first (inverse_uses b y ks check limit ε) ≡ v → IfOff (Pass × Quiet × (Premise → Nowhere)) (inverted v here)
-      go Passed e = let a = admitted b y ks check limit ε e
+      go (Ok _) e = let a = admitted b y ks check limit ε e
           in with_pass Pass Quiet (Premise → Nowhere) here e
           (off_only (rule_of how) (lawful_of how) rule.ends rule.made (segment_of b ks) k y ε limit some (fits a) (numbers a))
-      go (Failed r) e = tt
+      go (Err r) e = tt
 
   -- and everywhere there
   pub inverse_off_where : Pass → Quiet → Nowhere
-      → (n : ℕ) × (inverse_by m how b y ks check limit ε ≡ OffCurve n)
+      → (n : ℕ) × (inverse_by m how b y ks check limit ε ≡ Err (OffCurve n))
   unfolding inverse_by
   inverse_off_where v q N =
       let a = admitted b y ks check limit ε v in
@@ -207,7 +206,7 @@ module _ (m : EndsBy) (how : Method) (b : Basis) (y : Float) (ks : List Float) (
     pub enclosed : AtPlace (λ p. Enclosed rule.ends rule.made (segment_of b ks) k y ε limit p.ground p) r
     pub ground : AtPlace (λ p. GroundSays rule.ends rule.made (segment_of b ks) k y ε limit p.ground p) r
     pub off_only : IfOff (Pass × Quiet × (Premise → Nowhere)) r
-    pub off_where : Pass → Quiet → Nowhere → (n : ℕ) × (r ≡ OffCurve n)
+    pub off_where : Pass → Quiet → Nowhere → (n : ℕ) × (r ≡ Err (OffCurve n))
 
   pub reply_promised : (r : Inversion) → r ≡ inverse_by m how b y ks check limit ε → Promised r
   reply_promised r e =

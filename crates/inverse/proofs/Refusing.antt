@@ -1,4 +1,6 @@
 -- Which refusal the inversion of a curve gives, and when it says that the knots turn back. Assumes nothing.
+use Rattle.inverse_segment.specs.declared.Miss.TheVariants.{Refused}
+use Rattle.std.specs.Prelude.{Err}
 use mathlib.Core.Path.{◌≡◌, refl, sym, subst}
 use mathlib.Core.Bool.{Bool, true, ◌&&◌}
 use mathlib.Core.List.{List, ◌∷◌}
@@ -10,14 +12,12 @@ use lib.Ieee.Bits.{is_true}
 use lib.Ieee.Fits.{and_l, and_r}
 use Rattle.error.specs.declared.Refusal.{Refusal}
 use Rattle.error.specs.declared.Refusal.TheVariants.{TurnsBack}
-use Rattle.error.specs.declared.Verdict.TheVariants.{Failed}
 use Rattle.error.specs.Refusals.{Uses, rows, first_of, first}
 use Rattle.error.proofs.First.{through, after, goes_past, None, none_pass, First, first_sound, first_complete, first_applies}
 use Rattle.basis.specs.declared.Basis.{Basis}
 use Rattle.basis.specs.Basis.{segments_of}
 use Rattle.doubles.proofs.Tests.{branch}
 use Rattle.spline.specs.Segment.{segment_of}
-use Rattle.inverse_segment.specs.declared.Inversion.TheVariants.{Refused}
 use Rattle.inverse_segment.proofs.Verdicts.{Past, answered_past, refused_by}
 use Rattle.inverse_segment.specs.declared.Method.{Method}
 use Rattle.inverse_segment.specs.Method.{rule_of}
@@ -50,7 +50,7 @@ module _ (m : EndsBy) (how : Method) (b : Basis) (y : Float) (ks : List Float) (
 
   -- ---- by a row
   -- only where that row applies and none before it
-  pub inverse_refused_only : (r : Refusal) → inverse_by m how b y ks check limit ε ≡ Refused r → First (inverse_uses b y ks check limit ε) rows r
+  pub inverse_refused_only : (r : Refusal) → inverse_by m how b y ks check limit ε ≡ Err (Refused r) → First (inverse_uses b y ks check limit ε) rows r
   unfolding inverse_by
   inverse_refused_only r e =
       first_sound rows uses r (refused_by (first uses)
@@ -58,13 +58,13 @@ module _ (m : EndsBy) (how : Method) (b : Basis) (y : Float) (ks : List Float) (
       (segments_of b (length ks)) y ε limit) r located_past e)
 
   -- and everywhere there
-  pub inverse_refused_where : (r : Refusal) → First (inverse_uses b y ks check limit ε) rows r → inverse_by m how b y ks check limit ε ≡ Refused r
+  pub inverse_refused_where : (r : Refusal) → First (inverse_uses b y ks check limit ε) rows r → inverse_by m how b y ks check limit ε ≡ Err (Refused r)
   unfolding inverse_by
   inverse_refused_where r f = rw (first_complete rows uses r f)
 
   -- ---- refusal 10
   -- only where the order check is wanted, and with the first knot whose step to the next goes against the direction
-  pub inverse_turns_back : (i : ℕ) → inverse_by m how b y ks check limit ε ≡ Refused (TurnsBack i)
+  pub inverse_turns_back : (i : ℕ) → inverse_by m how b y ks check limit ε ≡ Err (Refused (TurnsBack i))
       → T check × AgainstAt ks i × ((j : ℕ) → AgainstAt ks j → i ≤ j)
   inverse_turns_back i e =
       let p = first_applies uses rows (TurnsBack i) (inverse_refused_only (TurnsBack i) e) in
@@ -77,11 +77,11 @@ module _ (m : EndsBy) (how : Method) (b : Basis) (y : Float) (ks : List Float) (
 
   -- and everywhere there where no earlier row applies
   pub inverse_turns_back_where : None earlier (inverse_uses b y ks check limit ε) → T check → (i : ℕ) → AgainstAt ks i
-      → inverse_by m how b y ks check limit ε ≡ Refused (TurnsBack (turning_knot ks))
+      → inverse_by m how b y ks check limit ε ≡ Err (Refused (TurnsBack (turning_knot ks)))
   unfolding inverse_by
   inverse_turns_back_where n c i a =
       let later : List ℕ = after 10 rows in
       let q : (check && turns_back ks) ≡ true = rw (is_true check c, is_true (turns_back ks) (turns_back_where ks i a)) in
-      let s : first_of (10 ∷ later) uses ≡ Failed (TurnsBack (turning_knot ks)) = simp q in
-      let v : first uses ≡ Failed (TurnsBack (turning_knot ks)) = sym (goes_past earlier (10 ∷ later) uses (sym (none_pass earlier uses n)) refl (sym s)) in
+      let s : first_of (10 ∷ later) uses ≡ Err (TurnsBack (turning_knot ks)) = simp q in
+      let v : first uses ≡ Err (TurnsBack (turning_knot ks)) = sym (goes_past earlier (10 ∷ later) uses (sym (none_pass earlier uses n)) refl (sym s)) in
       rw v

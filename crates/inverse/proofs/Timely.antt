@@ -1,6 +1,7 @@
 -- The call by the steady method ends in time: where N rounds are enough for the precision and the limit is above N, the ground `spent` is never told, and
 -- whatever
 -- the limit, the count is bounded as if it were N. Assumes nothing.
+use Rattle.inverse_segment.specs.Inversion.{Inversion}
 use mathlib.Core.List.{List}
 use mathlib.Core.Bool.{Bool}
 use Prim.Native.Nat.{ℕ, ◌+◌, ◌≤◌, ◌<◌}
@@ -11,7 +12,6 @@ use lib.Ieee.{Float}
 use Rattle.basis.specs.declared.Basis.{Basis}
 use Rattle.basis.specs.Basis.{segments_of}
 use Rattle.spline.specs.Segment.{segment_of}
-use Rattle.inverse_segment.specs.declared.Inversion.{Inversion}
 use Rattle.inverse_segment.specs.Answer.{count_told}
 use Rattle.inverse_search.specs.Bound.{bound_of}
 use Rattle.inverse_segment.specs.declared.Method.TheVariants.{Steady}

@@ -1,8 +1,8 @@
 -- The definitions' results as the code has them: a count stands for each list of evaluations. Definitions only.
+use Rattle.inverse_segment.specs.Inversion.{Inversion}
 use Rattle.std.specs.Prelude.{◌≡◌, List, Bool, ℕ, length, Float}
 use Rattle.basis.specs.declared.Basis.{Basis}
 use Rattle.spline.specs.Segment.{segment_of}
-use Rattle.inverse_segment.specs.declared.Inversion.{Inversion}
 use Rattle.inverse_segment.specs.Evaluations.{Evaluations}
 use Rattle.inverse_segment.specs.declared.Method.{Method}
 use Rattle.inverse_segment.specs.Method.{rule_of}

@@ -1,5 +1,6 @@
 -- The inversion of a curve that no row refuses: g s is its segment s, of k; e is what the end rule goes by,
 -- and ev the evaluations made for that, none where it goes by knots. Definitions only.
+use Rattle.inverse_segment.specs.Inversion.{Inversion}
 use Rattle.std.specs.Prelude.{cond, ℕ, ◌-◌, Float}
 use Rattle.std.specs.Float.{binary64}
 use Rattle.std.specs.Float.Ieee.{add, mul, div}
@@ -7,7 +8,6 @@ use Rattle.doubles.specs.Numbers.{nought, one}
 use Rattle.doubles.specs.Whole.{double}
 use Rattle.inverse_segment.specs.declared.Ground.{Ground}
 use Rattle.inverse_segment.specs.declared.Ground.TheVariants.{End}
-use Rattle.inverse_segment.specs.declared.Inversion.{Inversion}
 use Rattle.inverse_segment.specs.Evaluations.{Evaluations}
 use Rattle.inverse_segment.specs.Segment.{placed, evaluations_of}
 use Rattle.inverse_segment.specs.Answer.{answered, alone}

@@ -1,11 +1,11 @@
 -- The call that inverts a curve: what it refuses, and what it answers. Definitions only.
+use Rattle.inverse_segment.specs.Inversion.{Inversion}
 use Rattle.std.specs.Prelude.{List, [], ◌∷◌, ◌++◌, Bool, ℕ, ◌+◌, length, Float}
 use Rattle.error.specs.Refusals.{Uses, first}
 use Rattle.basis.specs.declared.Basis.{Basis}
 use Rattle.basis.specs.Basis.{segments_of}
 use Rattle.spline.specs.Segment.{segment_of}
 use Rattle.checks.specs.Checks.{curve_length, bad_knot, asked}
-use Rattle.inverse_segment.specs.declared.Inversion.{Inversion}
 use Rattle.inverse_segment.specs.Evaluations.{Evaluations}
 use Rattle.inverse_segment.specs.Answer.{inverted, unless_refused, default_precision}
 use Rattle.inverse_segment.specs.declared.Method.{Method}

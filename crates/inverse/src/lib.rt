@@ -14,11 +14,10 @@ ghost use Rattle.inverse.specs.Inverse.{inverse_by, inverse_of, steady_of, most_
 ghost use Rattle.inverse.specs.Contract.{EndedIs, SearchedIs, LocatedIs};
 
 use basis::Basis;
-use error::Verdict;
 use inverse_order::EndsBy;
 use inverse_search::SearchResult;
 use inverse_segment::{
-    DEFAULT_LIMIT, DEFAULT_PRECISION, Ground, Inversion, Method, Place, STEADY_LIMIT,
+    DEFAULT_LIMIT, DEFAULT_PRECISION, Ground, Method, Miss, Place, STEADY_LIMIT,
 };
 
 pub mod refusals;
@@ -93,10 +92,10 @@ pub fn curve_ends(b: Basis, knots: &[f64], k: usize) -> Ends
 }
 
 // The end rule's answer at a local place of segment s; n evaluations were made.
-fn end_place(s: usize, x: f64, n: u32) -> Inversion
+fn end_place(s: usize, x: f64, n: u32) -> Result<Place, Miss>
     ensures { EndedIs n s x result }
 {
-    Inversion::At(Place {
+    Ok(Place {
         parameter: x,
         ground: Ground::End,
         segment: s,
@@ -117,6 +116,7 @@ fn parameter(k: usize, s: usize, x: f64) -> f64
 }
 
 // The search's answer, with the parameter of its place on the whole curve; n evaluations have been made before.
+// Off the curve by `let .. else`: docs/PROMISES.md promises this form here.
 pub fn searched(
     how: Method,
     b: Basis,
@@ -127,7 +127,7 @@ pub fn searched(
     rising: bool,
     k: usize,
     n: u32,
-) -> Inversion
+) -> Result<Place, Miss>
     requires segments { k ≡ segments_of b (length knots.now) }
     requires enough { 4 ≤ length knots.now }
     requires most { length knots.now ≤ most_knots }
@@ -138,9 +138,9 @@ pub fn searched(
 {
     let a = inverse_search::find(how, b, knots, y, precision, limit, rising, k, n);
     let SearchResult::Entered(s, e) = a else {
-        return Inversion::OffCurve(inverse_search::count_of(a) as usize);
+        return Err(Miss::OffCurve(inverse_search::count_of(a) as usize));
     };
-    Inversion::At(inverse_segment::place_of(parameter(k, s, e.local), s, e))
+    Ok(inverse_segment::place_of(parameter(k, s, e.local), s, e))
 }
 
 // The end rule, then the search; n evaluations have been made for the rule.
@@ -154,7 +154,7 @@ fn located(
     limit: u16,
     precision: f64,
     k: usize,
-) -> Inversion
+) -> Result<Place, Miss>
     requires segments { k ≡ segments_of b (length knots.now) }
     requires enough { 4 ≤ length knots.now }
     requires most { length knots.now ≤ most_knots }
@@ -205,7 +205,7 @@ fn locate(
     knots: &[f64],
     limit: u16,
     precision: f64,
-) -> Inversion
+) -> Result<Place, Miss>
     requires enough { 4 ≤ length knots.now }
     requires most { length knots.now ≤ most_knots }
     requires number { is_nan y ≡ false }
@@ -229,18 +229,13 @@ fn locate(
 }
 
 // The place of y on the curve, by these options; where they ask for the order check, knots that turn back are refused.
-pub fn spline_inverse_by(o: Options, b: Basis, y: f64, knots: &[f64]) -> Inversion
+pub fn spline_inverse_by(o: Options, b: Basis, y: f64, knots: &[f64]) -> Result<Place, Miss>
     ensures { result ≡ inverse_by o.ends o.method b y knots.now o.check o.limit o.precision }
 {
-    let v = refusals::verdict(b, y, knots, o.check, o.limit, o.precision);
-    match v {
-        Verdict::Failed(r) => Inversion::Refused(r),
-        Verdict::Passed => {
-            let ends = o.ends;
-            let method = o.method;
-            locate(ends, method, b, y, knots, o.limit, o.precision)
-        }
-    }
+    refusals::verdict(b, y, knots, o.check, o.limit, o.precision)?;
+    let ends = o.ends;
+    let method = o.method;
+    locate(ends, method, b, y, knots, o.limit, o.precision)
 }
 
 // The place of y on the curve; with `check`, knots that turn back are refused.
@@ -251,7 +246,7 @@ pub fn spline_inverse_with(
     check: bool,
     limit: u16,
     precision: f64,
-) -> Inversion
+) -> Result<Place, Miss>
     ensures { result ≡ inverse_of b y knots.now check limit precision }
 {
     let o = Options {
@@ -265,14 +260,15 @@ pub fn spline_inverse_with(
 }
 
 // The same with limit 32 and precision 1e-10.
-pub fn spline_inverse(b: Basis, y: f64, knots: &[f64], check: bool) -> Inversion
+pub fn spline_inverse(b: Basis, y: f64, knots: &[f64], check: bool) -> Result<Place, Miss>
     ensures { result ≡ inverse_of b y knots.now check default_limit default_precision }
 {
     spline_inverse_with(b, y, knots, check, DEFAULT_LIMIT, DEFAULT_PRECISION)
 }
 
 // By the knots and by the steady method, with limit 64 and precision 1e-10: never spent.
-pub fn spline_inverse_steady(b: Basis, y: f64, knots: &[f64], check: bool) -> Inversion
+// A call by a name of its own: docs/CALLS.md names it, as it does the others with defaults.
+pub fn spline_inverse_steady(b: Basis, y: f64, knots: &[f64], check: bool) -> Result<Place, Miss>
     ensures { result ≡ steady_of b y knots.now check }
 {
     let o = Options {

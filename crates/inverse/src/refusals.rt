@@ -4,19 +4,20 @@ ghost use Rattle.error.specs.Refusals.{first};
 ghost use Rattle.inverse.specs.Inverse.{inverse_uses};
 
 use basis::Basis;
-use error::Verdict;
+use error::Refusal;
 
 // The refusals of an inversion, in the order of the table.
-pub fn verdict(b: Basis, y: f64, knots: &[f64], check: bool, limit: u16, precision: f64) -> Verdict
+pub fn verdict(
+    b: Basis,
+    y: f64,
+    knots: &[f64],
+    check: bool,
+    limit: u16,
+    precision: f64,
+) -> Result<(), Refusal>
     ensures { result ≡ first (inverse_uses b y knots.now check limit precision) }
 {
-    let l = checks::curve_length(b, knots.len());
-    let Verdict::Passed = l else {
-        return l;
-    };
-    let a = checks::asked(y, limit, precision);
-    let Verdict::Passed = a else {
-        return a;
-    };
+    checks::curve_length(b, knots.len())?;
+    checks::asked(y, limit, precision)?;
     inverse_order::knots_verdict(knots, check)
 }

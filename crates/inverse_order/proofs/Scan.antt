@@ -2,10 +2,11 @@
 use mathlib.Core.Path.{◌≡◌, refl, sym, ap, ◌∙◌}
 use mathlib.Core.Bool.{Bool, true, false, not, ◌&&◌, and_assoc, and-true, not-not}
 use mathlib.Core.List.{List, [], ◌∷◌}
-use Prim.Native.Nat.{ℕ, suc, ◌+◌, ◌<◌}
+use Prim.Native.Nat.{ℕ, suc, ◌+◌, ◌<◌, ◌≤◌}
 use native.Mathlib.Omega.{arith}
 use lib.Dec.{T, not_T}
-use lib.ListN.{length, get_or, drop, drop_of_length-le}
+use mathlib.Core.Logic.{◌⊎◌, inl, inr}
+use lib.ListN.{length, get_or, drop, length-drop}
 use lib.Seq.{drop-cons}
 use lib.Ieee.{Float, nan, inf, fin, lt, le, eq, neg, is_nan}
 use lib.Ieee.Fits.{and_l, and_r, and_i}
@@ -19,32 +20,32 @@ use Rattle.inverse_order.proofs.Along.{before_not, not_before}
 pub next : (ks : List Float) (i : ℕ) → i < length ks → drop i ks ≡ get_or ks i nan ∷ drop (i + 1) ks
 next ks i h = let q : suc i ≡ i + 1 = omega arith in drop-cons ks i nan h ∙ ap (λ (n : ℕ). get_or ks i nan ∷ drop n ks) q
 
-kept_pair : (rising : Bool) (ks : List Float) (i : ℕ) → i + 1 < length ks
-    → kept rising (drop i ks) ≡ (follows rising (get_or ks i nan) (get_or ks (i + 1) nan) && kept rising (drop (i + 1) ks))
+-- one more pair, where ys is what comes after the first of xs
+pub pair_more : (rising : Bool) {xs ys xs' ys' : List Float} {x z : Float} (good t : Bool) {whole : Bool} → (good && kept rising xs) ≡ whole → ys ≡ drop 1 xs
+    → xs ≡ x ∷ xs' → ys ≡ z ∷ ys' → t ≡ follows rising x z
+    → (((good && t) && kept rising xs') ≡ whole) × (ys' ≡ drop 1 xs')
 unfolding kept
-kept_pair rising ks i h =
-    let e = next ks i (omega arith) in
-    let f = next ks (i + 1) h in
-    ap (kept rising) (e ∙ ap (λ (l : List Float). get_or ks i nan ∷ l) f)
-    ∙ ap (λ (l : List Float). follows rising (get_or ks i nan) (get_or ks (i + 1) nan) && kept rising l) (sym f)
+pair_more rising {xs} {ys} {xs'} {ys'} {x} {z} good t v h e g i =
+    let f : xs' ≡ z ∷ ys' = sym (ap (λ (l : List Float). drop 1 l) e) ∙ sym h ∙ g in
+    let k : kept rising xs ≡ (follows rising x z && kept rising (z ∷ ys')) = ap (kept rising) (e ∙ ap (λ (l : List Float). x ∷ l) f) in
+    let m : (t && kept rising xs') ≡ kept rising xs =
+    ap (λ (b : Bool). b && kept rising xs') i ∙ ap (λ (l : List Float). follows rising x z && kept rising l) f ∙ sym k in
+    (and_assoc good t (kept rising xs') ∙ ap (λ (b : Bool). good && b) m ∙ v, sym (ap (λ (l : List Float). drop 1 l) f))
 
--- one more pair
-pub scanned : (rising : Bool) (ks : List Float) (i : ℕ) (good t : Bool) → i + 1 < length ks → (good && kept rising (drop i ks)) ≡ kept rising (drop 1 ks)
-    → t ≡ follows rising (get_or ks i nan) (get_or ks (i + 1) nan)
-    → ((good && t) && kept rising (drop (i + 1) ks)) ≡ kept rising (drop 1 ks)
-scanned rising ks i good t h v e =
-    and_assoc good t (kept rising (drop (i + 1) ks)) ∙ ap (λ (z : Bool). good && (z && kept rising (drop (i + 1) ks))) e
-    ∙ ap (λ (z : Bool). good && z) (sym (kept_pair rising ks i h)) ∙ v
-
-last_kept : (rising : Bool) (ks : List Float) (i : ℕ) → i + 1 ≡ length ks → kept rising (drop i ks) ≡ true
+short_kept : (rising : Bool) (xs : List Float) → length xs ≤ 1 → kept rising xs ≡ true
 unfolding kept
-last_kept rising ks i h =
-    ap (kept rising) (next ks i (omega arith) ∙ ap (λ (l : List Float). get_or ks i nan ∷ l) (drop_of_length-le ks {i = i + 1} (omega arith)))
+short_kept rising [] h = refl
+short_kept rising (x ∷ []) h = refl
+short_kept rising (x ∷ (z ∷ r)) h = absurd (omega arith)
 
 -- no pair is left
-pub scanned_all : (rising : Bool) (ks : List Float) (i : ℕ) (good : Bool) → i + 1 ≡ length ks → (good && kept rising (drop i ks)) ≡ kept rising (drop 1 ks)
-    → good ≡ kept rising (drop 1 ks)
-scanned_all rising ks i good h v = sym (and-true good) ∙ ap (λ (z : Bool). good && z) (sym (last_kept rising ks i h)) ∙ v
+pub pairs_done : (rising : Bool) (xs : List Float) {ys : List Float} (good : Bool) {whole : Bool} → (good && kept rising xs) ≡ whole → ys ≡ drop 1 xs
+    → (length xs ≡ 0) ⊎ (length ys ≡ 0) → good ≡ whole
+pairs_done rising xs {ys} good v h e = sym (and-true good) ∙ ap (λ (b : Bool). good && b) (sym (short_kept rising xs (few e))) ∙ v
+  where
+    few : (length xs ≡ 0) ⊎ (length ys ≡ 0) → length xs ≤ 1
+    few (inl a) = omega (arith, a)
+    few (inr b) = omega (arith, b, ap length h, length-drop 1 xs)
 
 -- ---- bounds along a kept list
 abbrev All : (Float → Type 0) → List Float → Type 0

@@ -1,4 +1,5 @@
 -- The verdict of refusals 4 and 10, by the tests as the code makes them. Assumes nothing.
+use Rattle.std.specs.Prelude.{Ok, Err}
 use mathlib.Core.Path.{◌≡◌, refl, sym, ap, ◌∙◌}
 use mathlib.Core.Bool.{Bool, true, false, not, ◌&&◌, and-false}
 use mathlib.Core.List.{List, [], ◌∷◌}
@@ -8,9 +9,7 @@ use lib.ListN.{length, get_or, drop}
 use lib.Ieee.{Float, nan}
 use Rattle.error.specs.declared.Refusal.{Refusal}
 use Rattle.error.specs.declared.Refusal.TheVariants.{BadKnot, TurnsBack}
-use Rattle.error.specs.declared.Verdict.{Verdict}
-use Rattle.error.specs.declared.Verdict.TheVariants.{Passed, Failed}
-use Rattle.error.specs.Refusals.{Uses, first}
+use Rattle.error.specs.Refusals.{Uses, first, Verdict}
 use Rattle.error.proofs.First.{never}
 use Rattle.doubles.proofs.Tests.{holds, fails}
 use Rattle.checks.specs.Checks.{in_range, all_in_range}
@@ -41,10 +40,10 @@ abbrev knot_rows : ℕ → ℕ → Bool → Bool → Bool → Uses
 knot_rows p q a t check = (BadKnot p, not a) ∷ (TurnsBack q, check && t) ∷ []
 
 module _ (p q : ℕ) (a t check : Bool) where
-  pub knots_sound : (a && not t) ≡ true → Passed ≡ first (knot_rows p q a t check)
+  pub knots_sound : (a && not t) ≡ true → Ok tt ≡ first (knot_rows p q a t check)
   knots_sound = go a t check
     where
-      go : (a t check : Bool) → (a && not t) ≡ true → Passed ≡ first (knot_rows p q a t check)
+      go : (a t check : Bool) → (a && not t) ≡ true → Ok tt ≡ first (knot_rows p q a t check)
       go true false true e = refl
       go true false false e = refl
       go true true check e = absurd (holds e)
@@ -55,18 +54,18 @@ module _ (p q : ℕ) (a t check : Bool) where
     pub knots_unchecked : check ≡ false → k ≡ first (knot_rows p q a t check)
     knots_unchecked c = rw c e
 
-    pub knots_stop : {r : Refusal} → k ≡ Failed r → k ≡ first (knot_rows p q a t check)
+    pub knots_stop : {r : Refusal} → k ≡ Err r → k ≡ first (knot_rows p q a t check)
     knots_stop {r} f = f ∙ go a (sym f ∙ e)
       where
-        go : (a : Bool) → Failed r ≡ first ((BadKnot p, not a) ∷ []) → Failed r ≡ first (knot_rows p q a t check)
+        go : (a : Bool) → Err r ≡ first ((BadKnot p, not a) ∷ []) → Err r ≡ first (knot_rows p q a t check)
         go true h = never (cc)
         go false h = h
 
-    pub knots_turn : {r : Refusal} → k ≡ Passed → check ≡ true → (a && not t) ≡ false → r ≡ TurnsBack q → Failed r ≡ first (knot_rows p q a t check)
-    knots_turn {r} f c n h = ap Failed h ∙ go a t check (sym f ∙ e) c n
+    pub knots_turn : {r : Refusal} → k ≡ Ok tt → check ≡ true → (a && not t) ≡ false → r ≡ TurnsBack q → Err r ≡ first (knot_rows p q a t check)
+    knots_turn {r} f c n h = ap Err h ∙ go a t check (sym f ∙ e) c n
       where
-        go : (a t check : Bool) → Passed ≡ first ((BadKnot p, not a) ∷ []) → check ≡ true → (a && not t) ≡ false
-            → Failed (TurnsBack q) ≡ first (knot_rows p q a t check)
+        go : (a t check : Bool) → Ok tt ≡ first ((BadKnot p, not a) ∷ []) → check ≡ true → (a && not t) ≡ false
+            → Err (TurnsBack q) ≡ first (knot_rows p q a t check)
         go true true true f c n = refl
         go true true false f c n = absurd (holds c)
         go true false check f c n = absurd (fails n)

@@ -110,23 +110,14 @@ pub fn tries(
     ensures { TriesIs how b knots.now y precision limit (end - first) first count result }
 {
     let mut made = count;
-    let mut s = first;
-    while s < end {
+    for s in first..end {
         let t = try_at(how, b, knots, s, y, precision, limit, made);
         if let Trial::Inside(e) = t {
             return SearchResult::Entered(s, e);
         }
         made += 2;
-        s += 1;
     }
     SearchResult::OffCurve(made)
-}
-
-// One less, but not below 0.
-fn one_less(n: usize) -> usize
-    ensures { result ≡ n - 1 }
-{
-    if 0 < n { n - 1 } else { 0 }
 }
 
 // The halving ended at `left` of k segments without one that encloses the target: those beside it are tried once more.
@@ -149,8 +140,8 @@ pub fn last_tries(
     requires count { count ≤ 90000 }
     ensures { LastIs how b knots.now y precision limit k left count result }
 {
-    let first = one_less(left);
-    let end = doubles::whole::lesser(first + 2, k);
+    let first = left.saturating_sub(1);
+    let end = (first + 2).min(k);
     tries(how, b, knots, y, precision, limit, first, end, count)
 }
 

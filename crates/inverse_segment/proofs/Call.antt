@@ -1,4 +1,7 @@
 -- What one segment's call owes on every input, from what the inversion of a segment owes. Assumes nothing.
+use Rattle.inverse_segment.specs.Inversion.{Inversion}
+use Rattle.inverse_segment.specs.declared.Miss.TheVariants.{Refused, OffCurve}
+use Rattle.std.specs.Prelude.{Ok, Err}
 use mathlib.Core.Path.{◌≡◌, refl, sym, ap, subst}
 use mathlib.Core.Bool.{not, cond}
 use mathlib.Core.List.{List, []}
@@ -8,9 +11,7 @@ use native.Mathlib.Omega.{arith}
 use lib.Dec.{T, T_not, ltb, eqb}
 use lib.ListN.{length}
 use lib.Ieee.{Float, lt, is_nan}
-use Rattle.error.specs.declared.Verdict.{Verdict}
-use Rattle.error.specs.declared.Verdict.TheVariants.{Passed, Failed}
-use Rattle.error.specs.Refusals.{first}
+use Rattle.error.specs.Refusals.{first, Verdict}
 use Rattle.basis.specs.declared.Basis.{Basis}
 use Rattle.basis.specs.Basis.{step_of}
 use Rattle.doubles.specs.Numbers.{nought, one}
@@ -20,8 +21,6 @@ use Rattle.doubles.proofs.Units.{nought_le}
 use Rattle.spline.specs.Segment.{segment_of}
 use Rattle.checks.specs.Checks.{all_in_range, precise}
 use Rattle.spline.proofs.Finite.{knots_within, segment_finite}
-use Rattle.inverse_segment.specs.declared.Inversion.{Inversion}
-use Rattle.inverse_segment.specs.declared.Inversion.TheVariants.{Refused, OffCurve, At}
 use Rattle.inverse_segment.specs.Agreed.{Agreed}
 use Rattle.inverse_segment.specs.Round.{Rule}
 use Rattle.inverse_segment.specs.Segment.{encloses, Entry, outside, inside, enter, evaluations_of, Outcome, off, placed, outcome_of}
@@ -51,9 +50,9 @@ segment_numbers b ks s y good long n =
 -- ---- what the answer owes where no row applies
 module _ (f : Float → Float) (y ε : Float) (limit : ℕ) where
   abbrev pub Owed : Inversion → Type 0
-  Owed (Refused r) = ⊥
-  Owed (OffCurve n) = T (not (encloses (f nought) (f one) y)) × (n ≡ 2)
-  Owed (At p) =
+  Owed (Err (Refused r)) = ⊥
+  Owed (Err (OffCurve n)) = T (not (encloses (f nought) (f one) y)) × (n ≡ 2)
+  Owed (Ok p) =
       T (encloses (f nought) (f one) y) × Sound f y ε (lt (f nought) (f one)) limit 2 p.ground p.local p.lower p.upper p.count
       × (p.segment ≡ 0) × (p.parameter ≡ p.local)
 
@@ -62,24 +61,24 @@ module _ (f : Float → Float) (y ε : Float) (limit : ℕ) where
   owed _ (hit h r e) = (h, r, e, refl)
 
   owed_count : (a : Inversion) → Owed a → count_told a ≤ limit + 2
-  owed_count (Refused r) h = absurd h
-  owed_count (OffCurve n) h = omega arith
-  owed_count (At p) h = omega (arith, h.1.count)
+  owed_count (Err (Refused r)) h = absurd h
+  owed_count (Err (OffCurve n)) h = omega arith
+  owed_count (Ok p) h = omega (arith, h.1.count)
 
   owed_number : (a : Inversion) → Owed a → number_told a ≡ cond (encloses (f nought) (f one) y) 0 11
-  owed_number (Refused r) h = absurd h
-  owed_number (OffCurve n) h =
+  owed_number (Err (Refused r)) h = absurd h
+  owed_number (Err (OffCurve n)) h =
       branch (λ (k : ℕ). 11 ≡ k) (encloses (f nought) (f one) y) (λ t. absurd (T_not (encloses (f nought) (f one) y) h.0 t)) (λ _. refl)
-  owed_number (At p) h = branch (λ (k : ℕ). 0 ≡ k) (encloses (f nought) (f one) y) (λ _. refl) (λ t. absurd (T_not (encloses (f nought) (f one) y) t h.0))
+  owed_number (Ok p) h = branch (λ (k : ℕ). 0 ≡ k) (encloses (f nought) (f one) y) (λ _. refl) (λ t. absurd (T_not (encloses (f nought) (f one) y) t h.0))
 
-count_any : (limit : ℕ) (v : Verdict) (a : Inversion) → (v ≡ Passed → count_told a ≤ limit + 2) → count_told (inverted v a) ≤ limit + 2
-count_any limit Passed a h = h refl
-count_any limit (Failed r) a h = omega arith
+count_any : (limit : ℕ) (v : Verdict) (a : Inversion) → (v ≡ Ok tt → count_told a ≤ limit + 2) → count_told (inverted v a) ≤ limit + 2
+count_any limit (Ok _) a h = h refl
+count_any limit (Err r) a h = omega arith
 
 listed : (v : Verdict) (o : Outcome) → count_told (inverted v (answered alone o)) ≡ length (unless_refused v (evaluations_of o))
-listed Passed (off ev) = refl
-listed Passed (placed p) = refl
-listed (Failed r) o = refl
+listed (Ok _) (off ev) = refl
+listed (Ok _) (placed p) = refl
+listed (Err r) o = refl
 
 seen_is : (e : Entry) → evaluations_of (outcome_of e) ≡ seen_in e
 seen_is (outside v ev) = refl
@@ -87,7 +86,7 @@ seen_is (inside p) = refl
 
 module _ (R : Rule) (lawful : Lawful R) (b : Basis) (y : Float) (cv : List Float) (limit : ℕ) (ε : Float) where
   abbrev Passed-all : Type 0
-  Passed-all = first (inverse_segment_uses y cv limit ε) ≡ Passed
+  Passed-all = first (inverse_segment_uses y cv limit ε) ≡ Ok tt
 
   said : Passed-all → Tells (segment_of b cv 0) 0 y ε limit [] (enter R (segment_of b cv 0) 0 y ε limit [])
   said e =
@@ -120,7 +119,7 @@ module _ (R : Rule) (lawful : Lawful R) (b : Basis) (y : Float) (cv : List Float
   pub inverse_segment_eleven : number_told (inverse_segment_by R b y cv limit ε) ≡ 11 → Passed-all
   unfolding inverse_segment_by
   inverse_segment_eleven =
-      let P : Verdict → Type 0 = λ v. number_told (inverted v (answered alone (outcome_of (enter R (segment_of b cv 0) 0 y ε limit [])))) ≡ 11 → v ≡ Passed in
+      let P : Verdict → Type 0 = λ v. number_told (inverted v (answered alone (outcome_of (enter R (segment_of b cv 0) 0 y ε limit [])))) ≡ 11 → v ≡ Ok tt in
       branch P (ltb (length cv) 4) (λ _ e. absurd (omega arith))
       (λ _. branch P (ltb 4 (length cv)) (λ _ e. absurd (omega arith))
       (λ _. branch P (is_nan y) (λ _ e. absurd (omega arith))
@@ -143,7 +142,7 @@ module _ (R : Rule) (lawful : Lawful R) (b : Basis) (y : Float) (cv : List Float
       go : (v : Verdict) → Agreed (segment_of b cv) h (unless_refused v (evaluations_of (outcome_of (enter R (segment_of b cv 0) 0 y ε limit []))))
           → inverted v (answered alone (outcome_of (enter R (segment_of b cv 0) 0 y ε limit []))) ≡ inverted v
           (answered alone (outcome_of (enter R (h 0) 0 y ε limit [])))
-      go Passed a =
+      go (Ok _) a =
           let e = enter R (segment_of b cv 0) 0 y ε limit [] in
           ap (λ (z : Entry). answered alone (outcome_of z)) (enter_same (segment_of b cv) h R 0 y ε limit [] (subst (Agreed (segment_of b cv) h) (seen_is e) a))
-      go (Failed r) a = refl
+      go (Err r) a = refl

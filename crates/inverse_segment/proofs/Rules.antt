@@ -13,7 +13,9 @@ use Rattle.doubles.proofs.Units.{clear, InUnit}
 use Rattle.doubles.proofs.Interpolation.{Inside, lerp_inside}
 use Rattle.inverse_segment.specs.declared.Bracket.{Bracket}
 use Rattle.inverse_segment.specs.declared.State.{State}
+use Rattle.inverse_segment.specs.declared.Side.TheVariants.{Lower}
 use Rattle.inverse_segment.specs.Round.{
+  is_last,
   Weighting,
   halving,
   midpoint,
@@ -56,13 +58,13 @@ module _ (W : Weighting) (keeps : Keeps W) (y : Float) (regula_falsi : Bool) (st
   pub weighed_lower : (weighed W y regula_falsi st).lower ≡ st.bracket.lower
   unfolding weighed
   weighed_lower =
-      branch (λ (b : Bracket). b.lower ≡ st.bracket.lower) (regula_falsi && ltb 0 st.repeats) (λ _. keeps.keeps_lower y (eqb st.side 1) st.bracket)
+      branch (λ (b : Bracket). b.lower ≡ st.bracket.lower) (regula_falsi && ltb 0 st.repeats) (λ _. keeps.keeps_lower y (is_last Lower st.side) st.bracket)
       (λ _. refl)
 
   pub weighed_upper : (weighed W y regula_falsi st).upper ≡ st.bracket.upper
   unfolding weighed
   weighed_upper =
-      branch (λ (b : Bracket). b.upper ≡ st.bracket.upper) (regula_falsi && ltb 0 st.repeats) (λ _. keeps.keeps_upper y (eqb st.side 1) st.bracket)
+      branch (λ (b : Bracket). b.upper ≡ st.bracket.upper) (regula_falsi && ltb 0 st.repeats) (λ _. keeps.keeps_upper y (is_last Lower st.side) st.bracket)
       (λ _. refl)
 
 -- ---- the crate's rule

@@ -1,5 +1,8 @@
 -- The inversion of one segment by the steady method ends in time: where N rounds are enough for the precision and the limit is above N, the ground `spent` is
 -- never told, and whatever the limit, at most N + 2 evaluations are made. Assumes nothing.
+use Rattle.inverse_segment.specs.Inversion.{Inversion}
+use Rattle.inverse_segment.specs.declared.Miss.TheVariants.{Refused, OffCurve}
+use Rattle.std.specs.Prelude.{Ok, Err}
 use mathlib.Core.List.{List, []}
 use mathlib.Core.Bool.{not}
 use Prim.Native.Nat.{ℕ, ◌+◌, ◌≤◌, ◌<◌}
@@ -7,15 +10,11 @@ use native.Mathlib.Omega.{arith}
 use lib.Dec.{T}
 use lib.ListN.{length}
 use lib.Ieee.{Float, lt}
-use Rattle.error.specs.declared.Verdict.{Verdict}
-use Rattle.error.specs.declared.Verdict.TheVariants.{Passed, Failed}
-use Rattle.error.specs.Refusals.{first}
+use Rattle.error.specs.Refusals.{first, Verdict}
 use Rattle.basis.specs.declared.Basis.{Basis}
 use Rattle.doubles.specs.Numbers.{nought, one}
 use Rattle.doubles.proofs.Tests.{branch}
 use Rattle.spline.specs.Segment.{segment_of}
-use Rattle.inverse_segment.specs.declared.Inversion.{Inversion}
-use Rattle.inverse_segment.specs.declared.Inversion.TheVariants.{Refused, OffCurve, At}
 use Rattle.inverse_segment.specs.Evaluations.{Evaluations}
 use Rattle.inverse_segment.specs.Round.{Rule}
 use Rattle.inverse_segment.specs.Rounds.{Arrival}
@@ -41,9 +40,9 @@ module _ (R : Rule) (lawful : Lawful R) (y ε : Float) (limit N : ℕ) (E : Enou
 
 -- ---- one segment's call
 abbrev pub NeverSpent : Inversion → Type 0
-NeverSpent (At p) = T (not (is_spent p.ground))
-NeverSpent (OffCurve n) = Unit
-NeverSpent (Refused r) = Unit
+NeverSpent (Ok p) = T (not (is_spent p.ground))
+NeverSpent (Err (OffCurve n)) = Unit
+NeverSpent (Err (Refused r)) = Unit
 
 module _ (limit : ℕ) where
   -- not spent, where the limit is above N; and at most N + 2 evaluations
@@ -64,5 +63,5 @@ module _ (limit : ℕ) where
     segment_timely = go (first (inverse_segment_uses y cv limit ε))
       where
         go : (w : Verdict) → SegmentWithin N (inverted w (answered alone (outcome_of (enter steady (segment_of b cv 0) 0 y ε limit []))))
-        go Passed = tried
-        go (Failed r) = (λ _. tt, omega arith)
+        go (Ok _) = tried
+        go (Err r) = (λ _. tt, omega arith)

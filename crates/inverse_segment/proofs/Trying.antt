@@ -27,10 +27,6 @@ use Rattle.inverse_segment.specs.Contract.{EnteredIs, ends_of, EnterIs}
 pub ends_are : (w : RowSums) {v0 v1 : Float} → v0 ≡ horner_of w nought → v1 ≡ horner_of w one → record { sums = w; v0 = v0; v1 = v1 } ≡ ends_of w
 ends_are w p q = rw (p, q) refl
 
-pub by_basis : (b d : Basis) (m : List (List Float)) (cv : List Float) {w : RowSums} {r : SegmentEnds} → b ≡ d → m ≡ matrix_of d → w ≡ row_sums_of m cv
-    → r ≡ ends_of w → r ≡ ends_of (row_sums_of (matrix_of b) cv)
-by_basis b d m cv p q e i = i ∙ ap ends_of (e ∙ ap (λ (m : List (List Float)). row_sums_of m cv) (q ∙ ap matrix_of (sym p)))
-
 -- ---- its trial
 module _ (how : Method) (b : Basis) (cv : List Float) (y ε : Float) (limit n : ℕ) {e : SegmentEnds} {h : Bool}
     (ends : e ≡ ends_of (row_sums_of (matrix_of b) cv)) (holds : h ≡ encloses e.v0 e.v1 y) where

@@ -1,18 +1,16 @@
 -- The answer of an inversion, and the call that inverts one segment: what it refuses, and what it answers. Definitions only.
-use Rattle.std.specs.Prelude.{List, [], ◌∷◌, ◌++◌, ℕ, length, Float}
+use Rattle.inverse_segment.specs.Inversion.{Inversion}
+use Rattle.inverse_segment.specs.declared.Miss.TheVariants.{Refused, OffCurve}
+use Rattle.std.specs.Prelude.{List, [], ◌∷◌, ◌++◌, ℕ, length, Float, Ok, Err}
 use Rattle.std.specs.Float.{binary64}
 use Rattle.std.specs.Float.Ieee.{of_bits}
 use Rattle.error.specs.declared.Refusal.TheVariants.{OffCurve as OffCurveRow}
-use Rattle.error.specs.declared.Verdict.{Verdict}
-use Rattle.error.specs.declared.Verdict.TheVariants.{Passed, Failed}
-use Rattle.error.specs.Refusals.{number_of, Uses, first}
+use Rattle.error.specs.Refusals.{number_of, Uses, first, Verdict}
 use Rattle.basis.specs.declared.Basis.{Basis}
 use Rattle.spline.specs.Segment.{segment_of}
 use Rattle.checks.specs.Checks.{segment_length, asked, bad_knot}
 use Rattle.inverse_segment.specs.declared.Ground.{Ground}
 use Rattle.inverse_segment.specs.declared.Place.{Place}
-use Rattle.inverse_segment.specs.declared.Inversion.{Inversion}
-use Rattle.inverse_segment.specs.declared.Inversion.TheVariants.{Refused, OffCurve, At}
 use Rattle.inverse_segment.specs.Evaluations.{Evaluations}
 use Rattle.inverse_segment.specs.Round.{Rule, as_crate}
 use Rattle.inverse_segment.specs.Rounds.{Arrival}
@@ -21,15 +19,15 @@ use Rattle.inverse_segment.specs.Segment.{Outcome, off, placed, evaluations_of, 
 -- ---- what an answer tells
 -- the refusal's number; 0 for a place
 abbrev pub number_told : Inversion → ℕ
-number_told (Refused r) = number_of r
-number_told (OffCurve n) = number_of OffCurveRow
-number_told (At p) = 0
+number_told (Err (Refused r)) = number_of r
+number_told (Err (OffCurve n)) = number_of OffCurveRow
+number_told (Ok p) = 0
 
 -- the count, which a place and refusal 11 have; 0 for the other refusals
 abbrev pub count_told : Inversion → ℕ
-count_told (Refused r) = 0
-count_told (OffCurve n) = n
-count_told (At p) = p.count
+count_told (Err (Refused r)) = 0
+count_told (Err (OffCurve n)) = n
+count_told (Ok p) = p.count
 
 -- the count is the length of the list of evaluations; the parameter is found from the segment and the local place
 abbrev pub place_of : (ℕ → Float → Float) → Arrival → Place
@@ -45,16 +43,16 @@ place_of parameter p =
     }
 
 abbrev pub answered : (ℕ → Float → Float) → Outcome → Inversion
-answered parameter (off ev) = OffCurve (length ev)
-answered parameter (placed p) = At (place_of parameter p)
+answered parameter (off ev) = Err (OffCurve (length ev))
+answered parameter (placed p) = Ok (place_of parameter p)
 
 -- for one segment the parameter is the local place
 abbrev pub alone : ℕ → Float → Float
 alone s x = x
 
 abbrev pub inverted : Verdict → Inversion → Inversion
-inverted Passed a = a
-inverted (Failed r) a = Refused r
+inverted (Ok _) a = a
+inverted (Err r) a = Err (Refused r)
 
 -- ---- the rows of the refusal table that the call uses
 abbrev pub inverse_segment_uses : Float → List Float → ℕ → Float → Uses
@@ -74,8 +72,8 @@ inverse_segment_by R b y cv limit ε =
 
 -- the evaluations that it makes, the latest first: none where it refuses by a row
 abbrev pub unless_refused : Verdict → Evaluations → Evaluations
-unless_refused Passed ev = ev
-unless_refused (Failed r) ev = []
+unless_refused (Ok _) ev = ev
+unless_refused (Err r) ev = []
 
 unfoldable pub segment_evaluations_by : Rule → Basis → Float → List Float → ℕ → Float → Evaluations
 segment_evaluations_by R b y cv limit ε =

@@ -3,6 +3,7 @@ pub mod Agreed
 pub mod Round
 pub mod Rounds
 pub mod Segment
+pub mod Inversion
 pub mod Answer
 pub mod Steady
 pub mod Method

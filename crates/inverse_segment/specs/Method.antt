@@ -1,7 +1,7 @@
 -- The rule of each method, and the steady method's defaults. Definitions only.
+use Rattle.inverse_segment.specs.Inversion.{Inversion}
 use Rattle.std.specs.Prelude.{List, ℕ, Float}
 use Rattle.basis.specs.declared.Basis.{Basis}
-use Rattle.inverse_segment.specs.declared.Inversion.{Inversion}
 use Rattle.inverse_segment.specs.Answer.{inverse_segment_by, default_precision}
 use Rattle.inverse_segment.specs.Round.{Rule, toward, chord, as_crate}
 use Rattle.inverse_segment.specs.declared.Method.{Method}

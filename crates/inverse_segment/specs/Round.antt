@@ -1,5 +1,5 @@
 -- One round of the inversion of a segment. Definitions only.
-use Rattle.std.specs.Prelude.{Bool, true, false, cond, ◌&&◌, ℕ, suc, ◌*◌, ◌/◌, ltb, eqb, Float}
+use Rattle.std.specs.Prelude.{Bool, true, false, cond, ◌&&◌, ℕ, suc, ◌*◌, ◌/◌, ltb, Option, None, Some, Float}
 use Rattle.std.specs.Bool.{beq}
 use Rattle.std.specs.Float.{binary64}
 use Rattle.std.specs.Float.Ieee.{add, sub, mul, div, lt}
@@ -8,6 +8,8 @@ use Rattle.doubles.specs.Lerp.{lerp_of}
 use Rattle.inverse_segment.specs.declared.Ground.{Ground}
 use Rattle.inverse_segment.specs.declared.Ground.TheVariants.{Value, Width}
 use Rattle.inverse_segment.specs.declared.Bracket.{Bracket}
+use Rattle.inverse_segment.specs.declared.Side.{Side}
+use Rattle.inverse_segment.specs.declared.Side.TheVariants.{Lower, Upper}
 use Rattle.inverse_segment.specs.declared.State.{State}
 use Rattle.inverse_segment.specs.Evaluations.{Evaluations, see}
 
@@ -24,6 +26,18 @@ narrow ε b =
 -- the place with the fraction 0.5
 abbrev pub midpoint : Bracket → Float
 midpoint b = lerp_of b.lower b.upper half
+
+-- ---- the end that moved last
+abbrev pub is_last : Side → Option Side → Bool
+is_last e None = false
+is_last Lower (Some Lower) = true
+is_last Lower (Some Upper) = false
+is_last Upper (Some Lower) = false
+is_last Upper (Some Upper) = true
+
+-- how often an end that moves has moved in a row before: one more than is counted, or 0 where the other moved last
+abbrev pub repeats_of : Side → State → ℕ
+repeats_of e st = cond (is_last e st.side) (suc st.repeats) 0
 
 -- ---- the weighting
 -- what it makes of the bracket, given the target and whether the lower end moved last
@@ -48,9 +62,9 @@ toward y false b = record { lower = b.lower; upper = b.upper; v0 = nearer y b.v0
 abbrev pub uses_regula_falsi : ℕ → ℕ → State → Bool
 uses_regula_falsi limit i st = ltb i (3 * limit / 4) && ltb st.repeats 3
 
--- in such a round, with a count above 0, the weighting comes first. Side 1 is the lower end
+-- in such a round, with a count above 0, the weighting comes first
 unfoldable pub weighed : Weighting → Float → Bool → State → Bracket
-weighed W y regula_falsi st = cond (regula_falsi && ltb 0 st.repeats) (W y (eqb st.side 1) st.bracket) st.bracket
+weighed W y regula_falsi st = cond (regula_falsi && ltb 0 st.repeats) (W y (is_last Lower st.side) st.bracket) st.bracket
 
 -- strictly between 0.01 and 0.99; a half stands for any other, and for NaN
 unfoldable pub kept : Float → Float
@@ -87,14 +101,14 @@ unfoldable pub moved : Bool → Bracket → State → Float → Float → State
 moved true b st x v =
     record {
       bracket = record { lower = x; upper = b.upper; v0 = v; v1 = b.v1 };
-      side = 1;
-      repeats = cond (eqb st.side 1) (suc st.repeats) 0;
+      side = Some Lower;
+      repeats = repeats_of Lower st;
     }
 moved false b st x v =
     record {
       bracket = record { lower = b.lower; upper = x; v0 = b.v0; v1 = v };
-      side = 2;
-      repeats = cond (eqb st.side 2) (suc st.repeats) 0;
+      side = Some Upper;
+      repeats = repeats_of Upper st;
     }
 
 -- ---- the round

@@ -1,5 +1,5 @@
 -- The inversion of one segment. Definitions only.
-use Rattle.std.specs.Prelude.{Bool, cond, ◌&&◌, ℕ, Float}
+use Rattle.std.specs.Prelude.{Bool, cond, ◌&&◌, ℕ, None, Float}
 use Rattle.std.specs.Float.{binary64}
 use Rattle.std.specs.Float.Ieee.{sub, mul, lt, le}
 use Rattle.doubles.specs.Numbers.{nought, one, two, magnitude_of}
@@ -24,7 +24,7 @@ opening v0 v1 = record { lower = nought; upper = one; v0 = v0; v1 = v1 }
 
 -- no side has moved, and none was repeated
 abbrev pub start : Bracket → State
-start b = record { bracket = b; side = 0; repeats = 0 }
+start b = record { bracket = b; side = None; repeats = 0 }
 
 -- a segment whose end values v0 and v1 enclose y: local 0, or else local 1, or else the rounds. Rising means v0 < v1
 unfoldable pub entered : Rule → (Float → Float) → ℕ → Float → Float → ℕ → Float → Float → Evaluations → Arrival

@@ -4,7 +4,7 @@ ghost use Rattle.inverse_segment.specs.Round.{halving, toward, weighed, fraction
 ghost use Rattle.inverse_segment.specs.Steady.{inner};
 ghost use Rattle.inverse_segment.specs.Contract.{weighting_of, ChordIs, PacedIs, ChoiceIs};
 
-use crate::{Bracket, Method, NextPlace, State};
+use crate::{Bracket, Method, NextPlace, Side, State};
 
 // The weighting as in the crate: the stored value of the end that moved last is halved. `y` is unused here; the other weighting needs it.
 fn halved(y: f64, lower_moved_last: bool, b: Bracket) -> Bracket
@@ -12,17 +12,13 @@ fn halved(y: f64, lower_moved_last: bool, b: Bracket) -> Bracket
 {
     if lower_moved_last {
         Bracket {
-            lower: b.lower,
-            upper: b.upper,
             v0: b.v0 * 0.5,
-            v1: b.v1,
+            ..b
         }
     } else {
         Bracket {
-            lower: b.lower,
-            upper: b.upper,
-            v0: b.v0,
             v1: b.v1 * 0.5,
+            ..b
         }
     }
 }
@@ -33,17 +29,13 @@ fn toward(y: f64, lower_moved_last: bool, b: Bracket) -> Bracket
 {
     if lower_moved_last {
         Bracket {
-            lower: b.lower,
-            upper: b.upper,
-            v0: b.v0,
             v1: y + (b.v1 - y) * 0.5,
+            ..b
         }
     } else {
         Bracket {
-            lower: b.lower,
-            upper: b.upper,
             v0: y + (b.v0 - y) * 0.5,
-            v1: b.v1,
+            ..b
         }
     }
 }
@@ -66,7 +58,7 @@ fn weighed(how: Method, y: f64, regula_falsi: bool, st: State) -> Bracket
     let b = st.bracket;
     if regula_falsi {
         if 0 < st.repeats {
-            return reweighed(how, y, st.side == 1, b);
+            return reweighed(how, y, crate::is_last(Side::Lower, st.side), b);
         }
         return b;
     }

@@ -5,13 +5,16 @@
 ghost use Rattle.std.specs.Prelude.{◌≡◌, ◌≤◌, ◌+◌, length};
 ghost use Rattle.basis.specs.Basis.{matrix_of};
 ghost use Rattle.spline.specs.Segment.{row_sums_of};
+ghost use Rattle.inverse_segment.specs.Round.{is_last};
+ghost use Rattle.inverse_segment.specs.declared.Miss.TheVariants.{Refused};
 ghost use Rattle.inverse_segment.specs.Segment.{encloses, near};
 ghost use Rattle.inverse_segment.specs.Answer.{inverse_segment_by, inverse_segment_of, default_limit, default_precision};
 ghost use Rattle.inverse_segment.specs.Method.{rule_of, steady_segment_of};
 ghost use Rattle.inverse_segment.specs.Contract.{stop_at, place_at, EnteredIs, EnterIs, ends_of};
 
 use basis::Basis;
-use error::{Refusal, Verdict};
+use basis::basis_macros::by_basis;
+use error::Refusal;
 use spline::RowSums;
 
 pub mod choice;
@@ -55,11 +58,28 @@ pub struct Bracket {
     pub v1: f64,
 }
 
-// What a round is given: the bracket, the side that moved last (0 none, 1 lower, 2 upper), and how often it was repeated.
+// An end of a bracket.
+#[derive(Clone, Copy)]
+pub enum Side {
+    Lower,
+    Upper,
+}
+
+// Whether the end moved last.
+fn is_last(end: Side, last: Option<Side>) -> bool
+    ensures { result ≡ is_last end last }
+{
+    match end {
+        Side::Lower => matches!(last, Some(Side::Lower)),
+        Side::Upper => matches!(last, Some(Side::Upper)),
+    }
+}
+
+// What a round is given: the bracket, the end that moved last, if one did, and how often that was repeated.
 #[derive(Clone, Copy)]
 pub struct State {
     pub bracket: Bracket,
-    pub side: u8,
+    pub side: Option<Side>,
     pub repeats: u32,
 }
 
@@ -116,12 +136,19 @@ pub struct Place {
     pub upper: f64,
 }
 
-// An answer: refused by a row of the table, not on the curve after so many evaluations, or a place.
+// Why there is no place: a row of the table refuses the call, or no segment's ends enclose the target, after so many evaluations.
 #[derive(Clone, Copy)]
-pub enum Inversion {
+pub enum Miss {
     Refused(Refusal),
     OffCurve(usize),
-    At(Place),
+}
+
+impl From<Refusal> for Miss {
+    ghost from_gives = { λ r e. e ≡ Refused r };
+
+    fn from(r: Refusal) -> Miss {
+        Miss::Refused(r)
+    }
 }
 
 // Where an inversion stopped, why, and after how many evaluations.
@@ -213,19 +240,12 @@ fn ends_of(w: RowSums) -> SegmentEnds
     }
 }
 
-// A match on the basis, so that each matrix is known where its row sums and end values are worked out.
+// The same of four knots, by the matrix of the basis.
 fn ends_in(b: Basis, cv: &[f64]) -> SegmentEnds
     requires { 4 ≤ length cv.now }
     ensures { result ≡ ends_of (row_sums_of (matrix_of b) cv.now) }
 {
-    match b {
-        Basis::Bspline => ends_of(spline::segment::sums(basis::basis_macros::bspline(), cv)),
-        Basis::Bezier => ends_of(spline::segment::sums(basis::basis_macros::bezier(), cv)),
-        Basis::CatmullRom => ends_of(spline::segment::sums(basis::basis_macros::catmull_rom(), cv)),
-        Basis::Hermite => ends_of(spline::segment::sums(basis::basis_macros::hermite(), cv)),
-        Basis::Linear => ends_of(spline::segment::sums(basis::basis_macros::linear(), cv)),
-        Basis::Power => ends_of(spline::segment::sums(basis::basis_macros::power(), cv)),
-    }
+    by_basis(b, |terms| ends_of(spline::segment::sums(terms.matrix, cv)))
 }
 
 // The segment whose four knots stand at the front of cv is tried: both its ends are evaluated, once, and it is entered where they enclose
@@ -246,6 +266,7 @@ pub fn enter(how: Method, b: Basis, cv: &[f64], y: f64, precision: f64, limit: u
 }
 
 // The place of y on the segment whose four knots are cv, by the method that is asked for.
+// Off the segment by `let .. else`: docs/PROMISES.md promises this form here.
 pub fn spline_inverse_segment_by(
     b: Basis,
     y: f64,
@@ -253,20 +274,15 @@ pub fn spline_inverse_segment_by(
     limit: u16,
     precision: f64,
     how: Method,
-) -> Inversion
+) -> Result<Place, Miss>
     ensures { result ≡ inverse_segment_by (rule_of how) b y cv.now limit precision }
 {
-    let v = refusals::segment_verdict(y, cv, limit, precision);
-    match v {
-        Verdict::Failed(r) => Inversion::Refused(r),
-        Verdict::Passed => {
-            let t = enter(how, b, cv, y, precision, limit, 0);
-            let Trial::Inside(e) = t else {
-                return Inversion::OffCurve(2);
-            };
-            Inversion::At(place_of(e.local, 0, e))
-        }
-    }
+    refusals::segment_verdict(y, cv, limit, precision)?;
+    let t = enter(how, b, cv, y, precision, limit, 0);
+    let Trial::Inside(e) = t else {
+        return Err(Miss::OffCurve(2));
+    };
+    Ok(place_of(e.local, 0, e))
 }
 
 // As the crate inverts.
@@ -276,21 +292,21 @@ pub fn spline_inverse_segment_with(
     cv: &[f64],
     limit: u16,
     precision: f64,
-) -> Inversion
+) -> Result<Place, Miss>
     ensures { result ≡ inverse_segment_of b y cv.now limit precision }
 {
     spline_inverse_segment_by(b, y, cv, limit, precision, Method::AsCrate)
 }
 
 // As the crate inverts, with limit 32 and precision 1e-10.
-pub fn spline_inverse_segment(b: Basis, y: f64, cv: &[f64]) -> Inversion
+pub fn spline_inverse_segment(b: Basis, y: f64, cv: &[f64]) -> Result<Place, Miss>
     ensures { result ≡ inverse_segment_of b y cv.now default_limit default_precision }
 {
     spline_inverse_segment_with(b, y, cv, DEFAULT_LIMIT, DEFAULT_PRECISION)
 }
 
 // By the steady method, with limit 64 and precision 1e-10.
-pub fn spline_inverse_segment_steady(b: Basis, y: f64, cv: &[f64]) -> Inversion
+pub fn spline_inverse_segment_steady(b: Basis, y: f64, cv: &[f64]) -> Result<Place, Miss>
     ensures { result ≡ steady_segment_of b y cv.now }
 {
     spline_inverse_segment_by(b, y, cv, STEADY_LIMIT, DEFAULT_PRECISION, Method::Steady)

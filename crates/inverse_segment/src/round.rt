@@ -1,9 +1,9 @@
 // The rounds of the inversion of a segment, given by its row sums: the width test, the place that the method chooses, the move.
 ghost use Rattle.std.specs.Prelude.{◌≡◌, ◌≤◌, ◌<◌, ◌+◌, ltb, ◌&&◌};
-ghost use Rattle.inverse_segment.specs.Round.{narrow, moved};
+ghost use Rattle.inverse_segment.specs.Round.{narrow, repeats_of, moved};
 ghost use Rattle.inverse_segment.specs.Contract.{RoundIs, RoundsIs, repeats_after, count_after};
 
-use crate::{Bracket, Ground, Method, RoundResult, State, Stop};
+use crate::{Bracket, Ground, Method, RoundResult, Side, State, Stop};
 use spline::RowSums;
 
 // Whether the bracket is narrower than the precision.
@@ -19,6 +19,19 @@ fn is_narrow(precision: f64, b: Bracket) -> bool
     }
 }
 
+// How often an end that moves has moved in a row before.
+fn repeats_of(end: Side, st: State) -> u32
+    requires { st.repeats < 65536 }
+    ensures answer { result ≡ repeats_of end st }
+    ensures most { result ≤ st.repeats + 1 }
+{
+    if crate::is_last(end, st.side) {
+        st.repeats + 1
+    } else {
+        0
+    }
+}
+
 // The bracket after a round: the place x takes the place of one end; how often that end has moved in a row is counted.
 fn moved(lower_moves: bool, b: Bracket, st: State, x: f64, v: f64) -> State
     requires { st.repeats < 65536 }
@@ -26,44 +39,24 @@ fn moved(lower_moves: bool, b: Bracket, st: State, x: f64, v: f64) -> State
     ensures repeats_after { result.repeats ≤ st.repeats + 1 }
 {
     if lower_moves {
-        let n = Bracket {
-            lower: x,
-            upper: b.upper,
-            v0: v,
-            v1: b.v1,
-        };
-        if st.side == 1 {
-            State {
-                bracket: n,
-                side: 1,
-                repeats: st.repeats + 1,
-            }
-        } else {
-            State {
-                bracket: n,
-                side: 1,
-                repeats: 0,
-            }
+        State {
+            bracket: Bracket {
+                lower: x,
+                v0: v,
+                ..b
+            },
+            side: Some(Side::Lower),
+            repeats: repeats_of(Side::Lower, st),
         }
     } else {
-        let n = Bracket {
-            lower: b.lower,
-            upper: x,
-            v0: b.v0,
-            v1: v,
-        };
-        if st.side == 2 {
-            State {
-                bracket: n,
-                side: 2,
-                repeats: st.repeats + 1,
-            }
-        } else {
-            State {
-                bracket: n,
-                side: 2,
-                repeats: 0,
-            }
+        State {
+            bracket: Bracket {
+                upper: x,
+                v1: v,
+                ..b
+            },
+            side: Some(Side::Upper),
+            repeats: repeats_of(Side::Upper, st),
         }
     }
 }
@@ -127,7 +120,7 @@ pub fn rounds(
     let early = 3 * most / 4;
     let mut st = State {
         bracket: first,
-        side: 0,
+        side: None,
         repeats: 0,
     };
     let mut width = 16.0;

@@ -1,4 +1,7 @@
 -- What the records do: which are silent, which are refused, and what a refused one leaves alone. Assumes nothing.
+use Rattle.inverse_segment.specs.Inversion.{Inversion}
+use Rattle.inverse_segment.specs.declared.Miss.TheVariants.{Refused, OffCurve}
+use Rattle.std.specs.Prelude.{Ok, Err}
 use mathlib.Core.Path.{◌≡◌, refl, ap}
 use mathlib.Core.Bool.{Bool, true, false, cond}
 use mathlib.Core.List.{List, [], ◌∷◌, ◌++◌}
@@ -16,14 +19,10 @@ use Rattle.error.specs.declared.Refusal.TheVariants.{TooMany, BadSpan}
 use Rattle.error.proofs.First.{never}
 use Rattle.inverse_order.specs.declared.EndsBy.{EndsBy}
 use Rattle.inverse_order.specs.declared.EndsBy.TheVariants.{Knots}
-use Rattle.inverse_segment.specs.declared.Inversion.{Inversion}
-use Rattle.inverse_segment.specs.declared.Inversion.TheVariants as I
 use Rattle.lines_record.specs.declared.Record.{Record}
 use Rattle.lines_record.specs.declared.Record.TheVariants.{Curve as CurveOf, Span, Knot, Ends, At, Find, Turn, Bad}
 use Rattle.lines_reply.specs.Reply.{silence, refused, value}
-use Rattle.spline.specs.Evaluation.{spline_of}
-use Rattle.spline.specs.declared.Evaluation.{Evaluation}
-use Rattle.spline.specs.declared.Evaluation.TheVariants as E
+use Rattle.spline.specs.Evaluation.{spline_of, Evaluation}
 use Rattle.spline.proofs.Values.{spline_finite}
 use Rattle.table_span.specs.declared.Table.{Table}
 use Rattle.table_span.specs.Second.{day, good_span}
@@ -135,14 +134,14 @@ held_after (on t m ks) (Turn c) h = h
 held_after (on t m ks) Bad h = h
 
 -- ---- what is told is finite, so its bits are told exactly
-value_of : (e : Evaluation) (v : Float) → value_reply e ≡ value v → e ≡ E.Value v
-value_of (E.Value x) v h = let k : x ≡ v = cc in ap (λ (z : Float). E.Value z) k
-value_of (E.Refused r) v h = never (cc)
+value_of : (e : Evaluation) (v : Float) → value_reply e ≡ value v → e ≡ Ok v
+value_of (Ok x) v h = let k : x ≡ v = cc in ap (λ (z : Float). Ok z) k
+value_of (Err r) v h = never (cc)
 
 place_no_value : (s : ℕ) (i : Inversion) (v : Float) → place_reply s i ≡ value v → ⊥
-place_no_value s (I.Refused r) v h = never (cc)
-place_no_value s (I.OffCurve n) v h = never (cc)
-place_no_value s (I.At p) v h = never (cc)
+place_no_value s (Err (Refused r)) v h = never (cc)
+place_no_value s (Err (OffCurve n)) v h = never (cc)
+place_no_value s (Ok p) v h = never (cc)
 
 curve_no_value : (s : ℕ) (c : Basis) (t : Conversion) (v : Float) → curve_reply s c t ≡ value v → ⊥
 curve_no_value s c (gives l) v h = never (cc)

@@ -1,5 +1,7 @@
 -- What a record gets, and the curve after it. Definitions only.
-use Rattle.std.specs.Prelude.{true, cond, List, [], ℕ, Float}
+use Rattle.inverse_segment.specs.Inversion.{Inversion}
+use Rattle.inverse_segment.specs.declared.Miss.TheVariants.{Refused, OffCurve}
+use Rattle.std.specs.Prelude.{true, cond, List, [], ℕ, Float, Ok, Err}
 use Rattle.basis.specs.declared.Basis.{Basis}
 use Rattle.convert.specs.Conversion.{Conversion, gives, refuses, converted_of}
 use Rattle.error.specs.declared.Refusal.TheVariants.{TooMany, BadSpan, OffCurve, BadLine}
@@ -7,17 +9,13 @@ use Rattle.inverse_order.specs.declared.EndsBy.{EndsBy}
 use Rattle.inverse_order.specs.declared.EndsBy.TheVariants.{Knots}
 use Rattle.inverse.specs.Inverse.{inverse_by}
 use Rattle.inverse_segment.specs.Answer.{default_limit, default_precision}
-use Rattle.inverse_segment.specs.declared.Inversion.{Inversion}
-use Rattle.inverse_segment.specs.declared.Inversion.TheVariants as I
 use Rattle.inverse_segment.specs.declared.Method.TheVariants.{AsCrate}
 use Rattle.keeper.specs.Table as table
 use Rattle.keeper.specs.Table.{has_room, kept}
 use Rattle.lines_record.specs.declared.Record.{Record}
 use Rattle.lines_record.specs.declared.Record.TheVariants.{Curve as CurveOf, Span, Knot, Ends, At, Find, Turn, Bad}
 use Rattle.lines_reply.specs.Reply.{Reply, silence, refused, value, place, curve}
-use Rattle.spline.specs.Evaluation.{spline_of}
-use Rattle.spline.specs.declared.Evaluation.{Evaluation}
-use Rattle.spline.specs.declared.Evaluation.TheVariants as E
+use Rattle.spline.specs.Evaluation.{spline_of, Evaluation}
 use Rattle.table_span.specs.declared.Table.{Table}
 use Rattle.table_span.specs.Second.{good_span, spans_of, seconds_of}
 
@@ -37,8 +35,8 @@ bare b = record { basis = b; span = 0 }
 -- ---- the replies of the three calls
 
 abbrev pub value_reply : Evaluation → Reply
-value_reply (E.Value x) = value x
-value_reply (E.Refused r) = refused r
+value_reply (Ok x) = value x
+value_reply (Err r) = refused r
 
 -- the default limit and precision, the order check on
 abbrev pub found_of : EndsBy → Basis → Float → List Float → Inversion
@@ -46,9 +44,9 @@ found_of m b y ks = inverse_by m AsCrate b y ks true default_limit default_preci
 
 -- with the second of the place, where there is a span
 abbrev pub place_reply : ℕ → Inversion → Reply
-place_reply span (I.Refused r) = refused r
-place_reply span (I.OffCurve n) = refused OffCurve
-place_reply span (I.At p) = place p.parameter p.ground p.count (seconds_of span p.parameter)
+place_reply span (Err (Refused r)) = refused r
+place_reply span (Err (OffCurve n)) = refused OffCurve
+place_reply span (Ok p) = place p.parameter p.ground p.count (seconds_of span p.parameter)
 
 -- the span is handed on
 abbrev pub curve_reply : ℕ → Basis → Conversion → Reply

@@ -12,14 +12,12 @@ ghost use Rattle.lines_answer.specs.Answer.{places, none, on, value_reply, found
 ghost use Rattle.lines_answer.specs.Contract.{curve_of, count_of, Answers};
 
 use basis::Basis;
-use convert::ConversionAnswer;
 use error::Refusal;
 use inverse::Options;
 use inverse_order::EndsBy;
-use inverse_segment::{DEFAULT_LIMIT, DEFAULT_PRECISION, Inversion, Method};
+use inverse_segment::{DEFAULT_LIMIT, DEFAULT_PRECISION, Method, Miss};
 use lines_record::Record;
 use lines_reply::LineReply;
-use spline::Evaluation;
 use table_span::Table;
 
 // The curve that is held: none before the first `curve`, then a basis with a span, by which ends it is inverted, and so many knots.
@@ -42,8 +40,8 @@ pub fn value_at(b: Basis, x: f64, knots: &[f64]) -> LineReply
 {
     let e = spline::spline(b, x, knots);
     match e {
-        Evaluation::Value(v) => LineReply::Value(v),
-        Evaluation::Refused(r) => LineReply::Refused(r),
+        Ok(v) => LineReply::Value(v),
+        Err(r) => LineReply::Refused(r),
     }
 }
 
@@ -62,9 +60,9 @@ fn place_of(t: Table, m: EndsBy, y: f64, knots: &[f64]) -> LineReply
     };
     let i = inverse::spline_inverse_by(o, b, y, knots);
     match i {
-        Inversion::Refused(r) => LineReply::Refused(r),
-        Inversion::OffCurve(_) => LineReply::Refused(Refusal::OffCurve),
-        Inversion::At(p) => {
+        Err(Miss::Refused(r)) => LineReply::Refused(r),
+        Err(Miss::OffCurve(_)) => LineReply::Refused(Refusal::OffCurve),
+        Ok(p) => {
             let ground = p.ground;
             let s = table_span::seconds_of(t.span, p.parameter);
             LineReply::Place(p.parameter, ground, p.count, s)
@@ -81,14 +79,14 @@ fn converted_to(t: Table, c: Basis, knots: &[f64], converted: &mut [f64]) -> Lin
     let b = t.basis;
     let i = convert::convert_spline(b, c, knots, &mut *converted);
     match i {
-        ConversionAnswer::Written(n) => LineReply::Curve(
+        Ok(n) => LineReply::Curve(
             Table {
                 basis: c,
                 span: t.span,
             },
             n,
         ),
-        ConversionAnswer::Refused(r) => LineReply::Refused(r),
+        Err(r) => LineReply::Refused(r),
     }
 }
 
@@ -128,18 +126,15 @@ pub fn add(t: Table, m: EndsBy, n: usize, x: f64, table: &mut [f64]) -> SessionR
     requires table { length table.old ≡ places }
     ensures { (l : List Float) → Answers (on t m (take n table.old)) (Knot x) result table.new l }
 {
-    let k = keeper::keep(x, n, table);
-    let count = k.count;
-    let after = Session::Curve(t, m, count);
-    if k.taken {
-        return SessionReply {
-            held: after,
+    match keeper::keep(x, n, table) {
+        Some(count) => SessionReply {
+            held: Session::Curve(t, m, count),
             told: LineReply::Nothing,
-        };
-    }
-    SessionReply {
-        held: after,
-        told: LineReply::Refused(Refusal::TooMany),
+        },
+        None => SessionReply {
+            held: Session::Curve(t, m, n),
+            told: LineReply::Refused(Refusal::TooMany),
+        },
     }
 }
 

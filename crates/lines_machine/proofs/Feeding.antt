@@ -1,8 +1,8 @@
 -- A chunk in stretches of lines, for any program: what is read and written grows by a stretch, by a line's end, and at the input's. Assumes nothing.
 use mathlib.Core.Path.{◌≡◌, refl, sym, ap, subst, ◌∙◌}
-use mathlib.Core.Bool.{Bool, true, false}
+use mathlib.Core.Bool.{Bool, true, false, true≢false}
 use mathlib.Core.List.{List, [], ◌∷◌, ◌++◌, append-nil}
-use Prim.Native.Nat.{ℕ, ◌+◌, ◌≤◌, ◌<◌}
+use Prim.Native.Nat.{ℕ, ◌+◌, ◌-◌, ◌≤◌, ◌<◌}
 use native.Mathlib.Numerals.{add-one}
 use native.Mathlib.Omega.{arith}
 use borrow.Author.Tests.{eq-eqb, ne_eqb, leb-true}
@@ -11,10 +11,12 @@ use lib.ListN.{length, take, drop, get_or, take-append-drop}
 use lib.Seq.{slice, slice_empty, take-suc, take-take, take_all, drop-append-le, length-take-le}
 use Rattle.text.specs.Text.{LF}
 use Rattle.text.specs.Wrote.{Wrote}
+use Rattle.std.proofs.lemmas.Bool.{false≢true}
+use Rattle.std.proofs.lemmas.List.{length-drop}
 use Rattle.text.proofs.Writing.{nothing, then}
-use Rattle.lines_machine.specs.Program.{widest, Line, so, Program, output_of}
+use Rattle.lines_machine.specs.Program.{widest, Line, so, over, Program, output_of}
 use Rattle.lines_machine.specs.Bytes.{State, state_at, start, push, Grown, next_of, tell_of, told_of, ran_of, last_text, end_of}
-use Rattle.lines_machine.specs.Contract.{open_of, Stretch, Fed, So}
+use Rattle.lines_machine.specs.Contract.{open_of, unbegun, Stretch, Fed, So}
 use Rattle.lines_machine.proofs.Whole.{ran_append, told_append, whole}
 
 -- ---- a stretch
@@ -34,9 +36,6 @@ slice_on chunk from i stop p q r =
     let e : take i chunk ++ slice i stop chunk ≡ take stop chunk =
     ap (λ (t : List ℕ). t ++ slice i stop chunk) (sym (take-take i stop chunk r)) ∙ take-append-drop i (take stop chunk) in
     sym (drop-append-le from (take i chunk) (slice i stop chunk) z) ∙ ap (drop from) e
-
-pub stretch_none : (chunk : List ℕ) (from : ℕ) (o : Line) → Grown o (slice from from chunk) o
-stretch_none chunk from o = rw (slice_empty from chunk) refl
 
 pub stretch_more : (chunk : List ℕ) (from i : ℕ) (o o' o'' : Line) → from ≤ i → i < length chunk → Grown o (slice from i chunk) o'
     → (get_or chunk i 0 ≡ LF → ⊥) → o'' ≡ push o' (get_or chunk i 0) → Grown o (slice from (i + 1) chunk) o''
@@ -58,9 +57,6 @@ module _ {S : Type 0} (P : Program S) where
   pub fed_none : (s : State S) (out : List ℕ) (at : ℕ) → Fed P s [] s out at out at
   unfolding ran_of told_of
   fed_none s out at = record { state = refl; wrote = nothing out at }
-
-  pub fed_from : (chunk : List ℕ) (from : ℕ) (s : State S) (out : List ℕ) (at : ℕ) → Fed P s (slice from from chunk) s out at out at
-  fed_from chunk from s out at = rw (slice_empty from chunk) (fed_none s out at)
 
   pub fed_then : {s s₁ s₂ : State S} {x y : List ℕ} {out out₁ out₂ : List ℕ} {at at₁ at₂ : ℕ} → Fed P s x s₁ out at out₁ at₁ → Fed P s₁ y s₂ out₁ at₁ out₂ at₂
       → Fed P s (x ++ y) s₂ out at out₂ at₂
@@ -96,59 +92,35 @@ module _ {S : Type 0} (P : Program S) where
       } in
       rw (slice_more chunk from j p k) (fed_then u v)
 
-  -- all of a chunk
-  pub fed_all : (chunk : List ℕ) (i : ℕ) {s s' : State S} {out out' : List ℕ} {at r : ℕ} → length chunk ≤ i → Fed P s (take i chunk) s' out at out' r
-      → Fed P s chunk s' out at out' r
-  fed_all chunk i {s} {s'} {out} {out'} {at} {r} h u = subst (λ (t : List ℕ). Fed P s t s' out at out' r) (take_all i chunk h) u
+  -- what is left of a chunk leads to where all of it does
+  pub ran_rest : (rest : List ℕ) (n : ℕ) {s s' : State S} {out out' : List ℕ} {at r : ℕ} → Fed P s (take n rest) s' out at out' r
+      → ran_of P s' (take (length rest - n) (drop n rest)) ≡ ran_of P s rest
+  ran_rest rest n {s} {s'} u =
+      let e : length (drop n rest) ≡ length rest - n = length-drop n rest in
+      ap (ran_of P s') (take_all (length rest - n) (drop n rest) (omega (arith, e)))
+      ∙ ap (λ (a : State S). ran_of P a (drop n rest)) u.state
+      ∙ sym (ran_append P s (take n rest) (drop n rest))
+      ∙ ap (ran_of P s) (take-append-drop n rest)
 
-  -- a chunk that is fed in parts
-  pub ran_none : (s : State S) → s ≡ ran_of P s []
+  pub ran_end : (s : State S) (rest : List ℕ) → length rest ≡ 0 → s ≡ ran_of P s rest
   unfolding ran_of
-  ran_none s = refl
+  ran_end s [] e = refl
+  ran_end s (b ∷ l) e = absurd (omega (arith, e))
 
-  pub ran_on : (s₀ : State S) (chunk : List ℕ) (i j : ℕ) {s s' : State S} {out out' : List ℕ} {at r : ℕ} → i ≤ length chunk → i ≤ j → s ≡ ran_of P s₀
-      (take i chunk)
-      → Fed P s (slice i j chunk) s' out at out' r → s' ≡ ran_of P s₀ (take j chunk)
-  ran_on s₀ chunk i j q h e u =
-      u.state
-      ∙ ap (λ (a : State S). ran_of P a (slice i j chunk)) e
-      ∙ sym (ran_append P s₀ (take i chunk) (slice i j chunk))
-      ∙ ap (ran_of P s₀) (slice_on chunk 0 i j (omega arith) q h)
-
-  pub ran_all : (s₀ : State S) (chunk : List ℕ) (i : ℕ) {s : State S} → length chunk ≤ i → s ≡ ran_of P s₀ (take i chunk) → s ≡ ran_of P s₀ chunk
-  ran_all s₀ chunk i h e = e ∙ ap (ran_of P s₀) (take_all i chunk h)
-
-  -- ---- the end of the input
-  last_some : (l : List ℕ) (h : S) → 0 < length l → last_text P (so l) h ≡ P.tells h (so l) ++ P.ends (P.after h (so l))
+  -- ---- the end, by whether a line was begun
+  pub end_unbegun : (o : Line) (h : S) {out out' : List ℕ} {at r : ℕ} → unbegun o ≡ true → Wrote out at (P.ends h) out' r
+      → Wrote out at (end_of P (state_at o h)) out' r
   unfolding last_text
-  last_some [] h k = absurd (omega arith)
-  last_some (b ∷ l) h k = refl
+  end_unbegun (so []) h e w = w
+  end_unbegun (so (b ∷ l)) h e w = absurd (false≢true e)
+  end_unbegun over h e w = absurd (false≢true e)
 
-  last_full : (n : ℕ) (line : List ℕ) (h : S) → 0 < n → length line ≡ widest
-      → last_text P (open_of n line) h ≡ P.tells h (open_of n line) ++ P.ends (P.after h (open_of n line))
+  pub end_begun : (o : Line) (h : S) {h' : S} {out out₁ out₂ : List ℕ} {at a r : ℕ} → unbegun o ≡ false → h' ≡ P.after h o
+      → Wrote out at (P.tells h o) out₁ a → Wrote out₁ a (P.ends h') out₂ r → Wrote out at (end_of P (state_at o h)) out₂ r
   unfolding last_text
-  last_full n line h k f = go (leb n widest) refl
-    where
-      go : (u : Bool) → leb n widest ≡ u → last_text P (open_of n line) h ≡ P.tells h (open_of n line) ++ P.ends (P.after h (open_of n line))
-      go true e =
-          let m : n ≤ widest = leb-true n widest e in
-          let z : 0 < length (take n line) = rw (length-take-le n line (omega arith)) k in
-          rw e (last_some (take n line) h z)
-      go false e = rw e refl
-
-  -- no line was begun
-  pub end_none : (n : ℕ) (line : List ℕ) (h : S) {out out' : List ℕ} {at r : ℕ} → n ≡ 0
-      → Wrote out at (P.ends h) out' r → Wrote out at (end_of P (state_at (open_of n line) h)) out' r
-  unfolding last_text
-  end_none n line h e w = rw e w
-
-  -- a line was begun: it ends first
-  pub end_some : (n : ℕ) (line : List ℕ) (h : S) {h' : S} {out out₁ out₂ : List ℕ} {at a r : ℕ} → (n ≡ 0 → ⊥) → length line ≡ widest
-      → h' ≡ P.after h (open_of n line) → Wrote out at (P.tells h (open_of n line)) out₁ a → Wrote out₁ a (P.ends h') out₂ r
-      → Wrote out at (end_of P (state_at (open_of n line) h)) out₂ r
-  end_some n line h {h'} {out} {out₁} {out₂} {at} {a} {r} ne f e w v =
-      let u : Wrote out₁ a (P.ends (P.after h (open_of n line))) out₂ r = subst (λ (x : S). Wrote out₁ a (P.ends x) out₂ r) e v in
-      rw (last_full n line h (omega arith) f) (then w u)
+  end_begun (so []) h n e w v = absurd (true≢false n)
+  end_begun (so (b ∷ l)) h {h'} {out} {out₁} {out₂} {at} {a} {r} n e w v = then w (subst (λ (x : S). Wrote out₁ a (P.ends x) out₂ r) e v)
+  end_begun over h {h'} {out} {out₁} {out₂} {at} {a} {r} n e w v = then w (subst (λ (x : S). Wrote out₁ a (P.ends x) out₂ r) e v)
 
   -- ---- the calls one after another
   pub so_none : (h : S) → So P h (start h) [] []

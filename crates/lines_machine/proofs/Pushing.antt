@@ -9,9 +9,11 @@ use borrow.Author.Tests.{lt-ltb, le-ltb, le-leb, leb-true}
 use lib.Dec.{leb}
 use lib.ListN.{length, take, set}
 use lib.Seq.{take-suc-set, length-take-le}
+use Rattle.std.proofs.Common.{min}
+use Rattle.std.proofs.lemmas.List.{length-take}
 use Rattle.lines_machine.specs.Program.{widest, so, over}
 use Rattle.lines_machine.specs.Bytes.{push}
-use Rattle.lines_machine.specs.Contract.{open_of}
+use Rattle.lines_machine.specs.Contract.{open_of, Fits}
 
 pub push_room : (n b : ℕ) (line : List ℕ) → n < widest → length line ≡ widest → open_of (n + 1) (set line n b) ≡ push (open_of n line) b
 unfolding push
@@ -30,3 +32,14 @@ push_full n b line h f = go (leb n widest) refl
         let z : widest ≤ length (take n line) = rw (length-take-le n line (omega arith)) h in
         rw (e, le-ltb (length (take n line)) widest z) refl
     go false e = rw e refl
+
+-- what stands there has no more than 64 bytes
+pub fits_open : (n : ℕ) (line : List ℕ) → Fits (open_of n line)
+fits_open n line = go (leb n widest) refl
+  where
+    go : (t : Bool) → leb n widest ≡ t → Fits (open_of n line)
+    go true e =
+        let k : n ≤ widest = leb-true n widest e in
+        let z : length (take n line) ≡ min n (length line) = length-take n line in
+        rw e (omega (arith, z))
+    go false e = rw e tt

@@ -1,5 +1,6 @@
 -- How code holds the line that is being read, and what it says of the bytes that it took. Definitions only.
-use Rattle.std.specs.Prelude.{◌≡◌, cond, List, ℕ, ◌≤◌, ◌<◌, leb, length, take, get_or}
+use denote.Ref.{Bor}
+use Rattle.std.specs.Prelude.{◌≡◌, Bool, true, false, cond, Option, Some, None, List, [], ◌∷◌, ℕ, ◌≤◌, ◌<◌, leb, length, take, get_or}
 use Rattle.std.proofs.Math.Seq.{slice}
 use Rattle.text.specs.Text.{LF}
 use Rattle.text.specs.Wrote.{Wrote}
@@ -9,6 +10,21 @@ use Rattle.lines_machine.specs.Bytes.{State, start, Grown, told_of, ran_of}
 -- n bytes of a line, the first ones of the lent 64; or more than those
 abbrev pub open_of : ℕ → List ℕ → Line
 open_of n line = cond (leb n widest) (so (take n line)) over
+
+-- a line as a program gets it: its bytes, or none where it is too long
+abbrev pub said_of : Option (Bor (List ℕ)) → Line
+said_of (Some l) = so l.now
+said_of None = over
+
+abbrev pub Fits : Line → Type 0
+Fits (so l) = length l ≤ widest
+Fits over = Unit
+
+-- no byte of a line was read
+abbrev pub unbegun : Line → Bool
+unbegun (so []) = true
+unbegun (so (b ∷ l)) = false
+unbegun over = false
 
 -- the bytes of a chunk between two places are the line's own; behind them stands its end, or nothing
 pub record Stretch (chunk : List ℕ) (from : ℕ) (o : Line) (stop : ℕ) (o' : Line) : Type 0 where

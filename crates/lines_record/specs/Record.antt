@@ -1,18 +1,12 @@
 -- What a line says: `curve` BASIS, `span` N, `knot` D, `ends` `knots` or `curve`, `at` D, `find` D, `turn` BASIS, or none of these.
 -- Definitions only.
-use Rattle.std.specs.Prelude.{cond, List, [], ◌∷◌, ℕ, Float}
+use Rattle.std.specs.Prelude.{cond, List, [], ◌∷◌, ℕ, Float, Some, None, Option}
 use Rattle.basis.specs.declared.Basis.{Basis}
 use Rattle.basis.specs.declared.Basis.TheVariants.{Bspline, Bezier, CatmullRom, Hermite, Linear, Power}
 use Rattle.text_decimals.specs.Decimals.{number_in}
 use Rattle.inverse_order.specs.declared.EndsBy.{EndsBy}
 use Rattle.inverse_order.specs.declared.EndsBy.TheVariants as M
-use Rattle.text.specs.declared.HexNumber.{HexNumber}
-use Rattle.text.specs.declared.HexNumber.TheVariants as H
 use Rattle.text.specs.Text.{bytes, same, fields_of, hex_of, double_of}
-use Rattle.lines_record.specs.declared.EndsName.{EndsName}
-use Rattle.lines_record.specs.declared.EndsName.TheVariants as E
-use Rattle.lines_record.specs.declared.BasisName.{BasisName}
-use Rattle.lines_record.specs.declared.BasisName.TheVariants as N
 use Rattle.lines_record.specs.declared.Record.{Record}
 use Rattle.lines_record.specs.declared.Record.TheVariants.{Curve, Span, Knot, Ends, At, Find, Turn, Bad}
 use Rattle.lines_record.specs.declared.Word.{Word}
@@ -40,34 +34,34 @@ name_of Linear = bytes "Linear"
 name_of Power = bytes "Power"
 
 -- the one of some bases that s names
-abbrev pub named_among : List Basis → List ℕ → BasisName
-named_among [] s = N.Nothing
-named_among (b ∷ bs) s = cond (same s (name_of b)) (N.Is b) (named_among bs s)
+abbrev pub named_among : List Basis → List ℕ → Option Basis
+named_among [] s = None
+named_among (b ∷ bs) s = cond (same s (name_of b)) (Some b) (named_among bs s)
 
 -- the basis that s names
-unfoldable pub named_of : List ℕ → BasisName
+unfoldable pub named_of : List ℕ → Option Basis
 named_of s = named_among (Bspline ∷ Bezier ∷ CatmullRom ∷ Hermite ∷ Linear ∷ Power ∷ []) s
 
 -- the ends that s names
-unfoldable pub ends_of : List ℕ → EndsName
-ends_of s = cond (same s (bytes "knots")) (E.Is M.Knots) (cond (same s (bytes "curve")) (E.Is M.Curve) E.Nothing)
+unfoldable pub ends_of : List ℕ → Option EndsBy
+ends_of s = cond (same s (bytes "knots")) (Some M.Knots) (cond (same s (bytes "curve")) (Some M.Curve) None)
 
 -- a record that tells a basis, ends, a whole number, or a double
-abbrev pub with_basis : (Basis → Record) → BasisName → Record
-with_basis f (N.Is b) = f b
-with_basis f N.Nothing = Bad
+abbrev pub with_basis : (Basis → Record) → Option Basis → Record
+with_basis f (Some b) = f b
+with_basis f None = Bad
 
-abbrev pub with_ends : (EndsBy → Record) → EndsName → Record
-with_ends f (E.Is m) = f m
-with_ends f E.Nothing = Bad
+abbrev pub with_ends : (EndsBy → Record) → Option EndsBy → Record
+with_ends f (Some m) = f m
+with_ends f None = Bad
 
-abbrev pub with_number : (ℕ → Record) → HexNumber → Record
-with_number f (H.Is n) = f n
-with_number f H.Nothing = Bad
+abbrev pub with_number : (ℕ → Record) → Option ℕ → Record
+with_number f (Some n) = f n
+with_number f None = Bad
 
-abbrev pub with_double : (Float → Record) → HexNumber → Record
-with_double f (H.Is n) = f (double_of n)
-with_double f H.Nothing = Bad
+abbrev pub with_double : (Float → Record) → Option ℕ → Record
+with_double f (Some n) = f (double_of n)
+with_double f None = Bad
 
 -- the record of a word and the field after it; a span has 1 to 5 digits
 unfoldable pub meaning_of : Word → List ℕ → Record

@@ -8,7 +8,6 @@ ghost use Rattle.lines_record.specs.Record.{word_of, named_of, ends_of, with_num
 
 use basis::Basis;
 use inverse_order::EndsBy;
-use text::HexNumber;
 
 #[derive(Clone, Copy)]
 pub enum Record {
@@ -35,90 +34,71 @@ pub enum Word {
     Other,
 }
 
-#[derive(Clone, Copy)]
-pub enum BasisName {
-    Is(Basis),
-    Nothing,
-}
-
-// By which ends the curve is inverted, if a field names one.
-#[derive(Clone, Copy)]
-pub enum EndsName {
-    Is(EndsBy),
-    Nothing,
-}
-
 // Which record a line's first field names.
+// Tests one after another: with a match on byte strings the check asks for 34 goals, byte by byte, and leaves them all open.
 pub fn word_of(s: &[u8]) -> Word
     ensures { result ≡ word_of s.now }
 {
     if text::is_word(s, b"curve") {
-        return Word::Curve;
+        Word::Curve
+    } else if text::is_word(s, b"span") {
+        Word::Span
+    } else if text::is_word(s, b"knot") {
+        Word::Knot
+    } else if text::is_word(s, b"ends") {
+        Word::Ends
+    } else if text::is_word(s, b"at") {
+        Word::At
+    } else if text::is_word(s, b"find") {
+        Word::Find
+    } else if text::is_word(s, b"turn") {
+        Word::Turn
+    } else {
+        Word::Other
     }
-    if text::is_word(s, b"span") {
-        return Word::Span;
-    }
-    if text::is_word(s, b"knot") {
-        return Word::Knot;
-    }
-    if text::is_word(s, b"ends") {
-        return Word::Ends;
-    }
-    if text::is_word(s, b"at") {
-        return Word::At;
-    }
-    if text::is_word(s, b"find") {
-        return Word::Find;
-    }
-    if text::is_word(s, b"turn") {
-        return Word::Turn;
-    }
-    Word::Other
 }
 
 // The basis by its name.
-pub fn basis_named(s: &[u8]) -> BasisName
+// Tests one after another, as in `word_of`.
+pub fn basis_named(s: &[u8]) -> Option<Basis>
     ensures { result ≡ named_of s.now }
 {
     if text::is_word(s, b"Bspline") {
-        return BasisName::Is(Basis::Bspline);
+        Some(Basis::Bspline)
+    } else if text::is_word(s, b"Bezier") {
+        Some(Basis::Bezier)
+    } else if text::is_word(s, b"CatmullRom") {
+        Some(Basis::CatmullRom)
+    } else if text::is_word(s, b"Hermite") {
+        Some(Basis::Hermite)
+    } else if text::is_word(s, b"Linear") {
+        Some(Basis::Linear)
+    } else if text::is_word(s, b"Power") {
+        Some(Basis::Power)
+    } else {
+        None
     }
-    if text::is_word(s, b"Bezier") {
-        return BasisName::Is(Basis::Bezier);
-    }
-    if text::is_word(s, b"CatmullRom") {
-        return BasisName::Is(Basis::CatmullRom);
-    }
-    if text::is_word(s, b"Hermite") {
-        return BasisName::Is(Basis::Hermite);
-    }
-    if text::is_word(s, b"Linear") {
-        return BasisName::Is(Basis::Linear);
-    }
-    if text::is_word(s, b"Power") {
-        return BasisName::Is(Basis::Power);
-    }
-    BasisName::Nothing
 }
 
 // The rule of the ends by its name.
-pub fn ends_named(s: &[u8]) -> EndsName
+// Tests one after another, as in `word_of`.
+pub fn ends_named(s: &[u8]) -> Option<EndsBy>
     ensures { result ≡ ends_of s.now }
 {
     if text::is_word(s, b"knots") {
-        return EndsName::Is(EndsBy::Knots);
+        Some(EndsBy::Knots)
+    } else if text::is_word(s, b"curve") {
+        Some(EndsBy::Curve)
+    } else {
+        None
     }
-    if text::is_word(s, b"curve") {
-        return EndsName::Is(EndsBy::Curve);
-    }
-    EndsName::Nothing
 }
 
 // A span of 1 to 5 digits; whether it is in range is for the answer to say.
 fn span_of(s: &[u8]) -> Record
     ensures { result ≡ with_number (λ n. Span n) (number_in 5 s.now) }
 {
-    let HexNumber::Is(n) = text_decimals::number_in(s, 5) else {
+    let Some(n) = text_decimals::number_in(s, 5) else {
         return Record::Bad;
     };
     Record::Span(n as u32)
@@ -128,7 +108,7 @@ fn span_of(s: &[u8]) -> Record
 fn ends_of(s: &[u8]) -> Record
     ensures { result ≡ with_ends (λ m. Ends m) (ends_of s.now) }
 {
-    let EndsName::Is(m) = ends_named(s) else {
+    let Some(m) = ends_named(s) else {
         return Record::Bad;
     };
     Record::Ends(m)
@@ -140,33 +120,33 @@ fn meaning(w: Word, s: &[u8]) -> Record
 {
     match w {
         Word::Curve => {
-            let BasisName::Is(b) = basis_named(s) else {
+            let Some(b) = basis_named(s) else {
                 return Record::Bad;
             };
             Record::Curve(b)
         }
         Word::Span => span_of(s),
         Word::Knot => {
-            let HexNumber::Is(n) = text::hex(s) else {
+            let Some(n) = text::hex(s) else {
                 return Record::Bad;
             };
             Record::Knot(text::of_bits(n))
         }
         Word::Ends => ends_of(s),
         Word::At => {
-            let HexNumber::Is(n) = text::hex(s) else {
+            let Some(n) = text::hex(s) else {
                 return Record::Bad;
             };
             Record::At(text::of_bits(n))
         }
         Word::Find => {
-            let HexNumber::Is(n) = text::hex(s) else {
+            let Some(n) = text::hex(s) else {
                 return Record::Bad;
             };
             Record::Find(text::of_bits(n))
         }
         Word::Turn => {
-            let BasisName::Is(b) = basis_named(s) else {
+            let Some(b) = basis_named(s) else {
                 return Record::Bad;
             };
             Record::Turn(b)

@@ -1,5 +1,5 @@
 -- The knots' lines, one more at a time. Assumes nothing.
-use mathlib.Core.Path.{◌≡◌, sym, ap, ◌∙◌}
+use mathlib.Core.Path.{◌≡◌, refl, sym, ap, ◌∙◌}
 use mathlib.Core.List.{List, [], ◌∷◌, ◌++◌, append_assoc, append-nil}
 use Prim.Native.Nat.{ℕ, ◌+◌, ◌<◌}
 use native.Mathlib.Numerals.{add-one}
@@ -7,8 +7,6 @@ use lib.ListN.{length, take, get_or}
 use lib.Seq.{take-suc}
 use lib.Ieee.{Float}
 use Rattle.text.specs.Text.{bytes}
-use Rattle.text.specs.Wrote.{Wrote}
-use Rattle.text.proofs.Writing.{nothing, then}
 use Rattle.lines_reply.specs.Reply.{line_text, knots_text}
 
 abbrev knot_text : Float → List ℕ
@@ -21,11 +19,9 @@ knots_snoc (y ∷ l) x =
     ap (λ (t : List ℕ). knot_text y ++ t) (knots_snoc l x)
     ∙ sym (append_assoc (knot_text y) (knots_text l) (knot_text x))
 
-pub knots_none : (o : List ℕ) (at : ℕ) → Wrote o at (knots_text []) o at
+pub knots_none : knots_text [] ≡ []
 unfolding knots_text
-knots_none o at = nothing o at
+knots_none = refl
 
-pub knots_more : (l : List Float) (i : ℕ) (d : Float) {o o₁ o₂ : List ℕ} {at r₁ r₂ : ℕ} → i < length l
-    → Wrote o at (knots_text (take i l)) o₁ r₁ → Wrote o₁ r₁ (knot_text (get_or l i d)) o₂ r₂
-    → Wrote o at (knots_text (take (i + 1) l)) o₂ r₂
-knots_more l i d h u v = rw (add-one i, take-suc l i d h, knots_snoc (take i l) (get_or l i d)) (then u v)
+pub knots_more : (l : List Float) (i : ℕ) (d : Float) → i < length l → knots_text (take (i + 1) l) ≡ knots_text (take i l) ++ knot_text (get_or l i d)
+knots_more l i d h = rw (add-one i, take-suc l i d h, knots_snoc (take i l) (get_or l i d)) refl

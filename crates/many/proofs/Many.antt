@@ -1,4 +1,7 @@
 -- The two parts of the call's answer, from what its steps come to. Assumes nothing.
+use Rattle.many.specs.declared.ManyRefusal.{ManyRefusal}
+use Rattle.many.specs.declared.ManyRefusal.TheVariants.{NotANumberAt, Refused}
+use Rattle.std.specs.Prelude.{Ok, Err, Result, ⊤}
 use Rattle.std.proofs.Common.{
   ◌≡◌,
   ℕ,
@@ -26,7 +29,6 @@ use Rattle.std.proofs.Common.{
 }
 use lib.Ieee.{Float, nan, binary64, mul}
 use Rattle.error.specs.declared.Refusal.{Refusal}
-use Rattle.error.specs.declared.Verdict.TheVariants.{Passed, Failed}
 use Rattle.error.specs.Refusals.{number_of, first}
 use Rattle.basis.specs.declared.Basis.{Basis}
 use Rattle.basis.specs.Basis.{step_of, segments_of}
@@ -34,8 +36,6 @@ use Rattle.doubles.specs.Numbers.{clamp}
 use Rattle.doubles.specs.Whole.{double}
 use Rattle.spline.specs.Curve.{curve_value, scaled}
 use Rattle.spline.proofs.Parts.{few}
-use Rattle.many.specs.declared.ManyAnswer.{ManyAnswer}
-use Rattle.many.specs.declared.ManyAnswer.TheVariants.{Written, NotANumberAt, Refused}
 use Rattle.many.specs.Many.{many_uses, some_nan, first_nan, many_of, values_of, left_by, told_of}
 use Rattle.many.specs.Contract.{laid, value_at, InScale, AllInScale}
 use Rattle.many.proofs.Scan.{each_number}
@@ -48,7 +48,7 @@ unfolding curve_value value_at
 scaled_value b ks x = refl
 
 pub values_are : (b : Basis) (xs ks out end : List Float) → end ≡ map (λ x. curve_value b x ks) xs ++ drop (length (map (λ x. curve_value b x ks) xs)) out
-    → end ≡ left_by Written (values_of b xs ks) out
+    → end ≡ left_by (Ok tt) (values_of b xs ks) out
 unfolding values_of
 values_are b xs ks out end e = e
 
@@ -73,7 +73,7 @@ all_scaled k xs out now h n r e i l =
 
 -- c is the basis whose loop was run
 pub arm : (b c : Basis) (xs ks out now end : List Float) {k : ℕ} → b ≡ c → k ≡ segments_of b (length ks) → length xs ≤ length out
-    → now ≡ laid (length xs) (map (scaled k) xs) out → end ≡ laid (length xs) (map (value_at c ks) now) now → end ≡ left_by Written (values_of b xs ks) out
+    → now ≡ laid (length xs) (map (scaled k) xs) out → end ≡ laid (length xs) (map (value_at c ks) now) now → end ≡ left_by (Ok tt) (values_of b xs ks) out
 arm b c xs ks out now end {k} q e r p l =
     values_are b xs ks out end
     (both (value_at b ks) (scaled (segments_of b (length ks))) (λ x. curve_value b x ks) xs out now end (length xs) (scaled_value b ks) r refl
@@ -81,30 +81,30 @@ arm b c xs ks out now end {k} q e r p l =
     (l ∙ ap (λ (d : Basis). laid (length xs) (map (value_at d ks) now) now) (sym q)))
 
 -- ---- the answer
-pub told_which : (r : Refusal) (xs : List Float) {n i : ℕ} → n ≡ number_of r → n ≡ 5 → i ≡ first_nan xs → NotANumberAt i ≡ told_of r xs
+pub told_which : (r : Refusal) (xs : List Float) {n i : ℕ} → n ≡ number_of r → n ≡ 5 → i ≡ first_nan xs → Err (NotANumberAt i) ≡ told_of r xs
 told_which r xs a b e =
-    ap NotANumberAt e ∙ sym (ap (λ (t : Bool). cond t (NotANumberAt (first_nan xs)) (Refused r)) (eq-eqb (number_of r) 5 (sym a ∙ b)))
+    ap (λ a. Err (NotANumberAt a)) e ∙ sym (ap (λ (t : Bool). cond t (Err (NotANumberAt (first_nan xs))) (Err (Refused r))) (eq-eqb (number_of r) 5 (sym a ∙ b)))
 
-pub told_same : (r : Refusal) (xs : List Float) {n : ℕ} → n ≡ number_of r → (n ≡ 5 → Prim.⊥) → Refused r ≡ told_of r xs
-told_same r xs a b = sym (ap (λ (t : Bool). cond t (NotANumberAt (first_nan xs)) (Refused r)) (ne_eqb (number_of r) 5 (λ e. b (a ∙ e))))
+pub told_same : (r : Refusal) (xs : List Float) {n : ℕ} → n ≡ number_of r → (n ≡ 5 → Prim.⊥) → Err (Refused r) ≡ told_of r xs
+told_same r xs a b = sym (ap (λ (t : Bool). cond t (Err (NotANumberAt (first_nan xs))) (Err (Refused r))) (ne_eqb (number_of r) 5 (λ e. b (a ∙ e))))
 
-pub record Told (b : Basis) (xs ks out end : List Float) (a : ManyAnswer) : Type 0 where
+pub record Told (b : Basis) (xs ks out end : List Float) (a : Result ⊤ ManyRefusal) : Type 0 where
   pub answer : a ≡ many_of b xs ks (length out)
   pub left : end ≡ left_by (many_of b xs ks (length out)) (values_of b xs ks) out
 
-pub written : (b : Basis) (xs ks out end : List Float) → first (many_uses b xs ks (length out)) ≡ Passed → end ≡ left_by Written (values_of b xs ks) out
-    → Told b xs ks out end Written
+pub written : (b : Basis) (xs ks out end : List Float) → first (many_uses b xs ks (length out)) ≡ Ok tt → end ≡ left_by (Ok tt) (values_of b xs ks) out
+    → Told b xs ks out end (Ok tt)
 unfolding many_of
 written b xs ks out end e h = record { answer = simp e; left = simp e h }
 
 kept : (r : Refusal) (xs l out : List Float) → left_by (told_of r xs) l out ≡ out
 kept r xs l out = go (eqb (number_of r) 5)
   where
-    go : (t : Bool) → left_by (cond t (NotANumberAt (first_nan xs)) (Refused r)) l out ≡ out
+    go : (t : Bool) → left_by (cond t (Err (NotANumberAt (first_nan xs))) (Err (Refused r))) l out ≡ out
     go true = refl
     go false = refl
 
-pub refused : (b : Basis) (xs ks out : List Float) (r : Refusal) {a : ManyAnswer} → first (many_uses b xs ks (length out)) ≡ Failed r → a ≡ told_of r xs
+pub refused : (b : Basis) (xs ks out : List Float) (r : Refusal) {a : Result ⊤ ManyRefusal} → first (many_uses b xs ks (length out)) ≡ Err r → a ≡ told_of r xs
     → Told b xs ks out out a
 unfolding many_of
 refused b xs ks out r e h = record { answer = h ∙ simp e; left = simp e (sym (kept r xs (values_of b xs ks) out)) }

@@ -1,36 +1,10 @@
 -- The scan of all parameters for a NaN, with a flag, and for the first. Assumes nothing.
-use Rattle.std.proofs.Common.{
-  ◌≡◌,
-  ℕ,
-  zero,
-  suc,
-  ◌+◌,
-  ◌<◌,
-  ◌≤◌,
-  Bool,
-  true,
-  false,
-  cond,
-  ◌||◌,
-  List,
-  [],
-  ◌∷◌,
-  length,
-  get_or,
-  drop,
-  sym,
-  refl,
-  ap,
-  ◌∙◌,
-  le_of_eq,
-  add-one,
-  arith,
-  drop_of_length-le,
-  drop-cons,
-}
-use lib.Ieee.{Float, nan, ne, is_nan}
+use Rattle.std.proofs.Common.{◌≡◌, ℕ, zero, suc, ◌+◌, ◌<◌, ◌≤◌, Bool, true, false, cond, ◌||◌, List, [], ◌∷◌, length, get_or, drop, sym, refl, ap, ◌∙◌, add-one, arith, drop_of_length-le, drop-cons}
+use Rattle.std.proofs.Common.{Option, MatchOption, HoldsAt, unwrap_or}
+use Rattle.std.specs.List.{AllWithin}
+use Rattle.std.proofs.lemmas.Iterator.{index_from_first}
+use lib.Ieee.{Float, nan, is_nan}
 use Rattle.error.proofs.First.{never}
-use Rattle.doubles.proofs.Order.{ne_itself}
 use Rattle.many.specs.Many.{some_nan, first_nan}
 
 or_assoc : (a b c : Bool) → ((a || b) || c) ≡ (a || (b || c))
@@ -42,13 +16,13 @@ or_false true = refl
 or_false false = refl
 
 -- one more parameter
-pub scanned : (xs : List Float) (i : ℕ) (found : Bool) → i < length xs → (found || some_nan (drop i xs)) ≡ some_nan xs
-    → ((found || ne (get_or xs i nan) (get_or xs i nan)) || some_nan (drop (i + 1) xs)) ≡ some_nan xs
+pub scanned : (xs : List Float) (i : ℕ) (found t : Bool) → i < length xs → (found || some_nan (drop i xs)) ≡ some_nan xs → t ≡ is_nan (get_or xs i nan)
+    → ((found || t) || some_nan (drop (i + 1) xs)) ≡ some_nan xs
 unfolding some_nan
-scanned xs i found h v =
+scanned xs i found t h v e =
     let d : some_nan (drop i xs) ≡ (is_nan (get_or xs i nan) || some_nan (drop (i + 1) xs)) = rw (add-one, drop-cons xs i nan) in
-    or_assoc found (ne (get_or xs i nan) (get_or xs i nan)) (some_nan (drop (i + 1) xs))
-    ∙ (ap (λ (z : Bool). found || (z || some_nan (drop (i + 1) xs))) (ne_itself (get_or xs i nan)) ∙ (ap (λ (z : Bool). found || z) (sym d) ∙ v))
+    or_assoc found t (some_nan (drop (i + 1) xs))
+    ∙ (ap (λ (z : Bool). found || (z || some_nan (drop (i + 1) xs))) e ∙ (ap (λ (z : Bool). found || z) (sym d) ∙ v))
 
 -- none is left
 pub scanned_all : (xs : List Float) (i : ℕ) (found : Bool) → length xs ≤ i → (found || some_nan (drop i xs)) ≡ some_nan xs → found ≡ some_nan xs
@@ -56,25 +30,13 @@ unfolding some_nan
 scanned_all xs i found h v = sym (or_false found) ∙ (rw (drop_of_length-le xs) at v)
 
 -- ---- the first
-pub passed_over : (xs : List Float) (i : ℕ) → i < length xs → i + first_nan (drop i xs) ≡ first_nan xs → ne (get_or xs i nan) (get_or xs i nan) ≡ false
-    → (i + 1) + first_nan (drop (i + 1) xs) ≡ first_nan xs
+pub nan_found : (xs : List Float) (r : Option ℕ)
+    → MatchOption r (AllWithin (λ x. is_nan x ≡ false) xs 0 (length xs))
+    (λ i. (i < length xs) × HoldsAt (λ x. is_nan x ≡ true) xs i × AllWithin (λ x. is_nan x ≡ false) xs 0 i)
+    → unwrap_or r (length xs) ≡ first_nan xs
 unfolding first_nan
-passed_over xs i h v e =
-    let d : first_nan (drop i xs) ≡ suc (first_nan (drop (i + 1) xs)) = rw (add-one, drop-cons xs i nan h) (simp (sym (ne_itself (get_or xs i nan)) ∙ e)) in
-    omega (arith, v, d)
-
-pub stopped_at : (xs : List Float) (i : ℕ) → i < length xs → i + first_nan (drop i xs) ≡ first_nan xs → ne (get_or xs i nan) (get_or xs i nan) ≡ true
-    → i ≡ first_nan xs
-unfolding first_nan
-stopped_at xs i h v e =
-    let d : first_nan (drop i xs) ≡ 0 = rw (drop-cons xs i nan h) (simp (sym (ne_itself (get_or xs i nan)) ∙ e)) in
-    omega (arith, v, d)
-
-pub none_nan : (xs : List Float) (i : ℕ) → i ≡ length xs → i + first_nan (drop i xs) ≡ first_nan xs → i ≡ first_nan xs
-unfolding first_nan
-none_nan xs i h v =
-    let q : first_nan (drop i xs) ≡ 0 = rw (drop_of_length-le xs {i = i} (le_of_eq (sym h))) in
-    omega (arith, v, q)
+nan_found xs r h = sym (index_from_first first_nan (λ x. is_nan x ≡ true) (λ x. is_nan x ≡ false) refl (λ x xs e. simp e)
+    (λ x xs e. rw e (sym (add-one _))) xs r h)
 
 -- ---- what the two say
 -- where none is NaN, each is a number

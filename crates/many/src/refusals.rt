@@ -4,45 +4,35 @@ ghost use Rattle.error.specs.Refusals.{first};
 ghost use Rattle.many.specs.Many.{some_nan, first_nan, many_uses};
 
 use basis::Basis;
-use error::{Refusal, Verdict};
+use error::Refusal;
 
 // No early exit: a flag is several times quicker on good parameters.
 fn some_nan(xs: &[f64]) -> bool
     ensures { result ≡ some_nan xs.now }
 {
     let mut found = false;
-    for i in 0..xs.len() {
-        found = found | (xs[i] != xs[i]);
+    for x in xs {
+        found |= x.is_nan();
     }
     found
 }
 
-// Which one; looked for only where one is.
+// Which one; looked for only where one is. No Option: whoever asks has the verdict that there is one.
 pub fn first_nan(xs: &[f64]) -> usize
     ensures { result ≡ first_nan xs.now }
 {
-    let mut i = 0;
-    while i < xs.len() {
-        if xs[i] != xs[i] {
-            return i;
-        }
-        i += 1;
-    }
-    i
+    xs.iter().position(|x| x.is_nan()).unwrap_or(xs.len())
 }
 
-pub fn verdict(b: Basis, xs: &[f64], knots: &[f64], room: usize) -> Verdict
+pub fn verdict(b: Basis, xs: &[f64], knots: &[f64], room: usize) -> Result<(), Refusal>
     ensures { result ≡ first (many_uses b xs.now knots.now room) }
 {
-    let l = checks::curve_length(b, knots.len());
-    let Verdict::Passed = l else {
-        return l;
-    };
+    checks::curve_length(b, knots.len())?;
     if some_nan(xs) {
-        return Verdict::Failed(Refusal::NotANumber);
+        return Err(Refusal::NotANumber);
     }
     if room < xs.len() {
-        return Verdict::Failed(Refusal::ShortBuffer);
+        return Err(Refusal::ShortBuffer);
     }
     checks::knots(knots)
 }

@@ -1,23 +1,19 @@
 // The values, once nothing is refused: first every parameter, clamped and scaled, into its place of the output; then its value there. The
 // steps are those of `spline::curve` once more, so that no single call shares code with these loops, and none is slower for them.
-ghost use Rattle.std.specs.Prelude.{◌≡◌, ◌<◌, ◌≤◌, false, map, length};
+ghost use Rattle.std.specs.Prelude.{◌≡◌, ◌<◌, ◌≤◌, false, map, length, Ok};
 ghost use Rattle.basis.specs.Basis.{most_knots, segments_of};
-ghost use Rattle.basis.specs.declared.Basis.TheVariants.{Bspline, Bezier, CatmullRom, Hermite, Linear, Power};
 ghost use Rattle.doubles.specs.Whole.{double};
 ghost use Rattle.spline.specs.Curve.{scaled};
 ghost use Rattle.many.specs.Many.{some_nan, values_of, left_by};
-ghost use Rattle.many.specs.declared.ManyAnswer.TheVariants.{Written};
 ghost use Rattle.many.specs.Contract.{laid, IsSpotOf, InScale, AllInScale, value_at};
 
 use basis::Basis;
+use basis::basis_macros::{Bezier, Bspline, CatmullRom, Hermite, Known, Linear, Power};
+use doubles::whole::{UNITS, UNITS_PATTERN};
 use spline::curve::Spot;
 
-// 1.5 × 2^52, and its pattern: the last bit of a double of this size counts units.
-const UNITS: f64 = 6755399441055744.0;
-
-const UNITS_PATTERN: u64 = 4843621399236968448;
-
-// A guess at the whole part of p, as in `doubles::whole`, without a test of its size. Nothing rests on it: `spot` tests it by comparing.
+// A guess at the whole part of p, as `doubles::whole::guess` makes it, without its tests: a scaled parameter does not need them, and is
+// guessed faster so. Nothing rests on it: `spot` tests it by comparing.
 fn guess(k: usize, p: f64) -> u64
     requires segments { k ≤ most_knots }
     requires scale { InScale k p }
@@ -56,7 +52,8 @@ fn spot(k: usize, p: f64) -> Spot
     far_spot(k, p)
 }
 
-// Every parameter, clamped and scaled.
+// Every parameter, clamped and scaled. By index, here and below: `out.iter_mut().zip(xs)` was tried, and the proof did not close, since
+// nothing is known of the places after such a loop.
 fn put_scaled(k: usize, xs: &[f64], out: &mut [f64])
     requires segments { k ≤ most_knots }
     requires room { length xs.now ≤ length out.old }
@@ -68,137 +65,42 @@ fn put_scaled(k: usize, xs: &[f64], out: &mut [f64])
     }
 }
 
-// The values of the first m places, a loop for each basis, so that its matrix and its step are known there.
-fn bspline_values(k: usize, m: usize, knots: &[f64], out: &mut [f64])
-    requires segments { k ≡ segments_of Bspline (length knots.now) }
+// The values of the first m places on a curve of basis B: a loop for each, in which its matrix and its step are constants.
+fn put_in_place<B: Known>(k: usize, m: usize, knots: &[f64], out: &mut [f64])
+    requires segments { k ≡ segments_of B.basis (length knots.now) }
     requires enough { 4 ≤ length knots.now }
     requires most { length knots.now ≤ most_knots }
     requires room { m ≤ length out.old }
     requires scale { AllInScale k m out.old }
-    ensures { out.new ≡ laid m (map (value_at Bspline knots.now) out.old)
-        out.old }
+    ensures { out.new ≡ laid m (map (value_at B.basis knots.now) out.old) out.old }
 {
-    let step = basis::step(Basis::Bspline);
+    let terms = B::terms();
     for i in 0..m {
         let z = spot(k, out[i]);
         let s = z.s;
-        let start = s * step;
-        let w = spline::segment::sums(basis::basis_macros::bspline(), &knots[start..]);
+        let start = s * terms.step;
+        let w = spline::segment::sums(terms.matrix, &knots[start..]);
         out[i] = spline::segment::horner(w, z.t);
     }
 }
 
-fn bezier_values(k: usize, m: usize, knots: &[f64], out: &mut [f64])
-    requires segments { k ≡ segments_of Bezier (length knots.now) }
-    requires enough { 4 ≤ length knots.now }
-    requires most { length knots.now ≤ most_knots }
-    requires room { m ≤ length out.old }
-    requires scale { AllInScale k m out.old }
-    ensures { out.new ≡ laid m (map (value_at Bezier knots.now) out.old)
-        out.old }
-{
-    let step = basis::step(Basis::Bezier);
-    for i in 0..m {
-        let z = spot(k, out[i]);
-        let s = z.s;
-        let start = s * step;
-        let w = spline::segment::sums(basis::basis_macros::bezier(), &knots[start..]);
-        out[i] = spline::segment::horner(w, z.t);
-    }
-}
-
-fn catmull_rom_values(k: usize, m: usize, knots: &[f64], out: &mut [f64])
-    requires segments { k ≡ segments_of CatmullRom (length knots.now) }
-    requires enough { 4 ≤ length knots.now }
-    requires most { length knots.now ≤ most_knots }
-    requires room { m ≤ length out.old }
-    requires scale { AllInScale k m out.old }
-    ensures { out.new ≡ laid m (map (value_at CatmullRom knots.now) out.old)
-        out.old }
-{
-    let step = basis::step(Basis::CatmullRom);
-    for i in 0..m {
-        let z = spot(k, out[i]);
-        let s = z.s;
-        let start = s * step;
-        let w = spline::segment::sums(basis::basis_macros::catmull_rom(), &knots[start..]);
-        out[i] = spline::segment::horner(w, z.t);
-    }
-}
-
-fn hermite_values(k: usize, m: usize, knots: &[f64], out: &mut [f64])
-    requires segments { k ≡ segments_of Hermite (length knots.now) }
-    requires enough { 4 ≤ length knots.now }
-    requires most { length knots.now ≤ most_knots }
-    requires room { m ≤ length out.old }
-    requires scale { AllInScale k m out.old }
-    ensures { out.new ≡ laid m (map (value_at Hermite knots.now) out.old)
-        out.old }
-{
-    let step = basis::step(Basis::Hermite);
-    for i in 0..m {
-        let z = spot(k, out[i]);
-        let s = z.s;
-        let start = s * step;
-        let w = spline::segment::sums(basis::basis_macros::hermite(), &knots[start..]);
-        out[i] = spline::segment::horner(w, z.t);
-    }
-}
-
-fn linear_values(k: usize, m: usize, knots: &[f64], out: &mut [f64])
-    requires segments { k ≡ segments_of Linear (length knots.now) }
-    requires enough { 4 ≤ length knots.now }
-    requires most { length knots.now ≤ most_knots }
-    requires room { m ≤ length out.old }
-    requires scale { AllInScale k m out.old }
-    ensures { out.new ≡ laid m (map (value_at Linear knots.now) out.old)
-        out.old }
-{
-    let step = basis::step(Basis::Linear);
-    for i in 0..m {
-        let z = spot(k, out[i]);
-        let s = z.s;
-        let start = s * step;
-        let w = spline::segment::sums(basis::basis_macros::linear(), &knots[start..]);
-        out[i] = spline::segment::horner(w, z.t);
-    }
-}
-
-fn power_values(k: usize, m: usize, knots: &[f64], out: &mut [f64])
-    requires segments { k ≡ segments_of Power (length knots.now) }
-    requires enough { 4 ≤ length knots.now }
-    requires most { length knots.now ≤ most_knots }
-    requires room { m ≤ length out.old }
-    requires scale { AllInScale k m out.old }
-    ensures { out.new ≡ laid m (map (value_at Power knots.now) out.old)
-        out.old }
-{
-    let step = basis::step(Basis::Power);
-    for i in 0..m {
-        let z = spot(k, out[i]);
-        let s = z.s;
-        let start = s * step;
-        let w = spline::segment::sums(basis::basis_macros::power(), &knots[start..]);
-        out[i] = spline::segment::horner(w, z.t);
-    }
-}
-
+// A match here and not `by_basis`: tried, and the proof did not close, since nothing is known of the lent places after a closure took them.
 pub fn put_values(b: Basis, xs: &[f64], knots: &[f64], out: &mut [f64])
     requires enough { 4 ≤ length knots.now }
     requires most { length knots.now ≤ most_knots }
     requires numbers { some_nan xs.now ≡ false }
     requires room { length xs.now ≤ length out.old }
-    ensures { out.new ≡ left_by Written (values_of b xs.now knots.now) out.old }
+    ensures { out.new ≡ left_by (Ok tt) (values_of b xs.now knots.now) out.old }
 {
     let k = basis::segments(b, knots.len());
     put_scaled(k, xs, &mut *out);
     let m = xs.len();
     match b {
-        Basis::Bspline => bspline_values(k, m, knots, out),
-        Basis::Bezier => bezier_values(k, m, knots, out),
-        Basis::CatmullRom => catmull_rom_values(k, m, knots, out),
-        Basis::Hermite => hermite_values(k, m, knots, out),
-        Basis::Linear => linear_values(k, m, knots, out),
-        Basis::Power => power_values(k, m, knots, out),
+        Basis::Bspline => put_in_place::<Bspline>(k, m, knots, out),
+        Basis::Bezier => put_in_place::<Bezier>(k, m, knots, out),
+        Basis::CatmullRom => put_in_place::<CatmullRom>(k, m, knots, out),
+        Basis::Hermite => put_in_place::<Hermite>(k, m, knots, out),
+        Basis::Linear => put_in_place::<Linear>(k, m, knots, out),
+        Basis::Power => put_in_place::<Power>(k, m, knots, out),
     }
 }

@@ -1,4 +1,6 @@
 -- Rows that turn back: the call tells the segment between the first two that do, for every other segment goes with its own rows. Assumes nothing.
+use Rattle.turns_back.specs.declared.Turning.TheVariants.{At}
+use Rattle.std.specs.Prelude.{Ok}
 use mathlib.Core.Path.{◌≡◌, refl, sym, subst}
 use mathlib.Core.Logic.{inr}
 use mathlib.Core.Bool.{Bool, true, false}
@@ -13,7 +15,6 @@ use Rattle.basis.specs.declared.Basis.TheVariants.{Hermite}
 use Rattle.whole.specs.Held.{turned_all}
 use Rattle.whole.proofs.Differences.{itself, times, le, of_le, not_le}
 use Rattle.whole.proofs.Held.{turned_long}
-use Rattle.turns_back.specs.declared.Turning.TheVariants.{At}
 use Rattle.turns_back.specs.Curve.{curve_at}
 use Rattle.turns_back.specs.Call.{turns_back_by_of}
 use Rattle.turns_back.proofs.Answer.{before, after, falls_at, in_order_before, turns_somewhere}
@@ -50,7 +51,7 @@ pub record FirstBack (t : Bool) (z : List ℤ) (s : ℕ) : Type 0 where
   pub against : after t (get_or z s (pos 0)) (get_or z (suc s) (pos 0))
   pub before_it : (i : ℕ) → i < s → before t (get_or z i (pos 0)) (get_or z (suc i) (pos 0))
 
-pub rows_told : (t : Bool) (z : List ℤ) (s : ℕ) → 2 ≤ length z → turns_back_by_of Hermite t (table_of z) ≡ At s → FirstBack t z s
+pub rows_told : (t : Bool) (z : List ℤ) (s : ℕ) → 2 ≤ length z → turns_back_by_of Hermite t (table_of z) ≡ Ok (At s) → FirstBack t z s
 rows_told t z s m e =
     let g = (turns_somewhere Hermite t (table_of z) s e).inside in
     let h : suc s < length z = omega (arith, g, segments_are z m) in

@@ -1,5 +1,6 @@
 -- The library's own evaluation in doubles, over rows of at most 2^19: at the 256ths of its segments it rounds nothing, so that its answers are in order too.
 -- Assumes nothing.
+use Rattle.std.specs.Prelude.{Ok}
 use mathlib.Core.Path.{◌≡◌, refl, sym, ap, ◌∙◌, subst}
 use mathlib.Core.Logic.{⊎_elim}
 use mathlib.Core.Bool.{Bool, true, false}
@@ -18,15 +19,12 @@ use lib.Ieee.Order.{transfer}
 use Rattle.doubles.specs.Number.{signed, Number}
 use Rattle.doubles.proofs.Order.{Le, of_Le, gone}
 use Rattle.doubles.proofs.WholePart.{whole_le}
-use Rattle.error.specs.declared.Verdict.TheVariants.{Passed}
 use Rattle.error.specs.Refusals.{first}
 use Rattle.basis.specs.declared.Basis.TheVariants.{Hermite}
 use Rattle.basis.specs.Basis.{segments_of, whole_of}
 use Rattle.checks.specs.Checks.{curve_length}
-use Rattle.spline.specs.declared.Evaluation.{Evaluation}
-use Rattle.spline.specs.declared.Evaluation.TheVariants.{Value}
 use Rattle.spline.specs.Curve.{segment_at, local_at}
-use Rattle.spline.specs.Evaluation.{spline_of, spline_segment_of}
+use Rattle.spline.specs.Evaluation.{spline_of, spline_segment_of, Evaluation}
 use Rattle.spline_exact.specs.Cubic.{at, cubic}
 use Rattle.spline_exact.specs.Exact.{twice, exact_of, Answers}
 use Rattle.spline_exact.proofs.Call.{doubles_of, knots_met, place_met, segment_answers, curve_answers}
@@ -139,8 +137,8 @@ number_order false x y p u v h = number_le y x p v u h
 pub record Ordered (t : Bool) (r r' : Evaluation) : Type 0 where
   pub value : Float
   pub value' : Float
-  pub told : r ≡ Value value
-  pub told' : r' ≡ Value value'
+  pub told : r ≡ Ok value
+  pub told' : r' ≡ Ok value'
   pub order : in_order t value value'
 
 module _ (t : Bool) (z : List ℤ) (m : 2 ≤ length z) (f : length z ≤ 2048) (small : (i : ℕ) → i < length z → nat_abs (get_or z i (pos 0)) ≤ 2 ^ 19)
@@ -159,7 +157,7 @@ module _ (t : Bool) (z : List ℤ) (m : 2 ≤ length z) (f : length z ≤ 2048) 
   few : Small most z
   few = record { each = λ i h. let l = small i h in omega (arith, l) }
 
-  lengths : first (curve_length Hermite (length ks)) ≡ Passed
+  lengths : first (curve_length Hermite (length ks)) ≡ Ok tt
   lengths = ap (λ (n : ℕ). first (curve_length Hermite n)) (doubles_long (table_of z)) ∙ lengths_pass z m f
 
   parts_are : parts ≡ segments_of Hermite (length (table_of z))

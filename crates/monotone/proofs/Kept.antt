@@ -1,4 +1,6 @@
 -- What the table's curve promises: between two rows it never goes against them; over rows in order it keeps their direction throughout. Assumes nothing.
+use Rattle.turns_back.specs.declared.Turning.TheVariants.{Never}
+use Rattle.std.specs.Prelude.{Ok, Err}
 use mathlib.Core.Path.{◌≡◌, refl, sym, ap, ◌∙◌, subst}
 use mathlib.Core.Bool.{Bool, true, false}
 use mathlib.Core.List.{List, ◌++◌}
@@ -9,9 +11,7 @@ use lib.ListN.{length, drop, get_or}
 use lib.Signed.{◌≤ℤ◌}
 use lib.Ieee.Fits.{and_r}
 use borrow.Author.Tests.{le-ltb, eq-eqb}
-use Rattle.error.specs.declared.Verdict.{Verdict}
-use Rattle.error.specs.declared.Verdict.TheVariants.{Passed, Failed}
-use Rattle.error.specs.Refusals.{first}
+use Rattle.error.specs.Refusals.{first, Verdict}
 use Rattle.error.proofs.First.{never}
 use Rattle.basis.specs.declared.Basis.TheVariants.{Hermite}
 use Rattle.basis.specs.Basis.{segments_of}
@@ -20,7 +20,6 @@ use Rattle.turns_back.specs.Curve.{cubic_never_falls, coefficient, curve_at, sta
 use Rattle.turns_back.specs.Call as turning
 use Rattle.whole.specs.Held.{turned, turned_all, Small}
 use Rattle.turns_back.specs.Call.{turning_uses, turns_back_by_of}
-use Rattle.turns_back.specs.declared.Turning.TheVariants.{Never}
 use Rattle.turns_back.proofs.Segment.{rises}
 use Rattle.turns_back.proofs.Everywhere.{NotAfter}
 use Rattle.whole.proofs.Held.{turned_long, same_all, small_all}
@@ -29,7 +28,6 @@ use Rattle.turns_back.proofs.Answer as answer
 use Rattle.turns_back.proofs.Answer.{before, in_order_everywhere}
 use Rattle.turns_back.proofs.InOrder.{InOrder, back_order, turn_pair, none_turns}
 use Rattle.monotone.specs.Table.{pairs, most, table_of, table_uses, made, left, made_of, left_of}
-use Rattle.monotone.specs.declared.Made.TheVariants.{Wrote}
 use Rattle.monotone.proofs.Sizes.{slope_within}
 use Rattle.monotone.proofs.Pairs.{table_long}
 use Rattle.monotone.proofs.Verdicts.{passed}
@@ -81,7 +79,7 @@ knots_within z k e m (suc c) i h zero l = let s = e i (omega arith) in omega (ar
 knots_within z k e m (suc c) i h (suc zero) l = slope_within z k e m i (omega arith)
 knots_within z k e m (suc c) i h (suc (suc n)) l = knots_within z k e m c (suc i) (omega arith) n (omega arith)
 
-pub lengths_pass : (z : List ℤ) → 2 ≤ length z → length z ≤ 2048 → first (curve_length Hermite (length (table_of z))) ≡ Passed
+pub lengths_pass : (z : List ℤ) → 2 ≤ length z → length z ≤ 2048 → first (curve_length Hermite (length (table_of z))) ≡ Ok tt
 lengths_pass z m f =
     rw (table_long z)
     (simp (le-ltb (2 * length z) 4 (omega arith), eq-eqb ((2 * length z - 4) % 2) 0 (even (length z) m), le-ltb 4096 (2 * length z) (omega arith)))
@@ -96,26 +94,26 @@ segments_are z m = ap (λ (n : ℕ). segments_of Hermite n) (table_long z) ∙ h
     halves n h = omega arith
 
 module _ (z : List ℤ) (m : 2 ≤ length z) (f : length z ≤ 2048) (s : Small most z) where
-  table_passes : Passed ≡ first (turning_uses Hermite (table_of z))
+  table_passes : Ok tt ≡ first (turning_uses Hermite (table_of z))
   table_passes =
-      passes Hermite (table_of z) {l = Passed} (sym (lengths_pass z m f)) refl
+      passes Hermite (table_of z) {l = Ok tt} (sym (lengths_pass z m f)) refl
       (small_all turning.most (table_of z) (knots_within z most s.each m (length z) 0 (omega arith)))
 
   segments_of_lem : segments_of Hermite (length (table_of z)) ≡ length z - 1
   segments_of_lem = segments_are z m
 
-  pub never_turns : (t : Bool) → InOrder t z → turns_back_by_of Hermite t (table_of z) ≡ Never
+  pub never_turns : (t : Bool) → InOrder t z → turns_back_by_of Hermite t (table_of z) ≡ Ok Never
   never_turns t o =
       none_turns Hermite t (table_of z) (sym table_passes)
       (λ i l. rw (table_turned t z) (climbing.climbs (turned_all t z) i (omega (arith, turned_long t z, segments_of_lem, l))
       (turn_pair t z i (suc i) (o.each i (omega (arith, segments_of_lem, l))))))
 
 -- ---- of a call that wrote
-told : (v : Verdict) (n k : ℕ) → made v n ≡ Wrote k → v ≡ Passed
-told Passed n k e = refl
-told (Failed r) n k e = never (cc)
+told : (v : Verdict) (n k : ℕ) → made v n ≡ Ok k → v ≡ Ok tt
+told (Ok _) n k e = refl
+told (Err r) n k e = never (cc)
 
-pub wrote_table : (z old : List ℤ) (k : ℕ) → made_of z (length old) ≡ Wrote k → (k ≡ 2 * length z) × (left_of z old ≡ table_of z ++ drop (2 * length z) old)
+pub wrote_table : (z old : List ℤ) (k : ℕ) → made_of z (length old) ≡ Ok k → (k ≡ 2 * length z) × (left_of z old ≡ table_of z ++ drop (2 * length z) old)
 unfolding made_of left_of
 wrote_table z old k e = (
   count (first (table_uses z (length old))) (2 * length z) e,
@@ -123,16 +121,16 @@ wrote_table z old k e = (
       ∙ ap (λ (n : ℕ). table_of z ++ drop n old) (table_long z),
 )
   where
-    count : (v : Verdict) (n : ℕ) → made v n ≡ Wrote k → k ≡ n
-    count Passed n e = cc
-    count (Failed r) n e = never (cc)
+    count : (v : Verdict) (n : ℕ) → made v n ≡ Ok k → k ≡ n
+    count (Ok _) n e = cc
+    count (Err r) n e = never (cc)
 
-pub wrote_never_turns : (t : Bool) (z : List ℤ) (o k : ℕ) → made_of z o ≡ Wrote k → InOrder t z → turns_back_by_of Hermite t (table_of z) ≡ Never
+pub wrote_never_turns : (t : Bool) (z : List ℤ) (o k : ℕ) → made_of z o ≡ Ok k → InOrder t z → turns_back_by_of Hermite t (table_of z) ≡ Ok Never
 unfolding made_of
 wrote_never_turns t z o k e i = let p = passed z o (told (first (table_uses z o)) (2 * length z) k e) in never_turns z p.many p.few p.small t i
 
 -- of two places the later is never on the wrong side of the earlier: the values, each multiplied by both numbers of parts, cubed
-pub wrote_in_order : (t : Bool) (z : List ℤ) (o k : ℕ) → made_of z o ≡ Wrote k → InOrder t z → (s n j s' n' j' : ℕ) → suc s' < length z
+pub wrote_in_order : (t : Bool) (z : List ℤ) (o k : ℕ) → made_of z o ≡ Ok k → InOrder t z → (s n j s' n' j' : ℕ) → suc s' < length z
     → NotAfter s n j s' n' j'
     → before t (curve_at Hermite (table_of z) s n j *ℤ pos (n' * n' * n')) (curve_at Hermite (table_of z) s' n' j' *ℤ pos (n * n * n))
 unfolding made_of

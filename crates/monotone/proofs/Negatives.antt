@@ -2,12 +2,9 @@
 use mathlib.Core.Path.{◌≡◌, refl, sym, ap, ◌∙◌, subst}
 use Prim.Native.Nat.{ℕ, zero, suc, ◌≤◌}
 use lib.Dec.{lit<}
-use lib.IntN.{ℤ, pos, neg_ℤ, nat_abs, ◌-ℤ◌, +ℤ_idl}
-use mir.Syntax.{w64}
-use mir.Val.{SFits}
-use mir.Facts.{to_z-of_z}
+use lib.IntN.{ℤ, pos, neg_ℤ, nat_abs}
 use Rattle.whole.specs.Held.{held}
-use Rattle.whole.proofs.Held.{fits, back}
+use Rattle.whole.proofs.Held.{back}
 
 pub size_down : (m : ℕ) → nat_abs (neg_ℤ (pos m)) ≡ m
 size_down zero = refl
@@ -22,12 +19,3 @@ module _ (m : ℕ) (h : m ≤ 1000000000000) where
 
   pub down_held : (r : ℤ) → r ≡ neg_ℤ (pos m) → held r ≡ neg_ℤ (pos m)
   down_held r e = ap held e ∙ back (neg_ℤ (pos m)) 1000000000000 down_le (lit< tt)
-
-  less : (r : ℤ) → r ≡ pos m → pos 0 -ℤ held r ≡ neg_ℤ (pos m)
-  less r e = ap (λ (z : ℤ). pos 0 -ℤ z) (up_held r e) ∙ +ℤ_idl (neg_ℤ (pos m))
-
-  pub down_fits : (r : ℤ) → r ≡ pos m → SFits w64 (pos 0 -ℤ held r)
-  down_fits r e = subst (λ (z : ℤ). SFits w64 z) (sym (less r e)) (fits (neg_ℤ (pos m)) 1000000000000 down_le (lit< tt))
-
-  pub down_is : (r : ℤ) → r ≡ pos m → held (pos 0 -ℤ held r) ≡ neg_ℤ (pos m)
-  down_is r e = to_z-of_z (down_fits r e) ∙ less r e

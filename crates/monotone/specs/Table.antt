@@ -1,13 +1,10 @@
 -- The call: the refusals, then the table. Definitions only.
-use Rattle.std.specs.Prelude.{List, [], ◌∷◌, ◌++◌, ℕ, zero, suc, ◌*◌, ltb, ℤ, pos, length, drop, get_or}
+use Rattle.error.specs.declared.Refusal.{Refusal}
+use Rattle.std.specs.Prelude.{List, [], ◌∷◌, ◌++◌, ℕ, zero, suc, ◌*◌, ltb, ℤ, pos, length, drop, get_or, Ok, Err, Result}
 use Rattle.error.specs.declared.Refusal.TheVariants.{TooFew, TooMany, ShortBuffer, BadKnot}
-use Rattle.error.specs.declared.Verdict.{Verdict}
-use Rattle.error.specs.declared.Verdict.TheVariants.{Passed, Failed}
-use Rattle.error.specs.Refusals.{Uses, first}
+use Rattle.error.specs.Refusals.{Uses, first, Verdict}
 use Rattle.whole.specs.Held.{first_large}
 use Rattle.monotone.specs.Slope.{slope_at}
-use Rattle.monotone.specs.declared.Made.{Made}
-use Rattle.monotone.specs.declared.Made.TheVariants.{Refused, Wrote}
 
 -- depth and slope of k rows from row i on
 unfoldable pub pairs : List ℤ → ℕ → ℕ → List ℤ
@@ -29,16 +26,16 @@ table_uses z o =
     (TooFew, ltb (length z) 2) ∷ (TooMany, ltb 2048 (length z)) ∷ (ShortBuffer, ltb o (2 * length z))
     ∷ (BadKnot (first_large most z), ltb (first_large most z) (length z)) ∷ []
 
-abbrev pub made : Verdict → ℕ → Made
-made Passed n = Wrote n
-made (Failed r) n = Refused r
+abbrev pub made : Verdict → ℕ → Result ℕ Refusal
+made (Ok _) n = Ok n
+made (Err r) n = Err r
 
 abbrev pub left : Verdict → List ℤ → List ℤ → List ℤ
-left Passed t old = t ++ drop (length t) old
-left (Failed r) t old = old
+left (Ok _) t old = t ++ drop (length t) old
+left (Err r) t old = old
 
 -- the call's answer
-unfoldable pub made_of : List ℤ → ℕ → Made
+unfoldable pub made_of : List ℤ → ℕ → Result ℕ Refusal
 unfolding first_large
 made_of z o = made (first (table_uses z o)) (2 * length z)
 

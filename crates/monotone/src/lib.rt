@@ -8,23 +8,7 @@ ghost use Rattle.whole.specs.Held.{held_all, small, first_large, Small};
 ghost use Rattle.monotone.specs.Slope.{limited, between, slope_at};
 ghost use Rattle.monotone.specs.Table.{most, table_of, table_uses, made_of, left_of};
 
-use error::{Refusal, Verdict};
-
-#[derive(Clone, Copy)]
-pub enum Made {
-    Refused(Refusal),
-    Wrote(usize),
-}
-
-// The smaller of two sizes.
-fn smaller(a: u64, b: u64) -> u64
-    ensures { result ≡ min a b }
-{
-    if a <= b {
-        return a;
-    }
-    b
-}
+use error::Refusal;
 
 // The size of a slope between two steps of these sizes: their half, but at most three times the smaller.
 fn limit(a: u64, b: u64) -> u64
@@ -33,7 +17,7 @@ fn limit(a: u64, b: u64) -> u64
     ensures is { result ≡ limited a b }
     ensures most { result ≤ 1000000000000 }
 {
-    smaller((a + b) / 2, 3 * smaller(a, b))
+    ((a + b) / 2).min(3 * a.min(b))
 }
 
 // The size as a step up.
@@ -49,7 +33,7 @@ pub fn down(m: u64) -> i64
     requires { m ≤ 1000000000000 }
     ensures { result ≡ neg_ℤ (pos m) }
 {
-    0 - up(m)
+    -up(m)
 }
 
 // The slope between the steps from x to x1 and from y to y1.
@@ -81,26 +65,6 @@ fn raised(k: i64) -> u64
     whole::raised(500000000000, true, k)
 }
 
-// The row before, or the first row itself.
-fn previous(i: usize) -> usize
-    ensures { result ≡ i - 1 }
-{
-    if i == 0 {
-        return 0;
-    }
-    i - 1
-}
-
-// The row, or the last one if it lies beyond.
-fn within(i: usize, last: usize) -> usize
-    ensures { result ≡ min i last }
-{
-    if i <= last {
-        return i;
-    }
-    last
-}
-
 // The slope at row i, by the steps before and after it; at the first and the last row by the one step that there is.
 fn slope_at(rows: &[i64], i: usize) -> i64
     requires many { 2 ≤ length rows.now }
@@ -108,8 +72,8 @@ fn slope_at(rows: &[i64], i: usize) -> i64
     requires small { Small most (held_all rows.now) }
     ensures { result ≡ slope_at (held_all rows.now) i }
 {
-    let l = previous(i);
-    let h = within(i, rows.len() - 2);
+    let l = i.saturating_sub(1);
+    let h = i.min(rows.len() - 2);
     let x = raised(rows[l]);
     let x1 = raised(rows[l + 1]);
     let y = raised(rows[h]);
@@ -125,46 +89,37 @@ fn fill(rows: &[i64], out: &mut [i64])
     requires small { Small most (held_all rows.now) }
     ensures { out.new ≡ table_of (held_all rows.now) ++ drop (2 * length rows.now) out.old }
 {
-    let mut i = 0;
-    while i < rows.len() {
-        let m = slope_at(rows, i);
-        out[2 * i] = rows[i];
-        out[2 * i + 1] = m;
-        i += 1;
+    for (i, row) in rows.iter().enumerate() {
+        out[2 * i] = *row;
+        out[2 * i + 1] = slope_at(rows, i);
     }
 }
 
 // Refusals 1, 3, 9 and 4.
-fn verdict(rows: &[i64], room: usize) -> Verdict
+fn verdict(rows: &[i64], room: usize) -> Result<(), Refusal>
     ensures { result ≡ first (table_uses (held_all rows.now) room) }
 {
     if rows.len() < 2 {
-        return Verdict::Failed(Refusal::TooFew);
+        return Err(Refusal::TooFew);
     }
     if 2048 < rows.len() {
-        return Verdict::Failed(Refusal::TooMany);
+        return Err(Refusal::TooMany);
     }
     if room < 2 * rows.len() {
-        return Verdict::Failed(Refusal::ShortBuffer);
+        return Err(Refusal::ShortBuffer);
     }
-    let i = whole::first_large(500000000000, rows);
-    if i < rows.len() {
-        return Verdict::Failed(Refusal::BadKnot(i as u16));
+    if let Some(i) = whole::first_large(500000000000, rows) {
+        return Err(Refusal::BadKnot(i as u16));
     }
-    Verdict::Passed
+    Ok(())
 }
 
 // Hermite's knots for the rows: depth, slope, depth, slope, .. A refusal writes nothing.
-pub fn monotone(rows: &[i64], out: &mut [i64]) -> Made
+pub fn monotone(rows: &[i64], out: &mut [i64]) -> Result<usize, Refusal>
     ensures answer { result ≡ made_of (held_all rows.now) (length out.old) }
     ensures out { out.new ≡ left_of (held_all rows.now) out.old }
 {
-    let v = verdict(rows, out.len());
-    match v {
-        Verdict::Failed(r) => Made::Refused(r),
-        Verdict::Passed => {
-            fill(rows, out);
-            Made::Wrote(2 * rows.len())
-        }
-    }
+    verdict(rows, out.len())?;
+    fill(rows, out);
+    Ok(2 * rows.len())
 }

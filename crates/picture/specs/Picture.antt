@@ -1,19 +1,17 @@
 -- The picture of a table and of the finds asked of it, as the bytes of an SVG. Definitions only.
-use Rattle.std.specs.Prelude.{cond, List, [], ◌++◌, ℕ, zero, suc, ◌+◌, length, get_or, Float}
+use Rattle.error.specs.declared.Refusal.{Refusal}
+use Rattle.std.specs.Prelude.{cond, List, [], ◌++◌, ℕ, zero, suc, ◌+◌, length, get_or, Float, Ok, Err, Option}
 use Rattle.std.specs.Float.{nan}
 use Rattle.basis.specs.declared.Basis.{Basis}
 use Rattle.doubles.specs.Numbers.{nought}
 use Rattle.inverse_order.specs.declared.EndsBy.{EndsBy}
-use Rattle.spline.specs.Evaluation.{spline_of}
-use Rattle.spline.specs.declared.Evaluation.{Evaluation}
-use Rattle.spline.specs.declared.Evaluation.TheVariants as E
+use Rattle.spline.specs.Evaluation.{spline_of, Evaluation}
 use Rattle.table_span.specs.declared.Table.{Table}
 use Rattle.text.specs.Text.{bytes}
 use Rattle.picture_scale.specs.declared.Extent.{Extent}
 use Rattle.picture_scale.specs.Scale.{height_of, curve_height, column_of, pieces_of, shown, knot_column, extent_of}
 use Rattle.picture_scale.specs.Words.{point_text, dot_text}
 use Rattle.picture_axes.specs.Axes.{depth_axis, time_axis, time_name}
-use Rattle.picture_notes.specs.declared.Fault.{Fault}
 use Rattle.picture_notes.specs.Notes.{note_text, fault_text}
 use Rattle.picture_finds.specs.Finds.{finds_text}
 
@@ -45,8 +43,8 @@ curve_text span m b ks l =
 
 -- the curve, unless the table is refused
 abbrev pub body_in : ℕ → EndsBy → Basis → List Float → List Float → Evaluation → List ℕ
-body_in span m b ks l (E.Value v) = curve_text span m b ks l
-body_in span m b ks l (E.Refused r) = note_text b (length ks) 0 (bytes "table") r
+body_in span m b ks l (Ok v) = curve_text span m b ks l
+body_in span m b ks l (Err r) = note_text b (length ks) 0 (bytes "table") r
 
 unfoldable pub head_text : List ℕ
 head_text =
@@ -58,7 +56,7 @@ head_text =
     ".k{stroke:#d9730d;stroke-width:100;stroke-linecap:round}.p{stroke:#2e9e5b;stroke-width:120;stroke-linecap:round}.r{stroke:#e5484d;stroke-dasharray:60 40}text.f{fill:#2e9e5b;stroke:none}text.r{fill:#e5484d;stroke:none}</style>\n"
     ++ bytes "<path d=\"M1000,400V6400H9600\"/><text x=\"1000\" y=\"300\">depth</text><text class=\"e\" x=\"9600\" y=\"6850\">"
 
-unfoldable pub picture_text : Table → EndsBy → List Float → List Float → Fault → List ℕ
+unfoldable pub picture_text : Table → EndsBy → List Float → List Float → Option Refusal → List ℕ
 picture_text t m ks l fault =
     head_text ++ time_name t.span ++ time_axis t.span
     ++ body_in t.span m t.basis ks l (spline_of t.basis nought ks) ++ fault_text t.basis (length ks) fault ++ bytes "</svg>\n"

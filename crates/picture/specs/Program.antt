@@ -1,5 +1,6 @@
 -- The program: a listing in, its last table's picture at the end. Definitions only.
-use Rattle.std.specs.Prelude.{List, [], ℕ, Float}
+use Rattle.error.specs.declared.Refusal.{Refusal}
+use Rattle.std.specs.Prelude.{List, [], ℕ, Float, Some, None, Option}
 use Rattle.basis.specs.declared.Basis.TheVariants.{Linear}
 use Rattle.inverse_order.specs.declared.EndsBy.TheVariants.{Knots}
 use Rattle.lines_answer.specs.Answer.{Curve, none, on, bare, reply_to}
@@ -9,8 +10,6 @@ use Rattle.lines.specs.Lines.{says}
 use Rattle.lines_record.specs.declared.Record.{Record}
 use Rattle.lines_record.specs.declared.Record.TheVariants.{Curve as CurveOf, Span, Knot, Ends, At, Find, Turn, Bad}
 use Rattle.lines_reply.specs.Reply.{Reply, silence, refused, value, place, curve}
-use Rattle.picture_notes.specs.declared.Fault.{Fault}
-use Rattle.picture_notes.specs.declared.Fault.TheVariants as F
 use Rattle.picture_finds.specs.Finds.{asked}
 use Rattle.picture.specs.Picture.{picture_text}
 
@@ -18,11 +17,11 @@ use Rattle.picture.specs.Picture.{picture_text}
 pub record Drawing : Type 0 where
   pub curve : Curve
   pub finds : List Float
-  pub fault : Fault
+  pub fault : Option Refusal
 
 -- before the first line
 abbrev pub nothing_drawn : Drawing
-nothing_drawn = record { curve = none; finds = []; fault = F.Nothing }
+nothing_drawn = record { curve = none; finds = []; fault = None }
 
 -- a new curve has been asked nothing yet
 abbrev pub finds_after : List Float → Record → List Float
@@ -48,16 +47,16 @@ told_of (on t m ks) (Turn c) = reply_to (on t m ks) (Turn c)
 told_of (on t m ks) Bad = reply_to (on t m ks) Bad
 
 -- a line that is refused
-abbrev pub fault_in : Fault → Reply → Fault
-fault_in f (refused r) = F.Is r
+abbrev pub fault_in : Option Refusal → Reply → Option Refusal
+fault_in f (refused r) = Some r
 fault_in f silence = f
 fault_in f (value x) = f
 fault_in f (place x g n ss) = f
 fault_in f (curve b ss l) = f
 
 -- a new curve has no fault yet
-abbrev pub fault_after : Fault → Record → Reply → Fault
-fault_after f (CurveOf c) a = F.Nothing
+abbrev pub fault_after : Option Refusal → Record → Reply → Option Refusal
+fault_after f (CurveOf c) a = None
 fault_after f (Span s) a = fault_in f a
 fault_after f (Knot x) a = fault_in f a
 fault_after f (Ends k) a = fault_in f a
@@ -71,7 +70,7 @@ drawn d r =
     record { curve = curve_after d.curve r; finds = finds_after d.finds r; fault = fault_after d.fault r (told_of d.curve r) }
 
 -- no curve at all is drawn as an empty one
-unfoldable pub ends_with : Curve → List Float → Fault → List ℕ
+unfoldable pub ends_with : Curve → List Float → Option Refusal → List ℕ
 ends_with none l fault = picture_text (bare Linear) Knots [] l fault
 ends_with (on t m ks) l fault = picture_text t m ks l fault
 

@@ -1,30 +1,31 @@
 // A listing in, the picture of its last table out, as SVG.
 #![tactic(auto)]
 
-ghost use Rattle.std.specs.Prelude.{◌≡◌, List, [], ℕ, ◌≤◌, ◌+◌, Float, length, take};
+ghost use Rattle.std.specs.Prelude.{◌≡◌, List, [], ℕ, ◌≤◌, ◌+◌, Float, Option, length, take};
+ghost use Rattle.error.specs.declared.Refusal.{Refusal};
 ghost use Rattle.convert.specs.Conversion.{converted_of};
+ghost use Rattle.text.specs.Pens.{HasRoom, Writes};
 ghost use Rattle.text.specs.Wrote.{Wrote};
 ghost use Rattle.lines_answer.specs.Answer.{places, none, on, curve_reply};
 ghost use Rattle.lines_answer.specs.Contract.{curve_of};
 ghost use Rattle.lines_answer.specs.Contract.{count_of as knots_of};
 ghost use Rattle.lines_record.specs.declared.Record.TheVariants.{Span};
 ghost use Rattle.picture_finds.specs.Contract.{targets_of};
-ghost use Rattle.lines_machine.specs.Program.{widest};
-ghost use Rattle.lines_machine.specs.Bytes.{start, end_of};
-ghost use Rattle.lines_machine.specs.Contract.{open_of, Fed};
+ghost use Rattle.lines_machine.specs.Contract.{said_of};
 ghost use Rattle.lines_reply.specs.Contract.{reply_of, longest};
-ghost use Rattle.picture.specs.Program.{nothing_drawn, finds_after, fault_in, fault_after, picture_program};
-ghost use Rattle.picture.specs.Contract.{drawing_of, count_of, state_of, Takes};
+ghost use Rattle.picture.specs.Program.{Drawing, nothing_drawn, finds_after, fault_in, fault_after, picture_program};
+ghost use Rattle.picture.specs.Contract.{drawing_of, count_of, Takes};
 
 use basis::Basis;
-use error::{Refusal, Verdict};
+use error::Refusal;
 use inverse_order::EndsBy;
 use lines_answer::{Session, SessionReply};
+use lines_machine::Machine;
 use lines_record::Record;
 use lines_reply::LineReply;
 use picture_finds::Finds;
-use picture_notes::Fault;
 use table_span::Table;
+use text::Pen;
 
 pub mod draw;
 
@@ -33,31 +34,7 @@ pub mod draw;
 pub struct PictureState {
     pub curve: Session,
     pub finds: Finds,
-    pub fault: Fault,
-}
-
-// `len`: bytes of the current line in the lent 64; 65 means that the line is too long.
-#[derive(Clone, Copy)]
-pub struct PictureReader {
-    pub len: usize,
-    pub held: PictureState,
-}
-
-// Before the first byte.
-pub fn begin() -> PictureReader
-    ensures state { (begun : List ℕ) (table : List Float) → state_of result begun table ≡ start nothing_drawn }
-    ensures few { count_of result.held ≤ places }
-{
-    let none = picture_finds::none();
-    let blank = PictureState {
-        curve: Session::Nothing,
-        finds: none,
-        fault: Fault::Nothing,
-    };
-    PictureReader {
-        len: 0,
-        held: blank,
-    }
+    pub fault: Option<Refusal>,
 }
 
 // What is to be found after a record: a new curve forgets what was asked before.
@@ -77,12 +54,12 @@ fn finds_after(f: Finds, r: Record) -> Finds
 }
 
 // The latest refusal.
-fn fault_in(f: Fault, t: LineReply) -> Fault
+fn fault_in(f: Option<Refusal>, t: LineReply) -> Option<Refusal>
     ensures { (l : List Float) → result ≡ fault_in f (reply_of t l) }
 {
     match t {
         LineReply::Nothing => f,
-        LineReply::Refused(r) => Fault::Is(r),
+        LineReply::Refused(r) => Some(r),
         LineReply::Value(_) => f,
         LineReply::Place(_, _, _, _) => f,
         LineReply::Curve(_, _) => f,
@@ -90,11 +67,11 @@ fn fault_in(f: Fault, t: LineReply) -> Fault
 }
 
 // The latest refusal after a record: a new curve forgets those before it.
-fn fault_after(f: Fault, r: Record, t: LineReply) -> Fault
+fn fault_after(f: Option<Refusal>, r: Record, t: LineReply) -> Option<Refusal>
     ensures { (l : List Float) → result ≡ fault_after f r (reply_of t l) }
 {
     match r {
-        Record::Curve(_) => Fault::Nothing,
+        Record::Curve(_) => None,
         Record::Span(_) => fault_in(f, t),
         Record::Knot(_) => fault_in(f, t),
         Record::Ends(_) => fault_in(f, t),
@@ -122,13 +99,13 @@ fn spanned(t: Table, m: EndsBy, n: usize, s: u32, table: &[f64]) -> SessionReply
 
 // Whether a conversion would be refused; none is made.
 fn turned(b: Basis, c: Basis, knots: &[f64]) -> LineReply
-    ensures { (f : Fault) (s : ℕ) (l : List Float) → fault_in f (reply_of result l)
+    ensures { (f : Option Refusal) (s : ℕ) (l : List Float) → fault_in f (reply_of result l)
         ≡ fault_in f (curve_reply s c (converted_of b c knots.now places)) }
 {
     let v = convert::refusals::spline_verdict(b, c, knots, basis::MOST_KNOTS);
     match v {
-        Verdict::Passed => LineReply::Nothing,
-        Verdict::Failed(r) => LineReply::Refused(r),
+        Ok(()) => LineReply::Nothing,
+        Err(r) => LineReply::Refused(r),
     }
 }
 
@@ -185,30 +162,45 @@ fn taken(h: Session, r: Record, table: &mut [f64]) -> SessionReply
     }
 }
 
-// A line of len bytes, the first ones of the lent 64; 65 for one that is too long.
-pub fn line(h: PictureState, len: usize, line: &[u8], table: &mut [f64]) -> PictureState
-    requires line { length line.now ≡ widest }
+// What is drawn after a line.
+pub fn line(h: PictureState, line: Option<&[u8]>, table: &mut [f64]) -> PictureState
     requires held { count_of h ≤ places }
     requires table { length table.old ≡ places }
     ensures state { drawing_of result table.new ≡ picture_program.after (drawing_of h table.old)
-        (open_of len line.now) }
+        (said_of line.entry) }
     ensures few { count_of result ≤ places }
 {
-    let c = h.curve;
-    let finds = h.finds;
-    let fault = h.fault;
-    let r = lines::said(len, line);
-    let a = taken(c, r, table);
-    let after = a.held;
-    let told = a.told;
+    let r = lines::said(line);
+    let a = taken(h.curve, r, table);
     PictureState {
-        curve: after,
-        finds: finds_after(finds, r),
-        fault: fault_after(fault, r, told),
+        curve: a.held,
+        finds: finds_after(h.finds, r),
+        fault: fault_after(h.fault, r, a.told),
+    }
+}
+
+// The picture of what is held.
+#[tactic(auto, using(text::proofs::Pens::pens), unfolding(crate::specs::Program::ends_with))]
+fn put_end(pen: &mut Pen, h: PictureState, table: &[f64])
+    requires held { count_of h ≤ places }
+    requires table { length table.now ≡ places }
+    requires room { HasRoom pen.old longest }
+    ensures { Writes pen.old (picture_program.ends (drawing_of h table.now)) longest pen.new }
+{
+    match h.curve {
+        Session::Nothing => {
+            let bare = Table {
+                basis: Basis::Linear,
+                span: 0,
+            };
+            draw::put_picture(pen, bare, EndsBy::Knots, &table[0..0], h.finds, h.fault)
+        }
+        Session::Curve(t, m, n) => draw::put_picture(pen, t, m, &table[0..n], h.finds, h.fault),
     }
 }
 
 // The end of the listing: the picture.
+#[tactic(auto, using(text::proofs::Pens::lands))]
 pub fn end(h: PictureState, table: &[f64], out: &mut [u8], at: usize) -> usize
     requires held { count_of h ≤ places }
     requires table { length table.now ≡ places }
@@ -216,64 +208,58 @@ pub fn end(h: PictureState, table: &[f64], out: &mut [u8], at: usize) -> usize
     ensures text { Wrote out.old at (picture_program.ends (drawing_of h table.now)) out.new result }
     ensures short { result ≤ at + longest }
 {
-    let c = h.curve;
-    let finds = h.finds;
-    let fault = h.fault;
-    match c {
-        Session::Nothing => {
-            let bare = Table {
-                basis: Basis::Linear,
-                span: 0,
-            };
-            draw::put_picture(bare, EndsBy::Knots, &table[0..0], finds, fault, out, at)
+    let mut pen = Pen::new(out, at);
+    put_end(&mut pen, h, table);
+    pen.at()
+}
+
+// The drawing program between two lines: what is drawn; the knots are the first of the table.
+#[derive(Drop)]
+pub struct Pictures {
+    pub held: PictureState,
+    pub table: [f64; 4096],
+    ghost few: { count_of held ≤ places },
+}
+
+impl Pictures {
+    // Before the first line.
+    pub fn new() -> Pictures
+        ensures { drawing_of result.held result.table ≡ nothing_drawn }
+    {
+        Pictures {
+            held: PictureState {
+                curve: Session::Nothing,
+                finds: picture_finds::none(),
+                fault: None,
+            },
+            table: [0.0; 4096],
         }
-        Session::Curve(t, m, n) => { draw::put_picture(t, m, &table[0..n], finds, fault, out, at) }
     }
 }
 
-// The bytes of a chunk, all of them. Nothing is printed before the end.
-pub fn feed(st: PictureReader, chunk: &[u8], begun: &mut [u8], table: &mut [f64]) -> PictureReader
-    requires begun { length begun.old ≡ widest }
-    requires held { count_of st.held ≤ places }
-    requires table { length table.old ≡ places }
-    ensures fed { Fed picture_program (state_of st begun.old table.old) chunk.now
-        (state_of result begun.new table.new) [] 0 [] 0 }
-    ensures few { count_of result.held ≤ places }
-{
-    let mut len = st.len;
-    let mut held = st.held;
-    let mut i = 0;
-    while i < chunk.len() {
-        let c = lines_machine::cut(chunk, i, len, &mut *begun);
-        len = c.len;
-        i = c.stop;
-        if i < chunk.len() {
-            held = line(held, len, &begun[..], &mut *table);
-            len = 0;
-            i += 1;
-        }
-    }
-    PictureReader {
-        len: len,
-        held: held,
-    }
-}
+impl Machine for Pictures {
+    const LINE_ROOM: usize = 0;
 
-// The end of the input: a last line may lack its LF.
-pub fn finish(st: PictureReader, begun: &[u8], table: &mut [f64], out: &mut [u8]) -> usize
-    requires begun { length begun.now ≡ widest }
-    requires held { count_of st.held ≤ places }
-    requires table { length table.old ≡ places }
-    requires room { longest ≤ length out.old }
-    ensures text { Wrote out.old 0 (end_of picture_program (state_of st begun.now table.old))
-        out.new result }
-    ensures short { result ≤ longest }
-{
-    let len = st.len;
-    let held = st.held;
-    if len == 0 {
-        return end(held, &table[..], out, 0);
+    const END_ROOM: usize = lines_reply::LONGEST;
+
+    ghost LINE_ROOM = { 0 };
+
+    ghost END_ROOM = { longest };
+
+    ghost State = { Drawing };
+
+    ghost program = { picture_program };
+
+    ghost held = { λ p. drawing_of p.held p.table };
+
+    ghost Keeps = { λ p. Unit };
+
+    fn line(&mut self, line: Option<&[u8]>, _out: &mut [u8], at: usize) -> usize {
+        self.held = crate::line(self.held, line, &mut self.table);
+        at
     }
-    let after = line(held, len, begun, &mut *table);
-    end(after, &table[..], out, 0)
+
+    fn end(&mut self, out: &mut [u8], at: usize) -> usize {
+        crate::end(self.held, &self.table, out, at)
+    }
 }

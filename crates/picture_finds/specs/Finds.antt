@@ -1,5 +1,7 @@
 -- The last targets asked, and each find as bytes: the place, or the refusal. Definitions only.
-use Rattle.std.specs.Prelude.{Bool, true, false, cond, List, [], ◌∷◌, ◌++◌, ℕ, zero, suc, ◌+◌, ◌*◌, ◌-◌, ◌/◌, length, take, get_or, eqb, Float}
+use Rattle.inverse_segment.specs.Inversion.{Inversion}
+use Rattle.inverse_segment.specs.declared.Miss.TheVariants.{Refused, OffCurve}
+use Rattle.std.specs.Prelude.{Bool, true, false, cond, List, [], ◌∷◌, ◌++◌, ℕ, zero, suc, ◌+◌, ◌*◌, ◌-◌, ◌/◌, length, take, get_or, eqb, Float, Ok, Err}
 use Rattle.std.specs.Float.{nan}
 use Rattle.basis.specs.declared.Basis.{Basis}
 use Rattle.basis.specs.declared.Basis.TheVariants.{Bspline, Bezier, CatmullRom, Hermite, Linear, Power}
@@ -11,9 +13,7 @@ use Rattle.inverse_order.specs.declared.EndsBy.{EndsBy}
 use Rattle.inverse_segment.specs.Answer.{default_precision}
 use Rattle.inverse_segment.specs.declared.Ground.{Ground}
 use Rattle.inverse_segment.specs.declared.Ground.TheVariants.{End, Edge, Value, Width, Spent}
-use Rattle.inverse_segment.specs.declared.Inversion.{Inversion}
 use Rattle.inverse_segment.specs.declared.Place.{Place}
-use Rattle.inverse_segment.specs.declared.Inversion.TheVariants as I
 use Rattle.table_span.specs.Second.{good_span, second_of}
 use Rattle.text.specs.Text.{bytes}
 use Rattle.picture_scale.specs.declared.Extent.{Extent}
@@ -79,9 +79,9 @@ at_text span b ks e slot y p = cond (is_beyond b ks y p) (beyond_text slot (heig
 -- ---- the find
 
 abbrev pub find_in : ℕ → Basis → List Float → Extent → ℕ → Float → Inversion → List ℕ
-find_in span b ks e slot y (I.Refused r) = note_text b (length ks) slot (bytes "find") r
-find_in span b ks e slot y (I.OffCurve c) = note_text b (length ks) slot (bytes "find") OffCurve
-find_in span b ks e slot y (I.At p) = at_text span b ks e slot y p
+find_in span b ks e slot y (Err (Refused r)) = note_text b (length ks) slot (bytes "find") r
+find_in span b ks e slot y (Err (OffCurve c)) = note_text b (length ks) slot (bytes "find") OffCurve
+find_in span b ks e slot y (Ok p) = at_text span b ks e slot y p
 
 -- whether a basis's knots are all of them depths: where slopes stand between these, or other coefficients, the order check would compare
 -- the two

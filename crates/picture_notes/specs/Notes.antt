@@ -1,6 +1,6 @@
 -- Refusals, as bytes: a line of text in the frame, at its upper left, in one of ten slots, and a line through the knot that is told.
 -- Definitions only.
-use Rattle.std.specs.Prelude.{List, [], ◌++◌, ℕ, ◌+◌, ◌*◌}
+use Rattle.std.specs.Prelude.{List, [], ◌++◌, ℕ, ◌+◌, ◌*◌, Some, None, Option}
 use Rattle.basis.specs.declared.Basis.{Basis}
 use Rattle.error.specs.declared.Refusal.{Refusal}
 use Rattle.error.specs.declared.Where.{Where}
@@ -9,8 +9,6 @@ use Rattle.error.specs.Refusals.{number_of, where_of}
 use Rattle.text.specs.Text.{bytes}
 use Rattle.picture_scale.specs.Scale.{knot_column}
 use Rattle.picture_scale.specs.Words.{numbered}
-use Rattle.picture_notes.specs.declared.Fault.{Fault}
-use Rattle.picture_notes.specs.declared.Fault.TheVariants as F
 
 abbrev pub knot_tail : Basis → ℕ → ℕ → List ℕ
 knot_tail b n i =
@@ -27,6 +25,6 @@ note_text b n slot who r =
     numbered (bytes "<text class=\"r\" x=\"1100\" y=\"") (600 + 180 * slot) ++ bytes "\">" ++ who
     ++ numbered (bytes " refused: ") (number_of r) ++ tail_text b n (where_of r)
 
-abbrev pub fault_text : Basis → ℕ → Fault → List ℕ
-fault_text b n F.Nothing = []
-fault_text b n (F.Is r) = note_text b n 1 (bytes "line") r
+abbrev pub fault_text : Basis → ℕ → Option Refusal → List ℕ
+fault_text b n None = []
+fault_text b n (Some r) = note_text b n 1 (bytes "line") r

@@ -1,15 +1,13 @@
 -- Where things stand in the picture, in whole units of its view box, 10,000 wide and 7,000 high. The frame goes from 1,000 to 9,600 and
 -- from 400 down to 6,400. Definitions only.
-use Rattle.std.specs.Prelude.{Bool, true, cond, ◌&&◌, List, ℕ, zero, suc, ◌+◌, ◌*◌, ◌-◌, ◌/◌, ◌%◌, min, max, leb, ltb, eqb, length, get_or, Float}
+use Rattle.std.specs.Prelude.{Bool, true, cond, ◌&&◌, List, ℕ, zero, suc, ◌+◌, ◌*◌, ◌-◌, ◌/◌, ◌%◌, min, max, leb, ltb, eqb, length, get_or, Float, Ok, Err}
 use Rattle.std.specs.Float.{nan, binary64}
 use Rattle.std.specs.Float.Ieee.{div, to_bits}
 use Rattle.basis.specs.declared.Basis.{Basis}
 use Rattle.basis.specs.declared.Basis.TheVariants.{Bspline, Bezier, CatmullRom, Hermite, Linear, Power}
 use Rattle.basis.specs.Basis.{segments_of}
 use Rattle.doubles.specs.Whole.{double}
-use Rattle.spline.specs.Evaluation.{spline_of}
-use Rattle.spline.specs.declared.Evaluation.{Evaluation}
-use Rattle.spline.specs.declared.Evaluation.TheVariants as E
+use Rattle.spline.specs.Evaluation.{spline_of, Evaluation}
 use Rattle.text_rounded.specs.Rounded.{minus_in, size_in, largest, units_of}
 use Rattle.picture_scale.specs.declared.Extent.{Extent}
 
@@ -27,8 +25,8 @@ unfoldable pub height_of : Float → ℕ
 height_of x = let n = to_bits binary64 x in cond (minus_in n) (level - thousandths n) (level + thousandths n)
 
 abbrev pub height_in : Evaluation → ℕ
-height_in (E.Value v) = height_of v
-height_in (E.Refused r) = level
+height_in (Ok v) = height_of v
+height_in (Err r) = level
 
 -- the curve's height at i/p
 unfoldable pub curve_height : Basis → List Float → ℕ → ℕ → ℕ

@@ -22,7 +22,6 @@ ghost use Rattle.picture_scale.specs.Scale.{
 ghost use Rattle.picture_scale.specs.Bounds.{lowest, highest, Between, Narrow, Open};
 
 use basis::Basis;
-use spline::Evaluation;
 
 pub mod words;
 
@@ -33,35 +32,14 @@ pub struct Extent {
     pub hi: u64,
 }
 
-// The smaller of two numbers.
-pub fn lesser(a: u64, b: u64) -> u64
-    ensures { result ≡ min a b }
-{
-    if a < b { a } else { b }
-}
-
-// The larger of two numbers.
-fn greater(a: u64, b: u64) -> u64
-    ensures { result ≡ max a b }
-{
-    if a < b { b } else { a }
-}
-
-// a - b, or 0 where b is the greater.
-pub fn above(a: u64, b: u64) -> u64
-    ensures { result ≡ a - b }
-{
-    if b < a { a - b } else { 0 }
-}
-
 // The height of a depth: whole thousandths, counted from 2·10^12 below 0, so that none is negative.
 pub fn height(x: f64) -> u64
     ensures answer { result ≡ height_of x }
     ensures between { Between result }
 {
     let n = text::to_bits(x);
-    let a = lesser(n % 9223372036854775808, 4787326403894837248);
-    let u = lesser(1099511627776000, text_rounded::units(a, 3));
+    let a = (n % 9223372036854775808).min(4787326403894837248);
+    let u = text_rounded::units(a, 3).min(1099511627776000);
     if 9223372036854775808 <= n {
         return 2000000000000000 - u;
     }
@@ -78,8 +56,8 @@ pub fn curve_height(b: Basis, knots: &[f64], p: usize, i: usize) -> u64
     let x = doubles::whole::double_of(i) / doubles::whole::double_of(p);
     let e = spline::spline(b, x, knots);
     match e {
-        Evaluation::Value(v) => height(v),
-        Evaluation::Refused(_) => 2000000000000000,
+        Ok(v) => height(v),
+        Err(_) => 2000000000000000,
     }
 }
 
@@ -92,7 +70,7 @@ pub fn column(i: u64, m: u64) -> u64
     if m == 0 {
         return 1000;
     }
-    1000 + lesser(8600, i * 8600 / m)
+    1000 + (i * 8600 / m).min(8600)
 }
 
 // The row of the height h: the lowest height is at 5400, the highest at 400.
@@ -104,7 +82,7 @@ pub fn row(e: Extent, h: u64) -> u64
 {
     let lo = e.lo;
     let hi = e.hi;
-    6400 - lesser(6000, above(h, lo) * 6000 / (hi - lo))
+    6400 - (h.saturating_sub(lo) * 6000 / (hi - lo)).min(6000)
 }
 
 // How many segments n knots make; one where they are too few.
@@ -124,7 +102,7 @@ pub fn pieces(b: Basis, n: usize) -> usize
     ensures answer { result ≡ pieces_of b n }
     ensures most { result ≤ 2048 }
 {
-    doubles::whole::lesser(2048, 256 * segments(b, n))
+    (256 * segments(b, n)).min(2048)
 }
 
 // Whether a knot is neither the first nor the last.
@@ -132,10 +110,7 @@ fn is_inner(n: usize, j: usize) -> bool
     requires { j < n }
     ensures { result ≡ (leb 1 j && ltb (j + 1) n) }
 {
-    if j < 1 {
-        return false;
-    }
-    j + 1 < n
+    1 <= j && j + 1 < n
 }
 
 // Whether knot j of n is a depth.
@@ -160,11 +135,11 @@ pub fn knot_column(b: Basis, n: u64, j: u64) -> u64
     ensures most { result ≤ 9600 }
 {
     match b {
-        Basis::Bspline => column(above(j, 1), above(n, 3)),
-        Basis::Bezier => column(j, above(n, 1)),
-        Basis::CatmullRom => column(above(j, 1), above(n, 3)),
-        Basis::Hermite => column(j / 2, above(n / 2, 1)),
-        Basis::Linear => column(above(j, 1), above(n, 3)),
+        Basis::Bspline => column(j.saturating_sub(1), n.saturating_sub(3)),
+        Basis::Bezier => column(j, n.saturating_sub(1)),
+        Basis::CatmullRom => column(j.saturating_sub(1), n.saturating_sub(3)),
+        Basis::Hermite => column(j / 2, (n / 2).saturating_sub(1)),
+        Basis::Linear => column(j.saturating_sub(1), n.saturating_sub(3)),
         Basis::Power => column(j / 4, n / 4),
     }
 }
@@ -177,8 +152,8 @@ fn widen(e: Extent, h: u64) -> Extent
     ensures narrow_after { Narrow result }
 {
     Extent {
-        lo: lesser(e.lo, h),
-        hi: greater(e.hi, h),
+        lo: e.lo.min(h),
+        hi: e.hi.max(h),
     }
 }
 
@@ -190,10 +165,8 @@ fn curve_extent(b: Basis, knots: &[f64], p: usize) -> Extent
 {
     let h = curve_height(b, knots, p, 0);
     let mut e = Extent { lo: h, hi: h };
-    let mut i = 0;
-    while i < p {
-        i += 1;
-        e = widen(e, curve_height(b, knots, p, i));
+    for i in 0..p {
+        e = widen(e, curve_height(b, knots, p, i + 1));
     }
     e
 }
@@ -218,10 +191,8 @@ fn knots_extent(b: Basis, knots: &[f64], first: Extent) -> Extent
     ensures narrow_after { Narrow result }
 {
     let mut e = first;
-    let mut j = 0;
-    while j < knots.len() {
-        e = with_knot(b, knots.len(), j, knots[j], e);
-        j += 1;
+    for (j, x) in knots.iter().enumerate() {
+        e = with_knot(b, knots.len(), j, *x, e);
     }
     e
 }

@@ -1,5 +1,8 @@
 -- What checking a claim promises, of its call: by which rows it refuses, and when a claim holds; that each answer of an inversion with ground `value` or
 -- `edge` holds as a claim, by the contracts of both calls; and what the checker prints for a claim. Assumes nothing.
+use Rattle.inverse_segment.specs.Inversion.{Inversion}
+use Rattle.inverse_segment.specs.declared.Miss.TheVariants.{Refused, OffCurve}
+use Rattle.std.specs.Prelude.{Ok, Err, Some, None, Option, true, false, Result, Bool}
 use mathlib.Core.Path.{◌≡◌, refl, sym, ap, ◌∙◌}
 use mathlib.Core.Bool.{Bool, true, false}
 use mathlib.Core.List.{List, [], ◌∷◌}
@@ -9,14 +12,10 @@ use lib.Dec.{T}
 use lib.ListN.{get_or}
 use lib.Ieee.{Float, binary64, of_bits, fits}
 use Rattle.error.specs.declared.Refusal.{Refusal}
-use Rattle.error.specs.declared.Verdict.{Verdict}
-use Rattle.error.specs.declared.Verdict.TheVariants.{Passed, Failed}
-use Rattle.error.specs.Refusals.{rows, first}
+use Rattle.error.specs.Refusals.{rows, first, Verdict}
 use Rattle.error.proofs.First.{never, First, first_sound, first_complete}
 use Rattle.basis.specs.declared.Basis.{Basis}
 use Rattle.inverse_segment.specs.declared.Place.{Place}
-use Rattle.inverse_segment.specs.declared.Inversion.{Inversion}
-use Rattle.inverse_segment.specs.declared.Inversion.TheVariants as I
 use Rattle.inverse_segment.specs.Answer.{inverse_segment_by, default_limit, default_precision}
 use Rattle.inverse_segment.proofs.spline_inverse_segment_with.Reads as spline_inverse_segment_with
 use Rattle.inverse_segment.proofs.spline_inverse_segment.Reads as spline_inverse_segment
@@ -33,8 +32,6 @@ use Rattle.inverse.proofs.spline_inverse_by.Reads as spline_inverse_by
 use Rattle.inverse.proofs.spline_inverse_with.Reads as spline_inverse_with
 use Rattle.inverse.proofs.spline_inverse.Reads as spline_inverse
 use Rattle.inverse.proofs.spline_inverse_steady.Reads as spline_inverse_steady
-use Rattle.claim.specs.declared.ClaimAnswer.{ClaimAnswer}
-use Rattle.claim.specs.declared.ClaimAnswer.TheVariants.{Refused, Holds, Differs}
 use Rattle.claim.specs.Claim.{claim_uses, claimed, claim_of}
 use Rattle.claim.proofs.Own.{Accepted, holds_only, holds_where, differs_only, differs_where, Settled, own_accepted, own_segment_accepted}
 use Rattle.claim.proofs.check_claim.Reads as check_claim
@@ -45,8 +42,6 @@ use Rattle.lines_answer.specs.Answer.{on}
 use Rattle.lines_machine.specs.Program.{Line}
 use Rattle.claims.specs.declared.ClaimRecord.TheVariants.{Claim}
 use Rattle.claims.specs.Claims.{says, claim_text, check_text, tells_of, claims_program}
-use Rattle.exports_reply.specs.declared.BasisChoice.{BasisChoice}
-use Rattle.exports_reply.specs.declared.BasisChoice.TheVariants.{Known, Unknown}
 use Rattle.exports_reply.specs.Replies.{chosen_of, no_basis, chosen}
 use Rattle.exports_value.specs.Claims.{claimed_reply, holds_left}
 use Rattle.simmerstoat.proofs.claims.simmerstoat_check_claim.Reads as c_check_claim
@@ -64,29 +59,29 @@ pub claim_ordered : (b : Basis) (y : Float) (s : ℕ) (x ε : Float) (ks : List 
 claim_ordered b y s x ε ks = (refl, refl)
 
 -- ---- when it is refused, when it holds and when it differs
-refused_by : (v : Verdict) (t : Bool) (r : Refusal) → claimed v t ≡ Refused r → v ≡ Failed r
-refused_by Passed true r e = never (cc)
-refused_by Passed false r e = never (cc)
-refused_by (Failed q) t r e = let s : q ≡ r = cc in ap Failed s
+refused_by : (v : Verdict) (t : Bool) (r : Refusal) → claimed v t ≡ Err r → v ≡ Err r
+refused_by (Ok _) true r e = never (cc)
+refused_by (Ok _) false r e = never (cc)
+refused_by (Err q) t r e = let s : q ≡ r = cc in ap Err s
 
 module _ (b : Basis) (y : Float) (s : ℕ) (x ε : Float) (ks : List Float) where
-  refused_only : (r : Refusal) → claim_of b y s x ε ks ≡ Refused r → First (claim_uses b y s x ε ks) rows r
+  refused_only : (r : Refusal) → claim_of b y s x ε ks ≡ Err r → First (claim_uses b y s x ε ks) rows r
   unfolding claim_of
   refused_only r e = first_sound rows (claim_uses b y s x ε ks) r (refused_by (first (claim_uses b y s x ε ks)) _ r e)
 
-  refused_where : (r : Refusal) → First (claim_uses b y s x ε ks) rows r → claim_of b y s x ε ks ≡ Refused r
+  refused_where : (r : Refusal) → First (claim_uses b y s x ε ks) rows r → claim_of b y s x ε ks ≡ Err r
   unfolding claim_of
   refused_where r f = rw (first_complete rows (claim_uses b y s x ε ks) r f)
 
-  pub record Checked (z : ClaimAnswer) : Type 0 where
+  pub record Checked (z : Result Bool Refusal) : Type 0 where
     -- it is refused exactly where a row applies, by the first
-    pub refused : (r : Refusal) → Exactly (z ≡ Refused r) (First (claim_uses b y s x ε ks) rows r)
+    pub refused : (r : Refusal) → Exactly (z ≡ Err r) (First (claim_uses b y s x ε ks) rows r)
     -- it holds exactly where no row applies, the local place is in 0 to 1, and the value there differs from the target by less than twice the precision
-    pub holds : Exactly (z ≡ Holds) (Accepted b y s x ε ks)
+    pub holds : Exactly (z ≡ Ok true) (Accepted b y s x ε ks)
     -- it differs exactly where no row applies and it does not hold
-    pub differs : Exactly (z ≡ Differs) ((first (claim_uses b y s x ε ks) ≡ Passed) × (Accepted b y s x ε ks → ⊥))
+    pub differs : Exactly (z ≡ Ok false) ((first (claim_uses b y s x ε ks) ≡ Ok tt) × (Accepted b y s x ε ks → ⊥))
 
-  checked : (z : ClaimAnswer) → z ≡ claim_of b y s x ε ks → Checked z
+  checked : (z : Result Bool Refusal) → z ≡ claim_of b y s x ε ks → Checked z
   checked z e =
       record {
         refused = λ r. (λ h. refused_only r (sym e ∙ h), λ f. e ∙ refused_where r f);
@@ -102,9 +97,9 @@ check_claim_checked κs a z e p = checked a.0 a.1.0 a.1.1.0 a.1.1.1.0 a.1.1.1.1.
 abbrev pub Accepts : Basis → Float → ℕ → Float → Float → List Float → Type 0
 Accepts b y s x ε ks =
     Keeps check_claim.Learnt
-    (λ κs a z e. a.0 ≡ b → a.1.0 ≡ y → a.1.1.0 ≡ s → a.1.1.1.0 ≡ x → a.1.1.1.1.0 ≡ ε → a.1.1.1.1.1.0.now ≡ ks → z ≡ Holds)
+    (λ κs a z e. a.0 ≡ b → a.1.0 ≡ y → a.1.1.0 ≡ s → a.1.1.1.0 ≡ x → a.1.1.1.1.0 ≡ ε → a.1.1.1.1.1.0.now ≡ ks → z ≡ Ok true)
 
-pub accepting : (b : Basis) (y : Float) (s : ℕ) (x ε : Float) (ks : List Float) → claim_of b y s x ε ks ≡ Holds → Accepts b y s x ε ks
+pub accepting : (b : Basis) (y : Float) (s : ℕ) (x ε : Float) (ks : List Float) → claim_of b y s x ε ks ≡ Ok true → Accepts b y s x ε ks
 accepting b y s x ε ks h κs a z e p q0 q1 q2 q3 q4 q5 = p ∙ rw (q0, q1, q2, q3, q4, q5) h
 
 -- a place by `value` or `edge`, claimed with its own segment, local place and precision
@@ -112,11 +107,11 @@ abbrev pub OwnHolds : Basis → Float → Float → List Float → Inversion →
 OwnHolds b y ε ks r = AtPlace (λ (p : Place). Settled p.ground → Accepts b y p.segment p.local ε ks) r
 
 pub own_holds : (b : Basis) (y ε : Float) (ks : List Float) (r : Inversion)
-    → ((p : Place) → r ≡ I.At p → Settled p.ground → claim_of b y p.segment p.local ε ks ≡ Holds)
+    → ((p : Place) → r ≡ Ok p → Settled p.ground → claim_of b y p.segment p.local ε ks ≡ Ok true)
     → OwnHolds b y ε ks r
-own_holds b y ε ks (I.At p) h = λ t. accepting b y p.segment p.local ε ks (h p refl t)
-own_holds b y ε ks (I.OffCurve n) h = tt
-own_holds b y ε ks (I.Refused r) h = tt
+own_holds b y ε ks (Ok p) h = λ t. accepting b y p.segment p.local ε ks (h p refl t)
+own_holds b y ε ks (Err (OffCurve n)) h = tt
+own_holds b y ε ks (Err (Refused r)) h = tt
 
 -- the precision is a double, as every caller's is
 pub curve_own : (m : EndsBy) (how : Method) (b : Basis) (y : Float) (ks : List Float) (check : Bool) (limit : ℕ) (ε : Float) (r : Inversion)
@@ -167,10 +162,10 @@ spline_inverse_segment_steady_own κs a z e p = segment_own Steady a.0 a.1.0 a.1
 
 -- ---- what the checker prints for a claim
 -- told apart by the first byte
-holds_text : (c : ClaimAnswer) → claim_text c ≡ bytes "holds\n" → c ≡ Holds
-holds_text (Refused r) e = let h : get_or (refused_text r) 0 0 ≡ 104 = ap (λ (l : List ℕ). get_or l 0 0) e in absurd (omega (arith, h))
-holds_text Holds e = refl
-holds_text Differs e = let h : get_or (bytes "differs\n") 0 0 ≡ 104 = ap (λ (l : List ℕ). get_or l 0 0) e in absurd (omega (arith, h))
+holds_text : (c : Result Bool Refusal) → claim_text c ≡ bytes "holds\n" → c ≡ Ok true
+holds_text (Err r) e = let h : get_or (refused_text r) 0 0 ≡ 104 = ap (λ (l : List ℕ). get_or l 0 0) e in absurd (omega (arith, h))
+holds_text (Ok true) e = refl
+holds_text (Ok false) e = let h : get_or (bytes "differs\n") 0 0 ≡ 104 = ap (λ (l : List ℕ). get_or l 0 0) e in absurd (omega (arith, h))
 
 -- `holds` exactly where the claim is accepted
 pub claim_line_holds : (t : Table) (m : EndsBy) (ks : List Float) (o : Line) (y : Float) (s : ℕ) (x ε : Float) → says o ≡ Claim y s x ε
@@ -190,15 +185,15 @@ c_check_claim_asks_nothing κs a = tt
 pub c_check_claim_one_reply : OneReply c_check_claim.Learnt (λ κs z e z' e'. (z ≡ z') × (e.1.1.1.1.1.1.0.now ≡ e'.1.1.1.1.1.1.0.now))
 c_check_claim_one_reply κs a z z' e e' p q = (p.0 ∙ sym q.0, p.1 ∙ sym q.1)
 
-holds_kept : (c : BasisChoice) (f : Basis → ClaimAnswer) (old : Bool) → NotZero (chosen c no_basis (λ b. claimed_reply (f b)))
+holds_kept : (c : Option Basis) (f : Basis → Result Bool Refusal) (old : Bool) → NotZero (chosen c no_basis (λ b. claimed_reply (f b)))
     → chosen c old (λ b. holds_left (f b) old) ≡ old
-holds_kept Unknown f old h = refl
-holds_kept (Known b) f old h = go (f b) h
+holds_kept None f old h = refl
+holds_kept (Some b) f old h = go (f b) h
   where
-    go : (v : ClaimAnswer) → NotZero (claimed_reply v) → holds_left v old ≡ old
-    go Holds h = absurd (h refl)
-    go Differs h = absurd (h refl)
-    go (Refused r) h = refl
+    go : (v : Result Bool Refusal) → NotZero (claimed_reply v) → holds_left v old ≡ old
+    go (Ok true) h = absurd (h refl)
+    go (Ok false) h = absurd (h refl)
+    go (Err r) h = refl
 
 pub c_check_claim_writes_nothing : Keeps c_check_claim.Learnt (λ κs a z e. NotZero z → e.1.1.1.1.1.1.0.now ≡ a.1.1.1.1.1.1.0.now)
 c_check_claim_writes_nothing κs a z e p h =

@@ -1,13 +1,13 @@
 -- "Not on the curve" by its number: a curve's inversion tells 11 only where no row applies, the end rule is silent and, as far as is promised, no segment's end
 -- values enclose the target; and it does there. By the
 -- promises of the case that carries a count, which is the only one with that number. Assumes nothing.
+use Rattle.inverse_segment.specs.Inversion.{Inversion}
 use mathlib.Core.Path.{◌≡◌, ap, subst}
 use mathlib.Core.Bool.{Bool}
 use mathlib.Core.List.{List}
 use Prim.Native.Nat.{ℕ}
 use lib.Ieee.{Float}
 use Rattle.basis.specs.declared.Basis.{Basis}
-use Rattle.inverse_segment.specs.declared.Inversion.{Inversion}
 use Rattle.inverse_segment.specs.Answer.{number_told, default_limit, default_precision}
 use Rattle.inverse_segment.specs.declared.Method.{Method}
 use Rattle.inverse_segment.specs.declared.Method.TheVariants.{AsCrate}

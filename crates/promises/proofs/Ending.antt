@@ -1,6 +1,7 @@
 -- The steady method ends in time, of the calls with options: where N rounds are enough for the precision, the limit is never told as spent if it is above N,
 -- and
 -- the count is bounded as if it were N. N is 39 for the default precision, p + 6 for one of 2^-p at least, and 59 for any of 2^-50 at least. Assumes nothing.
+use Rattle.inverse_segment.specs.Inversion.{Inversion}
 use mathlib.Core.Path.{◌≡◌, sym, ap, subst, ◌∙◌}
 use mathlib.Core.Bool.{Bool}
 use mathlib.Core.List.{List}
@@ -8,7 +9,6 @@ use Prim.Native.Nat.{ℕ, ◌+◌, ◌≤◌}
 use lib.Dec.{T}
 use lib.Ieee.{Float, le}
 use Rattle.basis.specs.declared.Basis.{Basis}
-use Rattle.inverse_segment.specs.declared.Inversion.{Inversion}
 use Rattle.inverse_segment.specs.Answer.{inverse_segment_by, default_precision}
 use Rattle.inverse_segment.specs.declared.Method.{Method}
 use Rattle.inverse_segment.specs.declared.Method.TheVariants.{Steady}

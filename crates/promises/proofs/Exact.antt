@@ -1,4 +1,5 @@
 -- Whole knots come out exact, of whatever the two calls of evaluation reply; and one segment of a B-spline that does not. Assumes nothing.
+use Rattle.std.specs.Prelude.{Ok}
 use mathlib.Core.Path.{◌≡◌, sym, ap, ◌∙◌, subst}
 use mathlib.Core.List.{List}
 use Prim.Native.Nat.{ℕ, ◌*◌, ◌≤◌}
@@ -6,18 +7,15 @@ use lib.IntN.{ℤ, pos}
 use lib.Dec.{T}
 use lib.ListN.{length, drop}
 use lib.Ieee.{Float}
-use Rattle.error.specs.declared.Verdict.TheVariants.{Passed}
 use Rattle.error.specs.Refusals.{first}
 use Rattle.basis.specs.declared.Basis.{Basis}
 use Rattle.basis.specs.declared.Basis.TheVariants.{Bspline}
 use Rattle.basis.specs.Basis.{step_of, segments_of}
 use Rattle.doubles.specs.Numbers.{nought}
 use Rattle.doubles.specs.Number.{Number}
-use Rattle.spline.specs.declared.Evaluation.{Evaluation}
-use Rattle.spline.specs.declared.Evaluation.TheVariants.{Value}
 use Rattle.checks.specs.Checks.{curve_length}
 use Rattle.spline.specs.Curve.{segment_at, local_at}
-use Rattle.spline.specs.Evaluation.{spline_segment_of}
+use Rattle.spline.specs.Evaluation.{spline_segment_of, Evaluation}
 use Rattle.spline.proofs.spline.Reads as spline
 use Rattle.spline.proofs.spline_segment.Reads as spline_segment
 use Rattle.spline_exact.specs.Exact.{is_exact, exact_of, WholeKnots, Answers}
@@ -35,7 +33,7 @@ spline_segment_exact κs a z e p w whole j l k u h =
 
 -- a curve of whole knots and good length, at a parameter whose local place is j/256: the same of the segment where it lies
 pub spline_exact : Keeps spline.Learnt
-    (λ κs a z e. T (is_exact a.0) → (whole : List ℤ) (j : ℕ) → first (curve_length a.0 (length a.1.1.0.now)) ≡ Passed
+    (λ κs a z e. T (is_exact a.0) → (whole : List ℤ) (j : ℕ) → first (curve_length a.0 (length a.1.1.0.now)) ≡ Ok tt
     → WholeKnots a.1.1.0.now whole
     → Number (local_at (segments_of a.0 (length a.1.1.0.now)) a.1.0) (pos j) 8 → j ≤ 256
     → Answers z (exact_of a.0 (drop (segment_at (segments_of a.0 (length a.1.1.0.now)) a.1.0 * step_of a.0) whole) j))
@@ -45,7 +43,7 @@ spline_exact κs a z e p w whole j l k u h =
     (curve_answers a.0 w a.1.0 a.1.1.0.now whole j l k u h)
 
 -- a B-spline over four knots of 1, at place 0: the answer is the double below 1
-pub spline_segment_bspline_rounds : Keeps spline_segment.Learnt (λ κs a z e. a.0 ≡ Bspline → a.1.0 ≡ nought → a.1.1.0.now ≡ ones → z ≡ Value below_one)
+pub spline_segment_bspline_rounds : Keeps spline_segment.Learnt (λ κs a z e. a.0 ≡ Bspline → a.1.0 ≡ nought → a.1.1.0.now ≡ ones → z ≡ Ok below_one)
 spline_segment_bspline_rounds κs a z e p b x k =
     p
     ∙ ap (λ (c : Basis). spline_segment_of c a.1.0 a.1.1.0.now) b

@@ -1,21 +1,18 @@
 -- What others link asks nothing either, and where it does not return 0 it leaves what stood behind each pointer; but 11 leaves its count. Assumes nothing.
+use Rattle.inverse_segment.specs.Inversion.{Inversion}
+use Rattle.inverse_segment.specs.declared.Miss.TheVariants.{Refused, OffCurve}
+use Rattle.std.specs.Prelude.{Ok, Err, Some, None, Option}
 use mathlib.Core.Path.{◌≡◌, refl, ◌∙◌}
 use mathlib.Core.List.{List}
 use Prim.Native.Nat.{ℕ}
 use lib.ListN.{length}
 use lib.Ieee.{Float}
 use Rattle.basis.specs.declared.Basis.{Basis}
-use Rattle.spline.specs.declared.Evaluation.{Evaluation}
-use Rattle.spline.specs.declared.Evaluation.TheVariants as E
-use Rattle.spline.specs.Evaluation.{spline_of, spline_segment_of}
-use Rattle.inverse_segment.specs.declared.Inversion.{Inversion}
-use Rattle.inverse_segment.specs.declared.Inversion.TheVariants as I
+use Rattle.spline.specs.Evaluation.{spline_of, spline_segment_of, Evaluation}
 use Rattle.inverse_segment.specs.Answer.{inverse_segment_of, default_limit, default_precision}
 use Rattle.inverse.specs.Inverse.{inverse_of}
 use Rattle.convert.specs.Conversion.{Conversion, gives, refuses, converted_of, converted_segment_of}
 use Rattle.convert.specs.Buffer.{answer_of, buffer_of}
-use Rattle.exports_reply.specs.declared.BasisChoice.{BasisChoice}
-use Rattle.exports_reply.specs.declared.BasisChoice.TheVariants.{Known, Unknown}
 use Rattle.exports_reply.specs.Replies.{
   chosen_of,
   no_basis,
@@ -75,14 +72,14 @@ convert_spline_asks_nothing κs a = tt
 abbrev pub NotZero : ℕ → Type 0
 NotZero n = n ≡ 0 → ⊥
 
-value_kept : (c : BasisChoice) (f : Basis → Evaluation) (old : Float) → NotZero (chosen c no_basis (λ b. evaluated_reply (f b)))
+value_kept : (c : Option Basis) (f : Basis → Evaluation) (old : Float) → NotZero (chosen c no_basis (λ b. evaluated_reply (f b)))
     → chosen c old (λ b. value_left (f b) old) ≡ old
-value_kept Unknown f old h = refl
-value_kept (Known b) f old h = go (f b) h
+value_kept None f old h = refl
+value_kept (Some b) f old h = go (f b) h
   where
     go : (v : Evaluation) → NotZero (evaluated_reply v) → value_left v old ≡ old
-    go (E.Value x) h = absurd (h refl)
-    go (E.Refused r) h = refl
+    go (Ok x) h = absurd (h refl)
+    go (Err r) h = refl
 
 pub spline_writes_nothing : Keeps spline.Learnt (λ κs a z e. NotZero z → e.1.1.1.0.now ≡ a.1.1.1.0.now)
 spline_writes_nothing κs a z e p h =
@@ -93,25 +90,25 @@ spline_segment_writes_nothing κs a z e p h =
     p.1 ∙ value_kept (chosen_of a.0) (λ b. spline_segment_of b a.1.0 a.1.1.0.now) a.1.1.1.0.now (λ w. h (p.0 ∙ w))
 
 -- of an inversion: the four doubles, and but for 11 the three whole numbers
-pub place_kept : (c : BasisChoice) (f : Basis → Inversion) (old : List Float) → NotZero (chosen c no_basis (λ b. inverted_reply (f b)))
+pub place_kept : (c : Option Basis) (f : Basis → Inversion) (old : List Float) → NotZero (chosen c no_basis (λ b. inverted_reply (f b)))
     → chosen c old (λ b. place_left (f b) old) ≡ old
-place_kept Unknown f old h = refl
-place_kept (Known b) f old h = go (f b) h
+place_kept None f old h = refl
+place_kept (Some b) f old h = go (f b) h
   where
     go : (i : Inversion) → NotZero (inverted_reply i) → place_left i old ≡ old
-    go (I.At p) h = absurd (h refl)
-    go (I.OffCurve n) h = refl
-    go (I.Refused r) h = refl
+    go (Ok p) h = absurd (h refl)
+    go (Err (OffCurve n)) h = refl
+    go (Err (Refused r)) h = refl
 
-pub whole_kept : (c : BasisChoice) (f : Basis → Inversion) (old : List ℕ) → NotZero (chosen c no_basis (λ b. inverted_reply (f b)))
+pub whole_kept : (c : Option Basis) (f : Basis → Inversion) (old : List ℕ) → NotZero (chosen c no_basis (λ b. inverted_reply (f b)))
     → (chosen c no_basis (λ b. inverted_reply (f b)) ≡ 11 → ⊥) → chosen c old (λ b. whole_left (f b) old) ≡ old
-whole_kept Unknown f old h g = refl
-whole_kept (Known b) f old h g = go (f b) h g
+whole_kept None f old h g = refl
+whole_kept (Some b) f old h g = go (f b) h g
   where
     go : (i : Inversion) → NotZero (inverted_reply i) → (inverted_reply i ≡ 11 → ⊥) → whole_left i old ≡ old
-    go (I.At p) h g = absurd (h refl)
-    go (I.OffCurve n) h g = absurd (g refl)
-    go (I.Refused r) h g = refl
+    go (Ok p) h g = absurd (h refl)
+    go (Err (OffCurve n)) h g = absurd (g refl)
+    go (Err (Refused r)) h g = refl
 
 pub spline_inverse_writes_nothing : Keeps spline_inverse.Learnt
     (λ κs a z e. NotZero z → (e.1.1.1.1.0.now ≡ a.1.1.1.1.0.now) × ((z ≡ 11 → ⊥) → e.1.1.1.1.1.0.now ≡ a.1.1.1.1.1.0.now))
@@ -157,23 +154,23 @@ spline_inverse_segment_with_writes_nothing κs a z e p h =
     )
 
 -- of a conversion: the buffer, and the length
-pub out_kept : (f t : BasisChoice) (g : Basis → Basis → Conversion) (out : List Float)
+pub out_kept : (f t : Option Basis) (g : Basis → Basis → Conversion) (out : List Float)
     → NotZero (chosen f no_basis (λ b. chosen t no_basis (λ c. converted_reply (answer_of (g b c)))))
     → chosen f out (λ b. chosen t out (λ c. buffer_of (g b c) out)) ≡ out
-out_kept Unknown t g out h = refl
-out_kept (Known b) Unknown g out h = refl
-out_kept (Known b) (Known c) g out h = go (g b c) h
+out_kept None t g out h = refl
+out_kept (Some b) None g out h = refl
+out_kept (Some b) (Some c) g out h = go (g b c) h
   where
     go : (x : Conversion) → NotZero (converted_reply (answer_of x)) → buffer_of x out ≡ out
     go (gives l) h = absurd (h refl)
     go (refuses r) h = refl
 
-pub length_kept : (f t : BasisChoice) (g : Basis → Basis → Conversion) (old : ℕ)
+pub length_kept : (f t : Option Basis) (g : Basis → Basis → Conversion) (old : ℕ)
     → NotZero (chosen f no_basis (λ b. chosen t no_basis (λ c. converted_reply (answer_of (g b c)))))
     → chosen f old (λ b. chosen t old (λ c. length_left (answer_of (g b c)) old)) ≡ old
-length_kept Unknown t g old h = refl
-length_kept (Known b) Unknown g old h = refl
-length_kept (Known b) (Known c) g old h = go (g b c) h
+length_kept None t g old h = refl
+length_kept (Some b) None g old h = refl
+length_kept (Some b) (Some c) g old h = go (g b c) h
   where
     go : (x : Conversion) → NotZero (converted_reply (answer_of x)) → length_left (answer_of x) old ≡ old
     go (gives l) h = absurd (h refl)

@@ -1,12 +1,12 @@
 -- Beside the crate, which evaluates an entered segment's ends twice: the same refusal, or the same place by the same ground, with exactly two evaluations fewer
 -- where a segment was entered, and with the same count elsewhere. Of the calls. Assumes nothing.
+use Rattle.inverse_segment.specs.Inversion.{Inversion}
 use mathlib.Core.Path.{◌≡◌, sym, subst}
 use mathlib.Core.Bool.{Bool}
 use mathlib.Core.List.{List}
 use Prim.Native.Nat.{ℕ}
 use lib.Ieee.{Float}
 use Rattle.basis.specs.declared.Basis.{Basis}
-use Rattle.inverse_segment.specs.declared.Inversion.{Inversion}
 use Rattle.inverse_segment.specs.Answer.{default_limit, default_precision}
 use Rattle.inverse_segment.specs.declared.Method.{Method}
 use Rattle.inverse_segment.specs.declared.Method.TheVariants.{AsCrate}

@@ -1,15 +1,15 @@
 -- What inversion promises, of its calls. Of a curve: the count, its list, which misses none, its bounds, the places, the values that enclose the target, the
 -- ground, and when the target is not on the curve. Assumes nothing.
+use Rattle.inverse_segment.specs.Inversion.{Inversion}
+use Rattle.std.specs.Prelude.{Ok}
 use mathlib.Core.Path.{◌≡◌, sym, subst}
 use mathlib.Core.List.{List, []}
 use Prim.Native.Nat.{ℕ, ◌+◌, ◌≤◌}
 use lib.ListN.{length}
 use lib.Ieee.{Float}
-use Rattle.error.specs.declared.Verdict.TheVariants.{Passed}
 use Rattle.error.specs.Refusals.{first}
 use Rattle.basis.specs.declared.Basis.{Basis}
 use Rattle.spline.specs.Segment.{segment_of}
-use Rattle.inverse_segment.specs.declared.Inversion.{Inversion}
 use Rattle.inverse_segment.specs.Agreed.{Agreed}
 use Rattle.inverse_segment.specs.Segment.{enter, outcome_of}
 use Rattle.inverse_segment.specs.Answer.{
@@ -62,7 +62,7 @@ module _ (how : Method) (b : Basis) (y : Float) (cv : List Float) (limit : ℕ) 
     pub unlisted : (h : ℕ → Float → Float) → Agreed (segment_of b cv) h (segment_evaluations_by (rule_of how) b y cv limit ε)
         → r ≡ inverted (first (inverse_segment_uses y cv limit ε)) (answered alone (outcome_of (enter (rule_of how) (h 0) 0 y ε limit [])))
     pub few : count_told r ≤ limit + 2
-    pub owed : first (inverse_segment_uses y cv limit ε) ≡ Passed → Owed (segment_of b cv 0) y ε limit r
+    pub owed : first (inverse_segment_uses y cv limit ε) ≡ Ok tt → Owed (segment_of b cv 0) y ε limit r
 
   pub segment_promised : (r : Inversion) → r ≡ inverse_segment_by (rule_of how) b y cv limit ε → SegmentPromised r
   segment_promised r e =

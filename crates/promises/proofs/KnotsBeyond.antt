@@ -1,5 +1,8 @@
 -- Which knot is told by the calls that came later: strict conversion, the calls on a table with a span, the check of a claim, the depth at a time of either
 -- table, and the valve. It follows from where each refuses, by what its row of the knots, or of the order check, says. Assumes nothing.
+use Rattle.uneven.specs.declared.DepthMiss.TheVariants.{Refused}
+use Rattle.inverse_segment.specs.declared.Miss.TheVariants.{Refused}
+use Rattle.std.specs.Prelude.{Err}
 use mathlib.Core.Path.{◌≡◌, refl, sym, subst, ◌∙◌}
 use mathlib.Core.Bool.{Bool, true, false, cond, ◌&&◌}
 use mathlib.Core.List.{List, ◌∷◌}
@@ -20,29 +23,22 @@ use Rattle.inverse_segment.specs.Method.{steady_limit}
 use Rattle.inverse_order.specs.Order.{turns_back, turning_knot}
 use Rattle.inverse_order.proofs.TurnsBack.{AgainstAt, turning_first}
 use Rattle.inverse.specs.Inverse.{inverse_uses}
-use Rattle.spline.specs.declared.Evaluation.TheVariants as E
 use Rattle.spline.specs.Evaluation.{spline_uses}
-use Rattle.convert.specs.declared.ConversionAnswer.TheVariants as C
 use Rattle.convert.specs.Conversion.{convert_uses}
 use Rattle.convert_strict.specs.Strict.{strict_uses}
 use Rattle.convert_strict.proofs.convert_spline_strict.Reads as convert_spline_strict
-use Rattle.claim.specs.declared.ClaimAnswer.TheVariants as L
 use Rattle.claim.specs.Claim.{claim_uses}
 use Rattle.claim.proofs.check_claim.Reads as check_claim
 use Rattle.table_span.specs.Second.{bad_span}
-use Rattle.table.specs.declared.TableInversion.TheVariants as I
-use Rattle.table.specs.declared.TableConversion.TheVariants as H
 use Rattle.table.proofs.table_spline.Reads as table_spline
 use Rattle.table.proofs.table_spline_inverse_by.Reads as table_spline_inverse_by
 use Rattle.table.proofs.table_spline_inverse.Reads as table_spline_inverse
 use Rattle.table.proofs.table_spline_inverse_steady.Reads as table_spline_inverse_steady
 use Rattle.table.proofs.table_convert_spline.Reads as table_convert_spline
 use Rattle.table.proofs.table_convert_spline_strict.Reads as table_convert_spline_strict
-use Rattle.uneven.specs.declared.DepthAnswer.TheVariants as S
 use Rattle.uneven.specs.declared.WhichTable.TheVariants.{Times, Depths}
 use Rattle.uneven.specs.Uneven.{depth_uses}
 use Rattle.uneven.proofs.depth_at.Reads as depth_at
-use Rattle.valve.specs.declared.Mixture.TheVariants as M
 use Rattle.valve.specs.Mix.{knot_of, small, first_large, mix_uses}
 use Rattle.valve.proofs.mix.Reads as mix
 use Rattle.calls.specs.Calls.{Keeps}
@@ -56,57 +52,57 @@ use Rattle.promises.proofs.Uneven.{depth_at_sounds}
 use Rattle.promises.proofs.Valve.{mix_refuses}
 
 -- ---- 4
-pub strict_first_bad : Keeps convert_spline_strict.Learnt (λ κs a z e. (i : ℕ) → z ≡ C.Refused (BadKnot i) → FirstBad a.1.1.0.now i)
+pub strict_first_bad : Keeps convert_spline_strict.Learnt (λ κs a z e. (i : ℕ) → z ≡ Err (BadKnot i) → FirstBad a.1.1.0.now i)
 strict_first_bad κs a z e p i h =
     knot_first (strict_uses a.0 a.1.0 a.1.1.0.now a.1.1.1.0 (length a.1.1.1.1.0.now)) a.1.1.0.now i refl refl
     ((strict_refuses_first κs a z e p (BadKnot i)).0 h)
 
-pub table_spline_first_bad : Keeps table_spline.Learnt (λ κs a z e. (i : ℕ) → z ≡ E.Refused (BadKnot i) → FirstBad a.1.1.0.now i)
+pub table_spline_first_bad : Keeps table_spline.Learnt (λ κs a z e. (i : ℕ) → z ≡ Err (BadKnot i) → FirstBad a.1.1.0.now i)
 table_spline_first_bad κs a z e p i h =
     knot_first (bad_span a.0.span ∷ spline_uses a.0.basis a.1.0 a.1.1.0.now) a.1.1.0.now i refl refl
     ((table_spline_refuses κs a z e p (BadKnot i)).0 h)
 
 pub table_spline_inverse_by_first_bad : Keeps table_spline_inverse_by.Learnt
-    (λ κs a z e. (i : ℕ) → z ≡ I.Refused (BadKnot i) → FirstBad a.1.1.1.0.now i)
+    (λ κs a z e. (i : ℕ) → z ≡ Err (Refused (BadKnot i)) → FirstBad a.1.1.1.0.now i)
 table_spline_inverse_by_first_bad κs a z e p i h =
     knot_first
     (bad_span a.1.0.span ∷ inverse_uses a.1.0.basis a.1.1.0 a.1.1.1.0.now a.0.check a.0.limit a.0.precision)
     a.1.1.1.0.now i refl refl ((table_spline_inverse_by_refuses κs a z e p (BadKnot i)).0 h)
 
-pub table_spline_inverse_first_bad : Keeps table_spline_inverse.Learnt (λ κs a z e. (i : ℕ) → z ≡ I.Refused (BadKnot i) → FirstBad a.1.1.0.now i)
+pub table_spline_inverse_first_bad : Keeps table_spline_inverse.Learnt (λ κs a z e. (i : ℕ) → z ≡ Err (Refused (BadKnot i)) → FirstBad a.1.1.0.now i)
 table_spline_inverse_first_bad κs a z e p i h =
     knot_first (bad_span a.0.span ∷ inverse_uses a.0.basis a.1.0 a.1.1.0.now a.1.1.1.0 default_limit default_precision)
     a.1.1.0.now i refl refl ((table_spline_inverse_refuses κs a z e p (BadKnot i)).0 h)
 
 pub table_spline_inverse_steady_first_bad : Keeps table_spline_inverse_steady.Learnt
-    (λ κs a z e. (i : ℕ) → z ≡ I.Refused (BadKnot i) → FirstBad a.1.1.0.now i)
+    (λ κs a z e. (i : ℕ) → z ≡ Err (Refused (BadKnot i)) → FirstBad a.1.1.0.now i)
 table_spline_inverse_steady_first_bad κs a z e p i h =
     knot_first (bad_span a.0.span ∷ inverse_uses a.0.basis a.1.0 a.1.1.0.now a.1.1.1.0 steady_limit default_precision)
     a.1.1.0.now i refl refl ((table_spline_inverse_steady_refuses κs a z e p (BadKnot i)).0 h)
 
-pub table_convert_spline_first_bad : Keeps table_convert_spline.Learnt (λ κs a z e. (i : ℕ) → z ≡ H.Refused (BadKnot i) → FirstBad a.1.1.0.now i)
+pub table_convert_spline_first_bad : Keeps table_convert_spline.Learnt (λ κs a z e. (i : ℕ) → z ≡ Err (BadKnot i) → FirstBad a.1.1.0.now i)
 table_convert_spline_first_bad κs a z e p i h =
     knot_first (bad_span a.0.span ∷ convert_uses a.0.basis a.1.0 a.1.1.0.now (length a.1.1.1.0.now)) a.1.1.0.now i refl refl
     ((table_convert_spline_refuses κs a z e p (BadKnot i)).0 h)
 
-pub table_strict_first_bad : Keeps table_convert_spline_strict.Learnt (λ κs a z e. (i : ℕ) → z ≡ H.Refused (BadKnot i) → FirstBad a.1.1.0.now i)
+pub table_strict_first_bad : Keeps table_convert_spline_strict.Learnt (λ κs a z e. (i : ℕ) → z ≡ Err (BadKnot i) → FirstBad a.1.1.0.now i)
 table_strict_first_bad κs a z e p i h =
     knot_first
     (bad_span a.0.span ∷ strict_uses a.0.basis a.1.0 a.1.1.0.now a.1.1.1.0 (length a.1.1.1.1.0.now))
     a.1.1.0.now i refl refl ((table_strict_refuses κs a z e p (BadKnot i)).0 h)
 
-pub check_claim_first_bad : Keeps check_claim.Learnt (λ κs a z e. (i : ℕ) → z ≡ L.Refused (BadKnot i) → FirstBad a.1.1.1.1.1.0.now i)
+pub check_claim_first_bad : Keeps check_claim.Learnt (λ κs a z e. (i : ℕ) → z ≡ Err (BadKnot i) → FirstBad a.1.1.1.1.1.0.now i)
 check_claim_first_bad κs a z e p i h =
     knot_first (claim_uses a.0 a.1.0 a.1.1.0 a.1.1.1.0 a.1.1.1.1.0 a.1.1.1.1.1.0.now) a.1.1.1.1.1.0.now i refl refl
     (((check_claim_checked κs a z e p).refused (BadKnot i)).0 h)
 
 -- of the table that is named
-pub depth_at_first_bad_time : Keeps depth_at.Learnt (λ κs a z e. (i : ℕ) → z ≡ S.Refused Times (BadKnot i) → FirstBad a.1.0.now i)
+pub depth_at_first_bad_time : Keeps depth_at.Learnt (λ κs a z e. (i : ℕ) → z ≡ Err (Refused Times (BadKnot i)) → FirstBad a.1.0.now i)
 depth_at_first_bad_time κs a z e p i h =
     knot_first (inverse_uses a.0 a.1.1.1.1.0 a.1.0.now true a.1.1.1.1.1.0 a.1.1.1.1.1.1.0) a.1.0.now i refl refl
     (((depth_at_sounds κs a z e p).times (BadKnot i)).0 h)
 
-pub depth_at_first_bad_depth : Keeps depth_at.Learnt (λ κs a z e. (i : ℕ) → z ≡ S.Refused Depths (BadKnot i) → FirstBad a.1.1.1.0.now i)
+pub depth_at_first_bad_depth : Keeps depth_at.Learnt (λ κs a z e. (i : ℕ) → z ≡ Err (Refused Depths (BadKnot i)) → FirstBad a.1.1.1.0.now i)
 depth_at_first_bad_depth κs a z e p i h =
     knot_first (depth_uses a.0 (length a.1.0.now) a.1.1.0 a.1.1.1.0.now) a.1.1.1.0.now i refl refl
     (((depth_at_sounds κs a z e p).depths (BadKnot i)).0 h).1
@@ -127,26 +123,26 @@ turn_first us check ks i a b f =
     (and_l check (turns_back ks) h, w.0, w.1)
 
 pub table_spline_inverse_by_first_turn : Keeps table_spline_inverse_by.Learnt
-    (λ κs a z e. (i : ℕ) → z ≡ I.Refused (TurnsBack i) → FirstTurn a.0.check a.1.1.1.0.now i)
+    (λ κs a z e. (i : ℕ) → z ≡ Err (Refused (TurnsBack i)) → FirstTurn a.0.check a.1.1.1.0.now i)
 table_spline_inverse_by_first_turn κs a z e p i h =
     turn_first
     (bad_span a.1.0.span ∷ inverse_uses a.1.0.basis a.1.1.0 a.1.1.1.0.now a.0.check a.0.limit a.0.precision)
     a.0.check a.1.1.1.0.now i refl refl ((table_spline_inverse_by_refuses κs a z e p (TurnsBack i)).0 h)
 
 pub table_spline_inverse_first_turn : Keeps table_spline_inverse.Learnt
-    (λ κs a z e. (i : ℕ) → z ≡ I.Refused (TurnsBack i) → FirstTurn a.1.1.1.0 a.1.1.0.now i)
+    (λ κs a z e. (i : ℕ) → z ≡ Err (Refused (TurnsBack i)) → FirstTurn a.1.1.1.0 a.1.1.0.now i)
 table_spline_inverse_first_turn κs a z e p i h =
     turn_first (bad_span a.0.span ∷ inverse_uses a.0.basis a.1.0 a.1.1.0.now a.1.1.1.0 default_limit default_precision)
     a.1.1.1.0 a.1.1.0.now i refl refl ((table_spline_inverse_refuses κs a z e p (TurnsBack i)).0 h)
 
 pub table_spline_inverse_steady_first_turn : Keeps table_spline_inverse_steady.Learnt
-    (λ κs a z e. (i : ℕ) → z ≡ I.Refused (TurnsBack i) → FirstTurn a.1.1.1.0 a.1.1.0.now i)
+    (λ κs a z e. (i : ℕ) → z ≡ Err (Refused (TurnsBack i)) → FirstTurn a.1.1.1.0 a.1.1.0.now i)
 table_spline_inverse_steady_first_turn κs a z e p i h =
     turn_first (bad_span a.0.span ∷ inverse_uses a.0.basis a.1.0 a.1.1.0.now a.1.1.1.0 steady_limit default_precision)
     a.1.1.1.0 a.1.1.0.now i refl refl ((table_spline_inverse_steady_refuses κs a z e p (TurnsBack i)).0 h)
 
 -- the times are inverted with the order check; the depths have none
-pub depth_at_first_turn : Keeps depth_at.Learnt (λ κs a z e. (i : ℕ) → z ≡ S.Refused Times (TurnsBack i) → FirstTurn true a.1.0.now i)
+pub depth_at_first_turn : Keeps depth_at.Learnt (λ κs a z e. (i : ℕ) → z ≡ Err (Refused Times (TurnsBack i)) → FirstTurn true a.1.0.now i)
 depth_at_first_turn κs a z e p i h =
     turn_first (inverse_uses a.0 a.1.1.1.1.0 a.1.0.now true a.1.1.1.1.1.0 a.1.1.1.1.1.1.0) true a.1.0.now i refl refl
     (((depth_at_sounds κs a z e p).times (TurnsBack i)).0 h)
@@ -184,7 +180,7 @@ large_first ks h = go (small (knot_of ks 0)) (small (knot_of ks 1)) (small (knot
         three (suc (suc (suc j))) k = absurd (omega (arith, k))
     go true true true true p q r s l = absurd (omega (arith, l))
 
-pub mix_first_large : Keeps mix.Learnt (λ κs a z e. (i : ℕ) → z ≡ M.Refused (BadKnot i) → FirstLarge a.1.0.now i)
+pub mix_first_large : Keeps mix.Learnt (λ κs a z e. (i : ℕ) → z ≡ Err (BadKnot i) → FirstLarge a.1.0.now i)
 mix_first_large κs a z e p i h =
     let ks = a.1.0.now in
     let f = first_applies (mix_uses a.0 ks) rows (BadKnot i) ((mix_refuses κs a z e p (BadKnot i)).0 h) in

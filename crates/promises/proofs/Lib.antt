@@ -31,3 +31,4 @@ pub mod ClaimsBeyond
 pub mod Printing
 pub mod Listings
 pub mod Most
+pub mod BasisSums

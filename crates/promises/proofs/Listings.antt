@@ -1,5 +1,7 @@
 -- The line program and the comparison read a listing alike: whatever a line is, its record of a listing is the same to both, a knot being the double of the
 -- bits that the comparison keeps; and after any lines both hold the same table. The words are tested in the same order. Assumes nothing.
+use Rattle.basis.specs.declared.Basis.{Basis}
+use Rattle.std.specs.Prelude.{Some, None, Option, ℕ}
 use mathlib.Core.Path.{◌≡◌, refl, sym, ap, ◌∙◌, subst}
 use mathlib.Core.Bool.{Bool, true, false, cond}
 use mathlib.Core.List.{List, [], ◌∷◌, ◌++◌, map}
@@ -9,15 +11,9 @@ use lib.ListN.{length}
 use lib.Ieee.{Float}
 use Rattle.table_span.specs.declared.Table.{Table}
 use Rattle.table_span.specs.Second.{good_span}
-use Rattle.text.specs.declared.HexNumber.{HexNumber}
-use Rattle.text.specs.declared.HexNumber.TheVariants as H
 use Rattle.text.specs.Text.{bytes, same, fields_of, hex_of, double_of}
 use Rattle.text_decimals.specs.Decimals.{number_in}
 use Rattle.inverse_order.specs.declared.EndsBy.{EndsBy}
-use Rattle.lines_record.specs.declared.EndsName.{EndsName}
-use Rattle.lines_record.specs.declared.EndsName.TheVariants as E
-use Rattle.lines_record.specs.declared.BasisName.{BasisName}
-use Rattle.lines_record.specs.declared.BasisName.TheVariants as N
 use Rattle.lines_record.specs.declared.Word.TheVariants as W
 use Rattle.lines_record.specs.declared.Record.{Record}
 use Rattle.lines_record.specs.declared.Record.TheVariants as R
@@ -42,30 +38,30 @@ as_record (C.Knot n) = R.Knot (double_of n)
 as_record C.Other = R.Bad
 as_record C.Bad = R.Bad
 
-by_basis : (n : BasisName) → of_table (with_basis (λ b. R.Curve b) n) ≡ as_record (compared.curve_said n)
-by_basis (N.Is b) = refl
-by_basis N.Nothing = refl
+by_basis : (n : Option Basis) → of_table (with_basis (λ b. R.Curve b) n) ≡ as_record (compared.curve_said n)
+by_basis (Some b) = refl
+by_basis None = refl
 
-by_span : (n : HexNumber) → of_table (with_number (λ s. R.Span s) n) ≡ as_record (compared.span_said n)
-by_span (H.Is n) = refl
-by_span H.Nothing = refl
+by_span : (n : Option ℕ) → of_table (with_number (λ s. R.Span s) n) ≡ as_record (compared.span_said n)
+by_span (Some n) = refl
+by_span None = refl
 
-by_knot : (n : HexNumber) → of_table (with_double (λ x. R.Knot x) n) ≡ as_record (compared.knot_said n)
-by_knot (H.Is n) = refl
-by_knot H.Nothing = refl
+by_knot : (n : Option ℕ) → of_table (with_double (λ x. R.Knot x) n) ≡ as_record (compared.knot_said n)
+by_knot (Some n) = refl
+by_knot None = refl
 
 -- no other word begins a record of a listing
-ends_none : (n : EndsName) → of_table (with_ends (λ m. R.Ends m) n) ≡ R.Bad
-ends_none (E.Is m) = refl
-ends_none E.Nothing = refl
+ends_none : (n : Option EndsBy) → of_table (with_ends (λ m. R.Ends m) n) ≡ R.Bad
+ends_none (Some m) = refl
+ends_none None = refl
 
-double_none : (f : Float → Record) → ((x : Float) → of_table (f x) ≡ R.Bad) → (n : HexNumber) → of_table (with_double f n) ≡ R.Bad
-double_none f h (H.Is n) = h (double_of n)
-double_none f h H.Nothing = refl
+double_none : (f : Float → Record) → ((x : Float) → of_table (f x) ≡ R.Bad) → (n : Option ℕ) → of_table (with_double f n) ≡ R.Bad
+double_none f h (Some n) = h (double_of n)
+double_none f h None = refl
 
-turn_none : (n : BasisName) → of_table (with_basis (λ b. R.Turn b) n) ≡ R.Bad
-turn_none (N.Is b) = refl
-turn_none N.Nothing = refl
+turn_none : (n : Option Basis) → of_table (with_basis (λ b. R.Turn b) n) ≡ R.Bad
+turn_none (Some b) = refl
+turn_none None = refl
 
 other_words : (s : List ℕ) (a b c d : Bool)
     → of_table (meaning_of (cond a W.Ends (cond b W.At (cond c W.Find (cond d W.Turn W.Other)))) s) ≡ R.Bad

@@ -1,5 +1,7 @@
 -- For how many evaluations to set time aside: whatever `most_evaluations` replies for a basis, a number of knots and some options, no inversion by them tells a
 -- greater count, with a place or with 11. By the bound that every inversion keeps. And what others link of it. Assumes nothing.
+use Rattle.inverse_segment.specs.Inversion.{Inversion}
+use Rattle.std.specs.Prelude.{Some, None, Option}
 use mathlib.Core.Path.{◌≡◌, refl, sym, ap, ◌∙◌, subst}
 use mathlib.Core.List.{List}
 use mathlib.Core.Bool.{Bool}
@@ -7,7 +9,6 @@ use Prim.Native.Nat.{ℕ, ◌≤◌}
 use lib.ListN.{length}
 use lib.Ieee.{Float}
 use Rattle.basis.specs.declared.Basis.{Basis}
-use Rattle.inverse_segment.specs.declared.Inversion.{Inversion}
 use Rattle.inverse_segment.specs.declared.Method.{Method}
 use Rattle.inverse_segment.specs.declared.Method.TheVariants.{AsCrate, Steady}
 use Rattle.inverse_segment.specs.Answer.{count_told, default_limit, default_precision}
@@ -21,10 +22,6 @@ use Rattle.inverse.proofs.spline_inverse_by.Reads as spline_inverse_by
 use Rattle.inverse.proofs.spline_inverse_with.Reads as spline_inverse_with
 use Rattle.inverse.proofs.spline_inverse.Reads as spline_inverse
 use Rattle.inverse.proofs.spline_inverse_steady.Reads as spline_inverse_steady
-use Rattle.exports_reply.specs.declared.BasisChoice.{BasisChoice}
-use Rattle.exports_reply.specs.declared.BasisChoice.TheVariants.{Known, Unknown}
-use Rattle.exports_reply.specs.declared.options.Way.{Way}
-use Rattle.exports_reply.specs.declared.options.Way.TheVariants as W
 use Rattle.exports_reply.specs.Replies.{chosen_of, no_basis, chosen}
 use Rattle.exports_reply.specs.Options.{way_of, way}
 use Rattle.simmerstoat.proofs.options.simmerstoat_most_evaluations.Reads as c_most_evaluations
@@ -77,11 +74,11 @@ pub spline_inverse_steady_most : Keeps spline_inverse_steady.Learnt (λ κs a z 
 spline_inverse_steady_most κs a z e p = within Knots Steady a.0 a.1.1.0.now steady_limit a.1.0 a.1.1.1.0 default_precision z p
 
 -- ---- what others link: where it does not return 0 it writes nothing
-kept : (c : BasisChoice) (w : Way) (f : Basis → EndsBy → Method → ℕ) (old : ℕ) → NotZero (chosen c no_basis (λ b. way w no_basis (λ e m. 0)))
+kept : (c : Option Basis) (w : Option (EndsBy × Method)) (f : Basis → EndsBy → Method → ℕ) (old : ℕ) → NotZero (chosen c no_basis (λ b. way w no_basis (λ e m. 0)))
     → chosen c old (λ b. way w old (f b)) ≡ old
-kept Unknown w f old h = refl
-kept (Known b) W.Unknown f old h = refl
-kept (Known b) (W.Known e m) f old h = absurd (h refl)
+kept None w f old h = refl
+kept (Some b) None f old h = refl
+kept (Some b) (Some (e, m)) f old h = absurd (h refl)
 
 pub c_most_evaluations_writes_nothing : Keeps c_most_evaluations.Learnt
     (λ κs a z e. NotZero z → e.1.1.1.1.1.0.now ≡ a.1.1.1.1.1.0.now)

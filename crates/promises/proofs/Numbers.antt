@@ -1,6 +1,9 @@
 -- Each call by the numbers of the refusal table: the number told is that of the first row that applies. Where none does it is 0, or 11 from an inversion, and
 -- then in the case that carries the count; a row never
 -- gives 11, and no call replies 12. It all follows from where a call refuses, since a call that has no use for a row cannot fail by it. Assumes nothing.
+use Rattle.inverse_segment.specs.Inversion.{Inversion}
+use Rattle.inverse_segment.specs.declared.Miss.TheVariants.{Refused, OffCurve}
+use Rattle.std.specs.Prelude.{Ok, Err, Result, ℕ}
 use mathlib.Core.Path.{◌≡◌, refl, sym, ap, ◌∙◌, subst}
 use mathlib.Core.Bool.{true, false}
 use mathlib.Core.Logic.{◌⊎◌, inl, inr}
@@ -9,17 +12,11 @@ use native.Mathlib.Omega.{arith}
 use lib.Dec.{lit≤}
 use lib.ListN.{length}
 use Rattle.error.specs.declared.Refusal.{Refusal}
-use Rattle.error.specs.declared.Verdict.{Verdict}
-use Rattle.error.specs.declared.Verdict.TheVariants.{Passed, Failed}
-use Rattle.error.specs.Refusals.{number_of, Uses, applies, rows, first}
+use Rattle.error.specs.Refusals.{number_of, Uses, applies, rows, first, Verdict}
 use Rattle.error.proofs.First.{never, First, first_sound, first_complete, first_applies}
-use Rattle.spline.specs.declared.Evaluation.{Evaluation}
-use Rattle.spline.specs.declared.Evaluation.TheVariants as E
-use Rattle.spline.specs.Evaluation.{evaluated_number, spline_uses, spline_segment_uses}
+use Rattle.spline.specs.Evaluation.{evaluated_number, spline_uses, spline_segment_uses, Evaluation}
 use Rattle.spline.proofs.spline.Reads as spline
 use Rattle.spline.proofs.spline_segment.Reads as spline_segment
-use Rattle.inverse_segment.specs.declared.Inversion.{Inversion}
-use Rattle.inverse_segment.specs.declared.Inversion.TheVariants as I
 use Rattle.inverse_segment.specs.Answer.{number_told, inverse_segment_uses, default_limit, default_precision}
 use Rattle.inverse_segment.proofs.spline_inverse_segment_with.Reads as spline_inverse_segment_with
 use Rattle.inverse_segment.proofs.spline_inverse_segment.Reads as spline_inverse_segment
@@ -28,8 +25,6 @@ use Rattle.inverse.specs.Inverse.{inverse_uses}
 use Rattle.inverse.proofs.spline_inverse_by.Reads as spline_inverse_by
 use Rattle.inverse.proofs.spline_inverse_with.Reads as spline_inverse_with
 use Rattle.inverse.proofs.spline_inverse.Reads as spline_inverse
-use Rattle.convert.specs.declared.ConversionAnswer.{ConversionAnswer}
-use Rattle.convert.specs.declared.ConversionAnswer.TheVariants as C
 use Rattle.convert.specs.Conversion.{convert_segment_uses, convert_uses}
 use Rattle.convert.specs.Buffer.{converted_number}
 use Rattle.convert.proofs.convert_segment.Reads as convert_segment
@@ -65,12 +60,12 @@ pub record PlaceNumber (owed n : ℕ) (Off : Type 0) : Type 0 where
 
 -- ---- rows
 -- where no row applies the verdict is passed
-pub none_passed : (us : Uses) → ((r : Refusal) → First us rows r → ⊥) → first us ≡ Passed
+pub none_passed : (us : Uses) → ((r : Refusal) → First us rows r → ⊥) → first us ≡ Ok tt
 none_passed us k = go (first us) refl
   where
-    go : (v : Verdict) → first us ≡ v → first us ≡ Passed
-    go Passed e = e
-    go (Failed r) e = absurd (k r (first_sound rows us r e))
+    go : (v : Verdict) → first us ≡ v → first us ≡ Ok tt
+    go (Ok _) e = e
+    go (Err r) e = absurd (k r (first_sound rows us r e))
 
 -- and the number is 0
 pub none_first : (us : Uses) → ((r : Refusal) → First us rows r → ⊥) → 0 ≡ number_by us
@@ -84,8 +79,8 @@ pub unused : (us : Uses) (n : ℕ) → 0 < n → applies n us ≡ false → numb
 unused us n some u q = go (first us) refl q
   where
     go : (v : Verdict) → first us ≡ v → number_in v ≡ n → ⊥
-    go Passed e h = omega arith
-    go (Failed r) e h =
+    go (Ok _) e h = omega arith
+    go (Err r) e h =
         let t : applies n us ≡ true = subst (λ (m : ℕ). applies m us ≡ true) h (first_applies us rows r (first_sound rows us r e)).0 in
         never (cc)
 
@@ -115,37 +110,37 @@ module _ {Z : Type 0} (number : Z → ℕ) (R : Refusal → Z) where
   by_places off f us z e t d = owed_place (number_by us) (number z) (Counts off z) (unused us 11 (lit≤ tt) e) (unused us 12 (lit≤ tt) t) (f us z d)
 
 -- ---- the kinds
-value_owed : (us : Uses) (z : Evaluation) → Refuses E.Refused us z → evaluated_number z ≡ number_by us
-value_owed us (E.Value v) d = none_first us (λ r f. let h : E.Value v ≡ E.Refused r = (d r).1 f in never (cc))
-value_owed us (E.Refused r) d = row_first us r ((d r).0 refl)
+value_owed : (us : Uses) (z : Evaluation) → Refuses Err us z → evaluated_number z ≡ number_by us
+value_owed us (Ok v) d = none_first us (λ r f. let h : Ok v ≡ Err r = (d r).1 f in never (cc))
+value_owed us (Err r) d = row_first us r ((d r).0 refl)
 
-written_owed : (us : Uses) (z : ConversionAnswer) → Refuses C.Refused us z → converted_number z ≡ number_by us
-written_owed us (C.Written n) d = none_first us (λ r f. let h : C.Written n ≡ C.Refused r = (d r).1 f in never (cc))
-written_owed us (C.Refused r) d = row_first us r ((d r).0 refl)
+written_owed : (us : Uses) (z : Result ℕ Refusal) → Refuses Err us z → converted_number z ≡ number_by us
+written_owed us (Ok n) d = none_first us (λ r f. let h : Ok n ≡ Err r = (d r).1 f in never (cc))
+written_owed us (Err r) d = row_first us r ((d r).0 refl)
 
-place_owed : (us : Uses) (z : Inversion) → Refuses I.Refused us z → Owes (number_by us) (number_told z) (Counts I.OffCurve z)
-place_owed us (I.Refused r) d = inl (row_first us r ((d r).0 refl))
-place_owed us (I.OffCurve n) d = inr (sym (none_first us (λ r f. let h : I.OffCurve n ≡ I.Refused r = (d r).1 f in never (cc))), refl, (n, refl))
-place_owed us (I.At q) d = inl (none_first us (λ r f. let h : I.At q ≡ I.Refused r = (d r).1 f in never (cc)))
+place_owed : (us : Uses) (z : Inversion) → Refuses (λ a. Err (Refused a)) us z → Owes (number_by us) (number_told z) (Counts (λ a. Err (OffCurve a)) z)
+place_owed us (Err (Refused r)) d = inl (row_first us r ((d r).0 refl))
+place_owed us (Err (OffCurve n)) d = inr (sym (none_first us (λ r f. let h : Err (OffCurve n) ≡ Err (Refused r) = (d r).1 f in never (cc))), refl, (n, refl))
+place_owed us (Ok q) d = inl (none_first us (λ r f. let h : Ok q ≡ Err (Refused r) = (d r).1 f in never (cc)))
 
 -- of a value, a conversion and an inversion
 abbrev pub ValueNumber : Uses → Evaluation → Type 0
 ValueNumber us z = RowNumber (number_by us) (evaluated_number z)
 
-abbrev pub WrittenNumber : Uses → ConversionAnswer → Type 0
+abbrev pub WrittenNumber : Uses → Result ℕ Refusal → Type 0
 WrittenNumber us z = RowNumber (number_by us) (converted_number z)
 
 abbrev pub InverseNumber : Uses → Inversion → Type 0
-InverseNumber us z = PlaceNumber (number_by us) (number_told z) (Counts I.OffCurve z)
+InverseNumber us z = PlaceNumber (number_by us) (number_told z) (Counts (λ a. Err (OffCurve a)) z)
 
-pub values : (us : Uses) (z : Evaluation) → applies 11 us ≡ false → applies 12 us ≡ false → Refuses E.Refused us z → ValueNumber us z
-values = by_rows evaluated_number E.Refused value_owed
+pub values : (us : Uses) (z : Evaluation) → applies 11 us ≡ false → applies 12 us ≡ false → Refuses Err us z → ValueNumber us z
+values = by_rows evaluated_number Err value_owed
 
-pub writes : (us : Uses) (z : ConversionAnswer) → applies 11 us ≡ false → applies 12 us ≡ false → Refuses C.Refused us z → WrittenNumber us z
-writes = by_rows converted_number C.Refused written_owed
+pub writes : (us : Uses) (z : Result ℕ Refusal) → applies 11 us ≡ false → applies 12 us ≡ false → Refuses Err us z → WrittenNumber us z
+writes = by_rows converted_number Err written_owed
 
-pub inverts : (us : Uses) (z : Inversion) → applies 11 us ≡ false → applies 12 us ≡ false → Refuses I.Refused us z → InverseNumber us z
-inverts = by_places number_told I.Refused I.OffCurve place_owed
+pub inverts : (us : Uses) (z : Inversion) → applies 11 us ≡ false → applies 12 us ≡ false → Refuses (λ a. Err (Refused a)) us z → InverseNumber us z
+inverts = by_places number_told (λ a. Err (Refused a)) (λ a. Err (OffCurve a)) place_owed
 
 -- ---- the calls
 pub spline_number : Keeps spline.Learnt (λ κs a z e. ValueNumber (spline_uses a.0 a.1.0 a.1.1.0.now) z)

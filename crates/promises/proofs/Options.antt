@@ -1,21 +1,18 @@
 -- What others link with every option asks nothing, allows one reply, and where it does not return 0 leaves what stood behind each pointer, but 11 its count.
 -- Assumes nothing.
+use Rattle.inverse_segment.specs.Inversion.{Inversion}
+use Rattle.inverse_segment.specs.declared.Miss.TheVariants.{Refused, OffCurve}
+use Rattle.std.specs.Prelude.{Some, None, Option, Ok, Err}
 use mathlib.Core.Path.{◌≡◌, refl, sym, ◌∙◌}
 use mathlib.Core.List.{List}
 use Prim.Native.Nat.{ℕ}
 use lib.Ieee.{Float}
 use Rattle.basis.specs.declared.Basis.{Basis}
-use Rattle.inverse_segment.specs.declared.Inversion.{Inversion}
-use Rattle.inverse_segment.specs.declared.Inversion.TheVariants as I
 use Rattle.inverse_segment.specs.Answer.{inverse_segment_by}
 use Rattle.inverse_segment.specs.declared.Method.{Method}
 use Rattle.inverse_segment.specs.Method.{rule_of}
 use Rattle.inverse_order.specs.declared.EndsBy.{EndsBy}
 use Rattle.inverse.specs.Inverse.{inverse_by}
-use Rattle.exports_reply.specs.declared.BasisChoice.{BasisChoice}
-use Rattle.exports_reply.specs.declared.BasisChoice.TheVariants.{Known, Unknown}
-use Rattle.exports_reply.specs.declared.options.Way.{Way}
-use Rattle.exports_reply.specs.declared.options.Way.TheVariants as W
 use Rattle.exports_reply.specs.Replies.{chosen_of, no_basis, chosen, inverted_reply, place_left, whole_left}
 use Rattle.exports_reply.specs.Options.{way_of, way}
 use Rattle.simmerstoat.proofs.options.simmerstoat_spline_inverse_by.Reads as spline_inverse_by
@@ -45,30 +42,30 @@ pub c_spline_inverse_segment_by_one_reply : OneReply spline_inverse_segment_by.L
 c_spline_inverse_segment_by_one_reply κs a z z' e e' p q = (one p.0 q.0, one p.1.0 q.1.0, one p.1.1 q.1.1)
 
 -- ---- what is left where the reply is not 0: the four doubles, and but for 11 the three whole numbers
-abbrev reply : BasisChoice → Way → (Basis → EndsBy → Method → Inversion) → ℕ
+abbrev reply : Option Basis → Option (EndsBy × Method) → (Basis → EndsBy → Method → Inversion) → ℕ
 reply c w f = chosen c no_basis (λ b. way w no_basis (λ e m. inverted_reply (f b e m)))
 
-place_kept : (c : BasisChoice) (w : Way) (f : Basis → EndsBy → Method → Inversion) (old : List Float) → NotZero (reply c w f)
+place_kept : (c : Option Basis) (w : Option (EndsBy × Method)) (f : Basis → EndsBy → Method → Inversion) (old : List Float) → NotZero (reply c w f)
     → chosen c old (λ b. way w old (λ e m. place_left (f b e m) old)) ≡ old
-place_kept Unknown w f old h = refl
-place_kept (Known b) W.Unknown f old h = refl
-place_kept (Known b) (W.Known e m) f old h = go (f b e m) h
+place_kept None w f old h = refl
+place_kept (Some b) None f old h = refl
+place_kept (Some b) (Some (e, m)) f old h = go (f b e m) h
   where
     go : (i : Inversion) → NotZero (inverted_reply i) → place_left i old ≡ old
-    go (I.At p) h = absurd (h refl)
-    go (I.OffCurve n) h = refl
-    go (I.Refused r) h = refl
+    go (Ok p) h = absurd (h refl)
+    go (Err (OffCurve n)) h = refl
+    go (Err (Refused r)) h = refl
 
-whole_kept : (c : BasisChoice) (w : Way) (f : Basis → EndsBy → Method → Inversion) (old : List ℕ) → NotZero (reply c w f) → (reply c w f ≡ 11 → ⊥)
+whole_kept : (c : Option Basis) (w : Option (EndsBy × Method)) (f : Basis → EndsBy → Method → Inversion) (old : List ℕ) → NotZero (reply c w f) → (reply c w f ≡ 11 → ⊥)
     → chosen c old (λ b. way w old (λ e m. whole_left (f b e m) old)) ≡ old
-whole_kept Unknown w f old h g = refl
-whole_kept (Known b) W.Unknown f old h g = refl
-whole_kept (Known b) (W.Known e m) f old h g = go (f b e m) h g
+whole_kept None w f old h g = refl
+whole_kept (Some b) None f old h g = refl
+whole_kept (Some b) (Some (e, m)) f old h g = go (f b e m) h g
   where
     go : (i : Inversion) → NotZero (inverted_reply i) → (inverted_reply i ≡ 11 → ⊥) → whole_left i old ≡ old
-    go (I.At p) h g = absurd (h refl)
-    go (I.OffCurve n) h g = absurd (g refl)
-    go (I.Refused r) h g = refl
+    go (Ok p) h g = absurd (h refl)
+    go (Err (OffCurve n)) h g = absurd (g refl)
+    go (Err (Refused r)) h g = refl
 
 pub c_spline_inverse_by_writes_nothing : Keeps spline_inverse_by.Learnt
     (λ κs a z e. NotZero z

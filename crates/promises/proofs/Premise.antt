@@ -1,4 +1,6 @@
 -- The premise of "not on the curve", above 12 segments: a curve and a target that meet it at the call, and a curve that shows why it is asked. Assumes nothing.
+use Rattle.inverse_segment.specs.declared.Miss.TheVariants.{OffCurve}
+use Rattle.std.specs.Prelude.{Err}
 use mathlib.Core.Path.{◌≡◌, refl}
 use mathlib.Core.Bool.{true, false}
 use mathlib.Core.List.{List, [], ◌∷◌}
@@ -15,7 +17,6 @@ use Rattle.doubles.specs.Lerp.{lerp_of}
 use Rattle.doubles.proofs.Tests.{each, each_at}
 use Rattle.spline.specs.Segment.{segment_of}
 use Rattle.checks.specs.Checks.{in_range, all_in_range, first_bad, precise}
-use Rattle.inverse_segment.specs.declared.Inversion.TheVariants.{OffCurve}
 use Rattle.inverse_segment.specs.Round.{narrow, halving, weighed, kept, fraction, moved, settled, probed, round_of}
 use Rattle.inverse_segment.specs.Rounds.{rounds}
 use Rattle.inverse_segment.specs.Segment.{entered, enter}
@@ -86,7 +87,7 @@ pub jumping : List Float
 unfolding zeros
 jumping = nought ∷ nought ∷ one ∷ nought ∷ zeros 44 (nought ∷ nought ∷ one ∷ one ∷ [])
 
-pub premise_needed : T (Holds (segment_of Power jumping) half 13 0) × (inverse_of Power half jumping false default_limit default_precision ≡ OffCurve 12)
+pub premise_needed : T (Holds (segment_of Power jumping) half 13 0) × (inverse_of Power half jumping false default_limit default_precision ≡ Err (OffCurve 12))
 unfolding zeros jumping matrix_of row frac round of_int of_bits add sub mul div lt le eq ne neg is_nan in_range all_in_range precise ordered bits_of
     count_leading_zeros
     magnitude_of lerp_of narrow halving weighed kept fraction moved settled probed round_of rounds entered enter tries last halve find parameter_of located

@@ -1,6 +1,10 @@
 -- What the line program and the checker of claims print is what the calls answer: `at`, `find` and `turn` by the library's own calls, `find` with a span by
 -- the call on the table, a claim by the check; and so the second that is printed is the largest, and a knot that is printed is the first. A record asks
 -- the definition that is the call's contract, so each is one equation. Assumes nothing.
+use Rattle.inverse_segment.specs.declared.Miss.{Miss}
+use Rattle.inverse_segment.specs.Inversion.{Inversion}
+use Rattle.inverse_segment.specs.declared.Miss.TheVariants.{Refused, OffCurve}
+use Rattle.std.specs.Prelude.{Ok, Err, Result, ℕ}
 use mathlib.Core.Path.{◌≡◌, refl, sym, ap, ◌∙◌}
 use mathlib.Core.Bool.{Bool, true, false, cond}
 use mathlib.Core.List.{List, [], ◌∷◌, ◌++◌, append-nil}
@@ -13,30 +17,22 @@ use Rattle.error.specs.declared.Refusal.TheVariants.{TooMany, BadSpan, BadKnot, 
 use Rattle.error.specs.Refusals.{rows}
 use Rattle.error.proofs.First.{never, first_applies}
 use Rattle.basis.specs.declared.Basis.{Basis}
-use Rattle.spline.specs.declared.Evaluation.{Evaluation}
-use Rattle.spline.specs.declared.Evaluation.TheVariants as E
-use Rattle.spline.specs.Evaluation.{spline_uses, spline_of}
+use Rattle.spline.specs.Evaluation.{spline_uses, spline_of, Evaluation}
 use Rattle.spline.proofs.spline.Reads as spline
 use Rattle.inverse_segment.specs.declared.Place.{Place}
-use Rattle.inverse_segment.specs.declared.Inversion.{Inversion}
-use Rattle.inverse_segment.specs.declared.Inversion.TheVariants as I
 use Rattle.inverse_segment.specs.Answer.{default_limit, default_precision}
 use Rattle.inverse_segment.specs.declared.Method.TheVariants.{AsCrate}
 use Rattle.inverse_order.specs.declared.EndsBy.{EndsBy}
 use Rattle.inverse.specs.Inverse.{inverse_uses}
 use Rattle.inverse.proofs.Refusing.{inverse_refused_only}
 use Rattle.inverse.proofs.spline_inverse_by.Reads as spline_inverse_by
-use Rattle.convert.specs.declared.ConversionAnswer.TheVariants as C
 use Rattle.convert.specs.Conversion.{Conversion, gives, refuses, convert_uses, converted_of}
 use Rattle.convert.specs.Buffer.{answer_of}
-use Rattle.claim.specs.declared.ClaimAnswer.TheVariants as L
 use Rattle.claim.specs.Claim.{claim_of}
 use Rattle.claim.proofs.check_claim.Reads as check_claim
 use Rattle.table_span.specs.declared.Table.{Table}
 use Rattle.table_span.specs.Second.{good_span, elapsed, second_of}
 use Rattle.table_span.proofs.Largest.{Largest}
-use Rattle.table.specs.declared.TableInversion.{TableInversion}
-use Rattle.table.specs.declared.TableInversion.TheVariants as T
 use Rattle.table.specs.Calls.{timed_of, table_inverse_by}
 use Rattle.table.proofs.Spans.{inverse_base}
 use Rattle.table.proofs.table_spline_inverse_by.Reads as table_spline_inverse_by
@@ -56,16 +52,16 @@ use Rattle.promises.proofs.Refusing.{value_refused, conversion_refused}
 use Rattle.promises.proofs.Seconds.{second_is_largest}
 
 -- ---- the text of an answer of the call on a table
-abbrev pub timed_text : TableInversion → List ℕ
-timed_text (T.At p s) = place_text p.parameter p.ground p.count (s ∷ [])
-timed_text (T.OffCurve n) = refused_text OffCurve
-timed_text (T.Refused r) = refused_text r
+abbrev pub timed_text : Result (Place × ℕ) Miss → List ℕ
+timed_text (Ok (p, s)) = place_text p.parameter p.ground p.count (s ∷ [])
+timed_text (Err (OffCurve n)) = refused_text OffCurve
+timed_text (Err (Refused r)) = refused_text r
 
 timed_told : (s : ℕ) (i : Inversion) → good_span s ≡ true → text_of (place_reply s i) ≡ timed_text (timed_of s i)
 unfolding text_of
-timed_told s (I.At p) g = rw g refl
-timed_told s (I.OffCurve n) g = refl
-timed_told s (I.Refused r) g = refl
+timed_told s (Ok p) g = rw g refl
+timed_told s (Err (OffCurve n)) g = refl
+timed_told s (Err (Refused r)) g = refl
 
 -- what a line that says `find` prints, upon a table with a good span, is what the call on that table answers with the defaults and the order check
 pub find_with_span : Keeps table_spline_inverse_by.Learnt
@@ -84,13 +80,13 @@ find_with_span κs a z e p o f g q0 q1 q2 q3 =
 
 -- so the second that is printed is the largest whole number not above parameter × span, and at most the span
 pub second_printed : (t : Table) (m : EndsBy) (ks : List Float) (y : Float) (o : Line) → says o ≡ Find y → good_span t.span ≡ true
-    → (p : Place) → found_of m t.basis y ks ≡ I.At p
+    → (p : Place) → found_of m t.basis y ks ≡ Ok p
     → (s : ℕ) × (line_program.tells (on t m ks) o ≡ place_text p.parameter p.ground p.count (s ∷ []))
     × Largest t.span (elapsed t.span p.parameter) s
 unfolding reply_to
 second_printed t m ks y o f g p h =
     let s = second_of t.span p.parameter in
-    let found : table_inverse_by m AsCrate t y ks true default_limit default_precision ≡ T.At p s =
+    let found : table_inverse_by m AsCrate t y ks true default_limit default_precision ≡ Ok (p, s) =
     inverse_base m AsCrate t y ks true default_limit default_precision g ∙ ap (timed_of t.span) h in
     let told = ap (λ (r : Record). text_of (reply_to (on t m ks) r)) f ∙ timed_told t.span (found_of m t.basis y ks) g ∙ ap
     (λ (i : Inversion). timed_text (timed_of t.span i)) h in
@@ -130,18 +126,18 @@ claim_prints κs a z e p t m o q f =
     ∙ ap claim_text (sym p)
 
 -- ---- the knot that a line's refusal tells
-value_refused_by : (v : Evaluation) (r : Refusal) → value_reply v ≡ refused r → v ≡ E.Refused r
-value_refused_by (E.Value x) r h = never (cc)
-value_refused_by (E.Refused q) r h = let s : q ≡ r = cc in ap E.Refused s
+value_refused_by : (v : Evaluation) (r : Refusal) → value_reply v ≡ refused r → v ≡ Err r
+value_refused_by (Ok x) r h = never (cc)
+value_refused_by (Err q) r h = let s : q ≡ r = cc in ap Err s
 
-place_refused_by : (s : ℕ) (i : Inversion) (r : Refusal) → (OffCurve ≡ r → ⊥) → place_reply s i ≡ refused r → i ≡ I.Refused r
-place_refused_by s (I.At p) r n h = never (cc)
-place_refused_by s (I.OffCurve c) r n h = absurd (n (let q : OffCurve ≡ r = cc in q))
-place_refused_by s (I.Refused q) r n h = let e : q ≡ r = cc in ap I.Refused e
+place_refused_by : (s : ℕ) (i : Inversion) (r : Refusal) → (OffCurve ≡ r → ⊥) → place_reply s i ≡ refused r → i ≡ Err (Refused r)
+place_refused_by s (Ok p) r n h = never (cc)
+place_refused_by s (Err (OffCurve c)) r n h = absurd (n (let q : OffCurve ≡ r = cc in q))
+place_refused_by s (Err (Refused q)) r n h = let e : q ≡ r = cc in ap (λ a. Err (Refused a)) e
 
-curve_refused_by : (s : ℕ) (c : Basis) (x : Conversion) (r : Refusal) → curve_reply s c x ≡ refused r → answer_of x ≡ C.Refused r
+curve_refused_by : (s : ℕ) (c : Basis) (x : Conversion) (r : Refusal) → curve_reply s c x ≡ refused r → answer_of x ≡ Err r
 curve_refused_by s c (gives l) r h = never (cc)
-curve_refused_by s c (refuses q) r h = let e : q ≡ r = cc in ap C.Refused e
+curve_refused_by s c (refuses q) r h = let e : q ≡ r = cc in ap Err e
 
 no_span : (g : Bool) (r : Refusal) → (BadSpan ≡ r → ⊥) → cond g silence (refused BadSpan) ≡ refused r → ⊥
 no_span true r n h = never (cc)
@@ -222,7 +218,7 @@ module _ (t : Table) (m : EndsBy) (ks : List Float) (o : Line) (i : ℕ) where
 -- of a claim that the checker reads: its knots are the table's
 pub claim_line_first_bad : Keeps check_claim.Learnt
     (λ κs a z e. (t : Table) (m : EndsBy) (o : Line) (i : ℕ) → t.basis ≡ a.0
-    → says_claim o ≡ Claim a.1.0 a.1.1.0 a.1.1.1.0 a.1.1.1.1.0 → z ≡ L.Refused (BadKnot i)
+    → says_claim o ≡ Claim a.1.0 a.1.1.0 a.1.1.1.0 a.1.1.1.1.0 → z ≡ Err (BadKnot i)
     → FirstBad a.1.1.1.1.1.0.now i
     × (claims_program.tells (on t m a.1.1.1.1.1.0.now) o ≡ bytes "refused\t4\t" ++ dec_text 4 i ++ (LF ∷ [])))
 claim_line_first_bad κs a z e p t m o i q f h =

@@ -1,5 +1,12 @@
 -- What others link of the calls on a table with a span asks nothing, allows one reply, and where it does not return 0 leaves what stood behind each pointer,
 -- but 11 its count. Assumes nothing.
+use Rattle.table_span.specs.declared.Table.{Table}
+use Rattle.error.specs.declared.Refusal.{Refusal}
+use Rattle.inverse_segment.specs.declared.Miss.{Miss}
+use Rattle.inverse_segment.specs.declared.Place.{Place}
+use Rattle.inverse_segment.specs.declared.Miss.TheVariants.{Refused, OffCurve}
+use Rattle.spline.specs.Evaluation.{Evaluation}
+use Rattle.std.specs.Prelude.{Ok, Err, Some, None, Option, Result, ℕ}
 use mathlib.Core.Path.{◌≡◌, refl, sym, ◌∙◌}
 use mathlib.Core.List.{List}
 use Prim.Native.Nat.{ℕ}
@@ -13,16 +20,7 @@ use Rattle.inverse_segment.specs.declared.Method.{Method}
 use Rattle.inverse_segment.specs.declared.Method.TheVariants.{AsCrate}
 use Rattle.inverse_order.specs.declared.EndsBy.{EndsBy}
 use Rattle.inverse_order.specs.declared.EndsBy.TheVariants.{Knots}
-use Rattle.spline.specs.declared.Evaluation.{Evaluation}
-use Rattle.spline.specs.declared.Evaluation.TheVariants as E
-use Rattle.table.specs.declared.TableInversion.{TableInversion}
-use Rattle.table.specs.declared.TableInversion.TheVariants as T
-use Rattle.table.specs.declared.TableConversion.{TableConversion}
 use Rattle.table.specs.Calls.{table_spline_of, table_inverse_by, table_converted_of, table_strict_of, handed_of}
-use Rattle.exports_reply.specs.declared.BasisChoice.{BasisChoice}
-use Rattle.exports_reply.specs.declared.BasisChoice.TheVariants.{Known, Unknown}
-use Rattle.exports_reply.specs.declared.options.Way.{Way}
-use Rattle.exports_reply.specs.declared.options.Way.TheVariants as W
 use Rattle.exports_reply.specs.Replies.{chosen_of, no_basis, chosen, evaluated_reply, value_left}
 use Rattle.exports_reply.specs.Options.{way_of, way}
 use Rattle.exports_table.specs.Tables.{table_of, timed_reply, timed_place, timed_whole, handed_reply, handed_span, handed_length}
@@ -77,14 +75,14 @@ pub c_table_strict_one_reply : OneReply table_convert_spline_strict.Learnt
 c_table_strict_one_reply κs a z z' e e' p q = (one p.0 q.0, one p.1.0 q.1.0, one p.1.1.0 q.1.1.0, one p.1.1.1 q.1.1.1)
 
 -- ---- what is left where the reply is not 0
-value_kept : (c : BasisChoice) (f : Basis → Evaluation) (old : Float) → NotZero (chosen c no_basis (λ b. evaluated_reply (f b)))
+value_kept : (c : Option Basis) (f : Basis → Evaluation) (old : Float) → NotZero (chosen c no_basis (λ b. evaluated_reply (f b)))
     → chosen c old (λ b. value_left (f b) old) ≡ old
-value_kept Unknown f old h = refl
-value_kept (Known b) f old h = go (f b) h
+value_kept None f old h = refl
+value_kept (Some b) f old h = go (f b) h
   where
     go : (v : Evaluation) → NotZero (evaluated_reply v) → value_left v old ≡ old
-    go (E.Value x) h = absurd (h refl)
-    go (E.Refused r) h = refl
+    go (Ok x) h = absurd (h refl)
+    go (Err r) h = refl
 
 pub c_table_spline_writes_nothing : Keeps table_spline.Learnt (λ κs a z e. NotZero z → e.1.1.1.1.0.now ≡ a.1.1.1.1.0.now)
 c_table_spline_writes_nothing κs a z e p h =
@@ -93,36 +91,36 @@ c_table_spline_writes_nothing κs a z e p h =
     (λ w. h (p.0 ∙ w))
 
 -- the four doubles, and but for 11 the four whole numbers
-timed_place_kept : (t : TableInversion) (old : List Float) → NotZero (timed_reply t) → timed_place t old ≡ old
-timed_place_kept (T.At p s) old h = absurd (h refl)
-timed_place_kept (T.OffCurve n) old h = refl
-timed_place_kept (T.Refused r) old h = refl
+timed_place_kept : (t : Result (Place × ℕ) Miss) (old : List Float) → NotZero (timed_reply t) → timed_place t old ≡ old
+timed_place_kept (Ok (p, s)) old h = absurd (h refl)
+timed_place_kept (Err (OffCurve n)) old h = refl
+timed_place_kept (Err (Refused r)) old h = refl
 
-timed_whole_kept : (t : TableInversion) (old : List ℕ) → NotZero (timed_reply t) → (timed_reply t ≡ 11 → ⊥) → timed_whole t old ≡ old
-timed_whole_kept (T.At p s) old h g = absurd (h refl)
-timed_whole_kept (T.OffCurve n) old h g = absurd (g refl)
-timed_whole_kept (T.Refused r) old h g = refl
+timed_whole_kept : (t : Result (Place × ℕ) Miss) (old : List ℕ) → NotZero (timed_reply t) → (timed_reply t ≡ 11 → ⊥) → timed_whole t old ≡ old
+timed_whole_kept (Ok (p, s)) old h g = absurd (h refl)
+timed_whole_kept (Err (OffCurve n)) old h g = absurd (g refl)
+timed_whole_kept (Err (Refused r)) old h g = refl
 
-pub place_kept : (c : BasisChoice) (w : Way) (f : Basis → EndsBy → Method → TableInversion) (old : List Float)
+pub place_kept : (c : Option Basis) (w : Option (EndsBy × Method)) (f : Basis → EndsBy → Method → Result (Place × ℕ) Miss) (old : List Float)
     → NotZero (chosen c no_basis (λ b. way w no_basis (λ e m. timed_reply (f b e m)))) → chosen c old (λ b. way w old (λ e m. timed_place (f b e m) old)) ≡ old
-place_kept Unknown w f old h = refl
-place_kept (Known b) W.Unknown f old h = refl
-place_kept (Known b) (W.Known e m) f old h = timed_place_kept (f b e m) old h
+place_kept None w f old h = refl
+place_kept (Some b) None f old h = refl
+place_kept (Some b) (Some (e, m)) f old h = timed_place_kept (f b e m) old h
 
-pub whole_kept : (c : BasisChoice) (w : Way) (f : Basis → EndsBy → Method → TableInversion) (old : List ℕ)
+pub whole_kept : (c : Option Basis) (w : Option (EndsBy × Method)) (f : Basis → EndsBy → Method → Result (Place × ℕ) Miss) (old : List ℕ)
     → NotZero (chosen c no_basis (λ b. way w no_basis (λ e m. timed_reply (f b e m))))
     → (chosen c no_basis (λ b. way w no_basis (λ e m. timed_reply (f b e m))) ≡ 11 → ⊥)
     → chosen c old (λ b. way w old (λ e m. timed_whole (f b e m) old)) ≡ old
-whole_kept Unknown w f old h g = refl
-whole_kept (Known b) W.Unknown f old h g = refl
-whole_kept (Known b) (W.Known e m) f old h g = timed_whole_kept (f b e m) old h g
+whole_kept None w f old h g = refl
+whole_kept (Some b) None f old h g = refl
+whole_kept (Some b) (Some (e, m)) f old h g = timed_whole_kept (f b e m) old h g
 
 pub c_table_spline_inverse_by_writes_nothing : Keeps table_spline_inverse_by.Learnt
     (λ κs a z e. NotZero z
     → (e.1.1.1.1.1.1.1.1.1.0.now ≡ a.1.1.1.1.1.1.1.1.1.0.now)
     × ((z ≡ 11 → ⊥) → e.1.1.1.1.1.1.1.1.1.1.0.now ≡ a.1.1.1.1.1.1.1.1.1.1.0.now))
 c_table_spline_inverse_by_writes_nothing κs a z e p h =
-    let f : Basis → EndsBy → Method → TableInversion =
+    let f : Basis → EndsBy → Method → Result (Place × ℕ) Miss =
     λ b n m. table_inverse_by n m (table_of a.1.0 b) a.1.1.0 a.1.1.1.0.now a.1.1.1.1.0 a.1.1.1.1.1.0
     a.1.1.1.1.1.1.0 in
     let c = chosen_of a.0 in
@@ -137,10 +135,10 @@ pub c_table_spline_inverse_writes_nothing : Keeps table_spline_inverse.Learnt
     (λ κs a z e. NotZero z
     → (e.1.1.1.1.1.0.now ≡ a.1.1.1.1.1.0.now) × ((z ≡ 11 → ⊥) → e.1.1.1.1.1.1.0.now ≡ a.1.1.1.1.1.1.0.now))
 c_table_spline_inverse_writes_nothing κs a z e p h =
-    let f : Basis → EndsBy → Method → TableInversion =
+    let f : Basis → EndsBy → Method → Result (Place × ℕ) Miss =
     λ b n m. table_inverse_by n m (table_of a.1.0 b) a.1.1.0 a.1.1.1.0.now a.1.1.1.1.0 default_limit default_precision in
     let c = chosen_of a.0 in
-    let w = W.Known Knots AsCrate in (
+    let w = Some (Knots, AsCrate) in (
       p.1.0 ∙ place_kept c w f a.1.1.1.1.1.0.now (λ q. h (p.0 ∙ q)),
       λ g. p.1.1
           ∙ whole_kept c w f a.1.1.1.1.1.1.0.now (λ q. h (p.0 ∙ q)) (λ q. g (p.0 ∙ q)),
@@ -148,34 +146,34 @@ c_table_spline_inverse_writes_nothing κs a z e p h =
 
 -- the span, the length and the whole buffer
 module _ (span : ℕ) (g : Basis → Basis → Conversion) where
-  abbrev handed_by : Basis → Basis → TableConversion
+  abbrev handed_by : Basis → Basis → Result (Table × ℕ) Refusal
   handed_by f t = handed_of span t (answer_of (g f t))
 
-  abbrev reply : BasisChoice → BasisChoice → ℕ
+  abbrev reply : Option Basis → Option Basis → ℕ
   reply c d = chosen c no_basis (λ f. chosen d no_basis (λ t. handed_reply (handed_by f t)))
 
-  span_kept : (c d : BasisChoice) (old : ℕ) → NotZero (reply c d) → chosen c old (λ f. chosen d old (λ t. handed_span (handed_by f t) old)) ≡ old
-  span_kept Unknown d old h = refl
-  span_kept (Known f) Unknown old h = refl
-  span_kept (Known f) (Known t) old h = go (g f t) h
+  span_kept : (c d : Option Basis) (old : ℕ) → NotZero (reply c d) → chosen c old (λ f. chosen d old (λ t. handed_span (handed_by f t) old)) ≡ old
+  span_kept None d old h = refl
+  span_kept (Some f) None old h = refl
+  span_kept (Some f) (Some t) old h = go (g f t) h
     where
       go : (z : Conversion) → NotZero (handed_reply (handed_of span t (answer_of z))) → handed_span (handed_of span t (answer_of z)) old ≡ old
       go (gives l) h = absurd (h refl)
       go (refuses r) h = refl
 
-  length_kept : (c d : BasisChoice) (old : ℕ) → NotZero (reply c d) → chosen c old (λ f. chosen d old (λ t. handed_length (handed_by f t) old)) ≡ old
-  length_kept Unknown d old h = refl
-  length_kept (Known f) Unknown old h = refl
-  length_kept (Known f) (Known t) old h = go (g f t) h
+  length_kept : (c d : Option Basis) (old : ℕ) → NotZero (reply c d) → chosen c old (λ f. chosen d old (λ t. handed_length (handed_by f t) old)) ≡ old
+  length_kept None d old h = refl
+  length_kept (Some f) None old h = refl
+  length_kept (Some f) (Some t) old h = go (g f t) h
     where
       go : (z : Conversion) → NotZero (handed_reply (handed_of span t (answer_of z))) → handed_length (handed_of span t (answer_of z)) old ≡ old
       go (gives l) h = absurd (h refl)
       go (refuses r) h = refl
 
-  buffer_kept : (c d : BasisChoice) (old : List Float) → NotZero (reply c d) → chosen c old (λ f. chosen d old (λ t. buffer_of (g f t) old)) ≡ old
-  buffer_kept Unknown d old h = refl
-  buffer_kept (Known f) Unknown old h = refl
-  buffer_kept (Known f) (Known t) old h = go (g f t) h
+  buffer_kept : (c d : Option Basis) (old : List Float) → NotZero (reply c d) → chosen c old (λ f. chosen d old (λ t. buffer_of (g f t) old)) ≡ old
+  buffer_kept None d old h = refl
+  buffer_kept (Some f) None old h = refl
+  buffer_kept (Some f) (Some t) old h = go (g f t) h
     where
       go : (z : Conversion) → NotZero (handed_reply (handed_of span t (answer_of z))) → buffer_of z old ≡ old
       go (gives l) h = absurd (h refl)

@@ -1,5 +1,7 @@
 -- `spent` says that every round was made: the list of evaluations ends with those of the two ends of the segment that is told, and after them as many of it as
 -- the limit says. Assumes nothing.
+use Rattle.inverse_segment.specs.Inversion.{Inversion}
+use Rattle.std.specs.Prelude.{Ok, Err}
 use mathlib.Core.Path.{◌≡◌, refl, sym, subst}
 use mathlib.Core.Bool.{Bool, true, false, cond}
 use mathlib.Core.List.{List, [], ◌∷◌}
@@ -8,9 +10,7 @@ use native.Mathlib.Omega.{arith}
 use lib.Dec.{leb}
 use lib.ListN.{length}
 use lib.Ieee.{Float, binary64, sub, lt}
-use Rattle.error.specs.declared.Verdict.{Verdict}
-use Rattle.error.specs.declared.Verdict.TheVariants.{Passed, Failed}
-use Rattle.error.specs.Refusals.{first}
+use Rattle.error.specs.Refusals.{first, Verdict}
 use Rattle.basis.specs.declared.Basis.{Basis}
 use Rattle.basis.specs.Basis.{segments_of}
 use Rattle.doubles.specs.Numbers.{nought, one, magnitude_of}
@@ -18,7 +18,6 @@ use Rattle.doubles.proofs.Tests.{branch}
 use Rattle.spline.specs.Segment.{segment_of}
 use Rattle.inverse_segment.specs.declared.Ground.{Ground}
 use Rattle.inverse_segment.specs.declared.Ground.TheVariants.{End, Edge, Value, Width, Spent}
-use Rattle.inverse_segment.specs.declared.Inversion.{Inversion}
 use Rattle.inverse_segment.specs.declared.State.{State}
 use Rattle.inverse_segment.specs.Evaluations.{Evaluations}
 use Rattle.inverse_segment.specs.Round.{Rule, narrow, Round, found, on, round_of, probed, settled}
@@ -200,11 +199,11 @@ module _ (m : EndsBy) (how : Method) (b : Basis) (y : Float) (ks : List Float) (
           × Then p.segment (both p.segment ev) limit (unless_refused v (cond a rule.made (cond c rule.made (evaluations_of o)))))
           (inverted v (cond a (ended rule.made 0 nought)
           (cond c (ended rule.made (segments_of b (length ks) - 1) one) (answered (parameter_of (segments_of b (length ks))) o))))
-      go Passed true c o h = λ q. absurd q
-      go Passed false true o h = λ q. absurd q
-      go Passed false false (off l) h = tt
-      go Passed false false (placed p) h = h
-      go (Failed r) a c o h = tt
+      go (Ok _) true c o h = λ q. absurd q
+      go (Ok _) false true o h = λ q. absurd q
+      go (Ok _) false false (off l) h = tt
+      go (Ok _) false false (placed p) h = h
+      go (Err r) a c o h = tt
 
   reply_spent : (r : Inversion) → r ≡ inverse_by m how b y ks check limit ε → AllRounds r
   reply_spent r e = subst AllRounds (sym e) inverse_spent
@@ -237,9 +236,9 @@ module _ (how : Method) (b : Basis) (y : Float) (cv : List Float) (limit : ℕ) 
       go : (v : Verdict) (e : Entry) → SpentTrial 0 [] limit e
           → AtPlace (λ p. IsSpent p.ground → Then 0 (both 0 []) limit (unless_refused v (evaluations_of (outcome_of e))))
           (inverted v (answered alone (outcome_of e)))
-      go Passed (outside v l) h = tt
-      go Passed (inside p) h = λ q. (h q).1
-      go (Failed r) e h = tt
+      go (Ok _) (outside v l) h = tt
+      go (Ok _) (inside p) h = λ q. (h q).1
+      go (Err r) e h = tt
 
   segment_reply_spent : (r : Inversion) → r ≡ inverse_segment_by (rule_of how) b y cv limit ε → SegmentAllRounds r
   segment_reply_spent r e = subst SegmentAllRounds (sym e) segment_spent

@@ -1,6 +1,10 @@
 -- The calls by the steady method with its defaults: never spent, few evaluations, and all that is promised of an inversion by any method; of one segment, of a
 -- curve,
 -- of a table with a span, and what others link of them. Assumes nothing.
+use Rattle.inverse_segment.specs.declared.Miss.{Miss}
+use Rattle.inverse_segment.specs.Inversion.{Inversion}
+use Rattle.inverse_segment.specs.declared.Miss.TheVariants.{Refused, OffCurve}
+use Rattle.std.specs.Prelude.{Ok, Err, Some, Result, ℕ}
 use mathlib.Core.Path.{◌≡◌, refl, sym, subst, ◌∙◌}
 use mathlib.Core.Bool.{Bool, true, not}
 use mathlib.Core.List.{List, ◌∷◌}
@@ -12,15 +16,11 @@ use lib.ListN.{length}
 use lib.Ieee.{Float}
 use Rattle.error.specs.declared.Refusal.{Refusal}
 use Rattle.error.specs.declared.Refusal.TheVariants.{BadKnot, TurnsBack}
-use Rattle.error.specs.declared.Verdict.{Verdict}
-use Rattle.error.specs.declared.Verdict.TheVariants.{Passed, Failed}
-use Rattle.error.specs.Refusals.{rows}
+use Rattle.error.specs.Refusals.{rows, Verdict}
 use Rattle.error.proofs.First.{First}
 use Rattle.basis.specs.declared.Basis.{Basis}
 use Rattle.basis.specs.Basis.{segments_of}
 use Rattle.inverse_segment.specs.declared.Place.{Place}
-use Rattle.inverse_segment.specs.declared.Inversion.{Inversion}
-use Rattle.inverse_segment.specs.declared.Inversion.TheVariants as I
 use Rattle.inverse_segment.specs.Answer.{count_told, inverse_segment_uses, default_precision}
 use Rattle.inverse_segment.specs.declared.Method.{Method}
 use Rattle.inverse_segment.specs.declared.Method.TheVariants.{Steady}
@@ -41,14 +41,11 @@ use Rattle.inverse.proofs.Timely.{timely}
 use Rattle.inverse_order.proofs.TurnsBack.{AgainstAt}
 use Rattle.inverse.proofs.spline_inverse_steady.Reads as spline_inverse_steady
 use Rattle.table_span.specs.declared.Table.{Table}
-use Rattle.table.specs.declared.TableInversion.{TableInversion}
-use Rattle.table.specs.declared.TableInversion.TheVariants as T
 use Rattle.table_span.specs.Second.{good_span, bad_span, elapsed}
 use Rattle.table.specs.Calls.{verdict_of, timed_of, timed_unless, table_inverse_by, table_steady_of}
 use Rattle.table.proofs.Spans.{inverse_base}
 use Rattle.table_span.proofs.Largest.{Largest}
 use Rattle.table.proofs.table_spline_inverse_steady.Reads as table_spline_inverse_steady
-use Rattle.exports_reply.specs.declared.options.Way.TheVariants as W
 use Rattle.exports_reply.specs.Replies.{chosen_of}
 use Rattle.exports_table.specs.Tables.{table_of}
 use Rattle.simmerstoat.proofs.steady.simmerstoat_spline_inverse_steady.Reads as c_spline_inverse_steady
@@ -87,7 +84,7 @@ pub spline_inverse_segment_steady_one_reply : OneReply spline_inverse_segment_st
 spline_inverse_segment_steady_one_reply κs a z z' e e' p q = one p q
 
 pub spline_inverse_segment_steady_refuses : Keeps spline_inverse_segment_steady.Learnt
-    (λ κs a z e. (r : Refusal) → Exactly (z ≡ I.Refused r) (First (inverse_segment_uses a.1.0 a.1.1.0.now steady_limit default_precision) rows r))
+    (λ κs a z e. (r : Refusal) → Exactly (z ≡ Err (Refused r)) (First (inverse_segment_uses a.1.0 a.1.1.0.now steady_limit default_precision) rows r))
 spline_inverse_segment_steady_refuses κs a z e p r = carried p (segment_place_refused steady a.0 a.1.0 a.1.1.0.now steady_limit default_precision r)
 
 pub spline_inverse_segment_steady_number : Keeps spline_inverse_segment_steady.Learnt
@@ -95,7 +92,7 @@ pub spline_inverse_segment_steady_number : Keeps spline_inverse_segment_steady.L
 spline_inverse_segment_steady_number κs a z e p = inverts _ z refl refl (spline_inverse_segment_steady_refuses κs a z e p)
 
 pub spline_inverse_segment_steady_first_bad : Keeps spline_inverse_segment_steady.Learnt
-    (λ κs a z e. (i : ℕ) → z ≡ I.Refused (BadKnot i) → FirstBad a.1.1.0.now i)
+    (λ κs a z e. (i : ℕ) → z ≡ Err (Refused (BadKnot i)) → FirstBad a.1.1.0.now i)
 spline_inverse_segment_steady_first_bad κs a z e p i h =
     knot_first (inverse_segment_uses a.1.0 a.1.1.0.now steady_limit default_precision) a.1.1.0.now i refl refl
     ((spline_inverse_segment_steady_refuses κs a z e p (BadKnot i)).0 h)
@@ -127,7 +124,7 @@ spline_inverse_steady_one_reply κs a z z' e e' p q = one p q
 
 pub spline_inverse_steady_refuses : Keeps spline_inverse_steady.Learnt
     (λ κs a z e. (r : Refusal)
-    → Exactly (z ≡ I.Refused r) (First (inverse_uses a.0 a.1.0 a.1.1.0.now a.1.1.1.0 steady_limit default_precision) rows r))
+    → Exactly (z ≡ Err (Refused r)) (First (inverse_uses a.0 a.1.0 a.1.1.0.now a.1.1.1.0 steady_limit default_precision) rows r))
 spline_inverse_steady_refuses κs a z e p r =
     carried p (
       inverse_refused_only Knots Steady a.0 a.1.0 a.1.1.0.now a.1.1.1.0 steady_limit default_precision r,
@@ -144,29 +141,29 @@ spline_inverse_steady_eleven κs a z e p =
     by_eleven Knots Steady a.0 a.1.0 a.1.1.0.now a.1.1.1.0 steady_limit default_precision z (spline_inverse_steady_number κs a z e p)
     (spline_inverse_steady_promised κs a z e p)
 
-pub spline_inverse_steady_first_bad : Keeps spline_inverse_steady.Learnt (λ κs a z e. (i : ℕ) → z ≡ I.Refused (BadKnot i) → FirstBad a.1.1.0.now i)
+pub spline_inverse_steady_first_bad : Keeps spline_inverse_steady.Learnt (λ κs a z e. (i : ℕ) → z ≡ Err (Refused (BadKnot i)) → FirstBad a.1.1.0.now i)
 spline_inverse_steady_first_bad κs a z e p i h =
     knot_first (inverse_uses a.0 a.1.0 a.1.1.0.now a.1.1.1.0 steady_limit default_precision) a.1.1.0.now i refl refl
     ((spline_inverse_steady_refuses κs a z e p (BadKnot i)).0 h)
 
 pub spline_inverse_steady_first_turn : Keeps spline_inverse_steady.Learnt
-    (λ κs a z e. (i : ℕ) → z ≡ I.Refused (TurnsBack i)
+    (λ κs a z e. (i : ℕ) → z ≡ Err (Refused (TurnsBack i))
     → T a.1.1.1.0 × AgainstAt a.1.1.0.now i × ((j : ℕ) → AgainstAt a.1.1.0.now j → i ≤ j))
 spline_inverse_steady_first_turn κs a z e p i h =
     inverse_turns_back Knots Steady a.0 a.1.0 a.1.1.0.now a.1.1.1.0 steady_limit default_precision i (sym p ∙ h)
 
 -- ---- a table with a span: a place is never spent, and it and 11 tell at most as many evaluations
-abbrev pub TableSteadyWithin : Basis → List Float → TableInversion → Type 0
-TableSteadyWithin b ks (T.At p n) = T (not (is_spent p.ground)) × (p.count ≤ bound_of (segments_of b (length ks)) 39)
-TableSteadyWithin b ks (T.OffCurve n) = n ≤ bound_of (segments_of b (length ks)) 39
-TableSteadyWithin b ks (T.Refused r) = Unit
+abbrev pub TableSteadyWithin : Basis → List Float → Result (Place × ℕ) Miss → Type 0
+TableSteadyWithin b ks (Ok (p, n)) = T (not (is_spent p.ground)) × (p.count ≤ bound_of (segments_of b (length ks)) 39)
+TableSteadyWithin b ks (Err (OffCurve n)) = n ≤ bound_of (segments_of b (length ks)) 39
+TableSteadyWithin b ks (Err (Refused r)) = Unit
 
 timed_within : (b : Basis) (ks : List Float) (s : ℕ) (v : Verdict) (i : Inversion) → SteadyWithin b ks i
     → TableSteadyWithin b ks (timed_unless v (timed_of s i))
-timed_within b ks s Passed (I.At p) h = h
-timed_within b ks s Passed (I.OffCurve n) h = h.1
-timed_within b ks s Passed (I.Refused r) h = tt
-timed_within b ks s (Failed r) i h = tt
+timed_within b ks s (Ok _) (Ok p) h = h
+timed_within b ks s (Ok _) (Err (OffCurve n)) h = h.1
+timed_within b ks s (Ok _) (Err (Refused r)) h = tt
+timed_within b ks s (Err r) i h = tt
 
 table_timely : (t : Table) (y : Float) (ks : List Float) (check : Bool) → TableSteadyWithin t.basis ks (table_steady_of t y ks check)
 unfolding table_inverse_by
@@ -191,7 +188,7 @@ table_spline_inverse_steady_base κs a z e p g = p ∙ inverse_base Knots Steady
 
 pub table_spline_inverse_steady_refuses : Keeps table_spline_inverse_steady.Learnt
     (λ κs a z e. (r : Refusal)
-    → Exactly (z ≡ T.Refused r)
+    → Exactly (z ≡ Err (Refused r))
     (First (bad_span a.0.span ∷ inverse_uses a.0.basis a.1.0 a.1.1.0.now a.1.1.1.0 steady_limit default_precision) rows r))
 table_spline_inverse_steady_refuses κs a z e p r =
     carried p (table_place_refused a.0 r Knots Steady a.1.0 a.1.1.0.now a.1.1.1.0 steady_limit default_precision)
@@ -200,10 +197,10 @@ pub table_spline_inverse_steady_number : Keeps table_spline_inverse_steady.Learn
     (λ κs a z e. TableInversionNumber
     (bad_span a.0.span ∷ inverse_uses a.0.basis a.1.0 a.1.1.0.now a.1.1.1.0 steady_limit default_precision) z)
 table_spline_inverse_steady_number κs a z e p =
-    by_places timed_number T.Refused T.OffCurve timed_owed _ z refl refl (table_spline_inverse_steady_refuses κs a z e p)
+    by_places timed_number (λ a. Err (Refused a)) (λ a. Err (OffCurve a)) timed_owed _ z refl refl (table_spline_inverse_steady_refuses κs a z e p)
 
 pub table_spline_inverse_steady_second : Keeps table_spline_inverse_steady.Learnt
-    (λ κs a z e. (p : Place) (n : ℕ) → z ≡ T.At p n → Largest a.0.span (elapsed a.0.span p.parameter) n)
+    (λ κs a z e. (p : Place) (n : ℕ) → z ≡ Ok (p, n) → Largest a.0.span (elapsed a.0.span p.parameter) n)
 table_spline_inverse_steady_second κs a z e p q n h =
     second_is_largest Knots Steady a.0 a.1.0 a.1.1.0.now a.1.1.1.0 steady_limit default_precision q n (sym p ∙ h)
 
@@ -253,10 +250,10 @@ pub c_table_spline_inverse_steady_writes_nothing : Keeps c_table_spline_inverse_
     (λ κs a z e. NotZero z
     → (e.1.1.1.1.1.0.now ≡ a.1.1.1.1.1.0.now) × ((z ≡ 11 → ⊥) → e.1.1.1.1.1.1.0.now ≡ a.1.1.1.1.1.1.0.now))
 c_table_spline_inverse_steady_writes_nothing κs a z e p h =
-    let f : Basis → EndsBy → Method → TableInversion =
+    let f : Basis → EndsBy → Method → Result (Place × ℕ) Miss =
     λ b n m. table_inverse_by n m (table_of a.1.0 b) a.1.1.0 a.1.1.1.0.now a.1.1.1.1.0 steady_limit default_precision in
     let c = chosen_of a.0 in
-    let w = W.Known Knots Steady in (
+    let w = Some (Knots, Steady) in (
       p.1.0 ∙ timed.place_kept c w f a.1.1.1.1.1.0.now (λ q. h (p.0 ∙ q)),
       λ g. p.1.1
           ∙ timed.whole_kept c w f a.1.1.1.1.1.1.0.now (λ q. h (p.0 ∙ q)) (λ q. g (p.0 ∙ q)),

@@ -1,5 +1,6 @@
 -- What the strict conversion promises, of its call. It refuses by the first row that applies; 15 exactly where a seam is lost, with the lowest segment;
 -- otherwise reply and whole buffer are the plain conversion's; and a refusal writes nothing. Assumes nothing.
+use Rattle.std.specs.Prelude.{Ok, Err, Result, ℕ}
 use mathlib.Core.Path.{◌≡◌, refl, sym, ap, ◌∙◌}
 use mathlib.Core.Bool.{false}
 use mathlib.Core.List.{List, [], ◌∷◌}
@@ -14,8 +15,6 @@ use Rattle.basis.specs.declared.Basis.{Basis}
 use Rattle.basis.specs.declared.Basis.TheVariants.{Power}
 use Rattle.basis.specs.Basis.{step_of, segments_of}
 use Rattle.convert_matrix.specs.Elimination.{conversion_of}
-use Rattle.convert.specs.declared.ConversionAnswer.{ConversionAnswer}
-use Rattle.convert.specs.declared.ConversionAnswer.TheVariants as C
 use Rattle.convert.specs.Output.{window_of}
 use Rattle.convert.specs.Conversion.{Conversion, gives, refuses, converted_of}
 use Rattle.convert.specs.Buffer.{answer_of, buffer_of}
@@ -37,13 +36,13 @@ pub strict_one_reply : OneReply convert_spline_strict.Learnt (λ κs z e z' e'. 
 strict_one_reply κs a z z' e e' p q = (p.0 ∙ sym q.0, p.1 ∙ sym q.1)
 
 -- an answer refuses exactly where the conversion does
-by_answer : (x : Conversion) (z : ConversionAnswer) (r : Refusal) → z ≡ answer_of x → Exactly (z ≡ C.Refused r) (x ≡ refuses r)
+by_answer : (x : Conversion) (z : Result ℕ Refusal) (r : Refusal) → z ≡ answer_of x → Exactly (z ≡ Err r) (x ≡ refuses r)
 by_answer (gives l) z r p = (λ h. never (cc), λ h. never (cc))
-by_answer (refuses q) z r p = (λ h. let s : q ≡ r = cc in ap refuses s, λ h. let s : q ≡ r = cc in p ∙ ap C.Refused s)
+by_answer (refuses q) z r p = (λ h. let s : q ≡ r = cc in ap refuses s, λ h. let s : q ≡ r = cc in p ∙ ap Err s)
 
 pub strict_refuses_first : Keeps convert_spline_strict.Learnt
     (λ κs a z e. (r : Refusal)
-    → Exactly (z ≡ C.Refused r) (First (strict_uses a.0 a.1.0 a.1.1.0.now a.1.1.1.0 (length a.1.1.1.1.0.now)) rows r))
+    → Exactly (z ≡ Err r) (First (strict_uses a.0 a.1.0 a.1.1.0.now a.1.1.1.0 (length a.1.1.1.1.0.now)) rows r))
 strict_refuses_first κs a z e p r =
     let room = length a.1.1.1.1.0.now in
     let us = strict_uses a.0 a.1.0 a.1.1.0.now a.1.1.1.0 room in
@@ -60,7 +59,7 @@ strict_ordered from to ks allowance room = (refl, refl)
 kept : (x : Conversion) (out : List Float) (r : Refusal) → x ≡ refuses r → buffer_of x out ≡ out
 kept x out r e = ap (λ (y : Conversion). buffer_of y out) e
 
-pub strict_writes_nothing : Keeps convert_spline_strict.Learnt (λ κs a z e. (r : Refusal) → z ≡ C.Refused r → e.1.1.1.1.0.now ≡ a.1.1.1.1.0.now)
+pub strict_writes_nothing : Keeps convert_spline_strict.Learnt (λ κs a z e. (r : Refusal) → z ≡ Err r → e.1.1.1.1.0.now ≡ a.1.1.1.1.0.now)
 strict_writes_nothing κs a z e p r h =
     let out = a.1.1.1.1.0.now in
     let x = strict_of a.0 a.1.0 a.1.1.0.now a.1.1.1.0 (length out) in
@@ -69,7 +68,7 @@ strict_writes_nothing κs a z e p r h =
 -- ---- 15 with segment s: the plain conversion would answer, the allowance is good, and s is the lowest segment that loses a double
 pub strict_lost : Keeps convert_spline_strict.Learnt
     (λ κs a z e. (s : ℕ)
-    → Exactly (z ≡ C.Refused (LostSeam s)) (SeamLost a.0 a.1.0 a.1.1.0.now a.1.1.1.0 (length a.1.1.1.1.0.now) s))
+    → Exactly (z ≡ Err (LostSeam s)) (SeamLost a.0 a.1.0 a.1.1.0.now a.1.1.1.0 (length a.1.1.1.1.0.now) s))
 strict_lost κs a z e p s =
     let room = length a.1.1.1.1.0.now in
     let x = by_answer (strict_of a.0 a.1.0 a.1.1.0.now a.1.1.1.0 room) z (LostSeam s) p.0 in (
@@ -78,15 +77,15 @@ strict_lost κs a z e p s =
     )
 
 -- to Power it is never given: its windows do not overlap
-pub strict_power_keeps : Keeps convert_spline_strict.Learnt (λ κs a z e. a.1.0 ≡ Power → (s : ℕ) → z ≡ C.Refused (LostSeam s) → ⊥)
+pub strict_power_keeps : Keeps convert_spline_strict.Learnt (λ κs a z e. a.1.0 ≡ Power → (s : ℕ) → z ≡ Err (LostSeam s) → ⊥)
 strict_power_keeps κs a z e p q s h =
     power_keeps a.0 a.1.1.0.now a.1.1.1.0 a.1.0 q s ((strict_lost κs a z e p s).0 h).1.1.0
 
 -- ---- where neither 17 nor 15 is given, the reply and the whole buffer are the plain conversion's
 pub strict_is_the_plain : Keeps convert_spline_strict.Learnt
     (λ κs a z e.
-    (z ≡ C.Refused BadAllowance → ⊥)
-    → ((s : ℕ) → z ≡ C.Refused (LostSeam s) → ⊥)
+    (z ≡ Err BadAllowance → ⊥)
+    → ((s : ℕ) → z ≡ Err (LostSeam s) → ⊥)
     → (z ≡ answer_of (converted_of a.0 a.1.0 a.1.1.0.now (length a.1.1.1.1.0.now)))
     × (e.1.1.1.1.0.now ≡ buffer_of (converted_of a.0 a.1.0 a.1.1.0.now (length a.1.1.1.1.0.now)) a.1.1.1.1.0.now))
 strict_is_the_plain κs a z e p u v =
@@ -99,7 +98,7 @@ strict_is_the_plain κs a z e p u v =
 
 -- ---- where doubles are written, each that a later segment drops lies within the allowance of the one that then stands at its place of the buffer
 pub strict_keeps_within : Keeps convert_spline_strict.Learnt
-    (λ κs a z e. (n : ℕ) → z ≡ C.Written n → (s j : ℕ) → 0 < s → s < segments_of a.0 (length a.1.1.0.now) → j < 4 - step_of a.1.0
+    (λ κs a z e. (n : ℕ) → z ≡ Ok n → (s j : ℕ) → 0 < s → s < segments_of a.0 (length a.1.1.0.now) → j < 4 - step_of a.1.0
     → is_apart a.1.1.1.0 (get_or (window_of (conversion_of a.0 a.1.0) (step_of a.0) a.1.1.0.now s) j nan)
     (get_or e.1.1.1.1.0.now (s * step_of a.1.0 + j) nan) ≡ false)
 strict_keeps_within κs a z e p n h s j u v w =

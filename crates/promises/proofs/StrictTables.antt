@@ -1,5 +1,6 @@
 -- What the strict conversion of a table with a span promises, of its call: it refuses by the first row that applies, 14 among them; 15 exactly where the
 -- span is good and a seam is lost, with the lowest segment; otherwise reply and whole buffer are the table's plain conversion's. Assumes nothing.
+use Rattle.std.specs.Prelude.{Err, Result, ℕ}
 use mathlib.Core.Path.{◌≡◌, refl, sym, ap, ◌∙◌}
 use mathlib.Core.Bool.{Bool, true, false}
 use mathlib.Core.List.{List, [], ◌∷◌}
@@ -9,7 +10,6 @@ use lib.ListN.{length}
 use lib.Ieee.{Float}
 use Rattle.error.specs.declared.Refusal.{Refusal}
 use Rattle.error.specs.declared.Refusal.TheVariants.{TooFew, BadPattern, TooMany, BadSpan, BadAllowance, LostSeam}
-use Rattle.error.specs.declared.Verdict.TheVariants.{Failed}
 use Rattle.error.specs.Refusals.{rows, first}
 use Rattle.error.proofs.First.{never, First}
 use Rattle.basis.specs.declared.Basis.{Basis}
@@ -20,8 +20,6 @@ use Rattle.convert.specs.Buffer.{answer_of, buffer_of}
 use Rattle.convert_strict.specs.Strict.{strict_uses, strict_of}
 use Rattle.convert_strict.proofs.Call.{SeamLost, strict_is_plain, lost_only, lost_where}
 use Rattle.table_span.specs.declared.Table.{Table}
-use Rattle.table.specs.declared.TableConversion.{TableConversion}
-use Rattle.table.specs.declared.TableConversion.TheVariants as H
 use Rattle.table_span.specs.Second.{good_span, bad_span}
 use Rattle.table.specs.Calls.{table_converted_of, table_strict_of, handed_of}
 use Rattle.table.proofs.Spans.{converted_base, converted_spanless, strict_base, strict_spanless}
@@ -52,7 +50,7 @@ table_strict_base κs a z e p g =
 -- ---- refused exactly by the first row that applies, and then nothing is written
 pub table_strict_refuses : Keeps table_convert_spline_strict.Learnt
     (λ κs a z e. (r : Refusal)
-    → Exactly (z ≡ H.Refused r)
+    → Exactly (z ≡ Err r)
     (First (bad_span a.0.span ∷ strict_uses a.0.basis a.1.0 a.1.1.0.now a.1.1.1.0 (length a.1.1.1.1.0.now)) rows r))
 table_strict_refuses κs a z e p r =
     carried p.0 (table_strict_refused a.0 r a.1.0 a.1.1.0.now a.1.1.1.0 (length a.1.1.1.1.0.now))
@@ -62,21 +60,21 @@ pub table_strict_ordered : (t : Table) (to : Basis) (ks : List Float) (allowance
 table_strict_ordered t to ks allowance room = (refl, refl)
 
 pub table_strict_writes_nothing : Keeps table_convert_spline_strict.Learnt
-    (λ κs a z e. (r : Refusal) → z ≡ H.Refused r → e.1.1.1.1.0.now ≡ a.1.1.1.1.0.now)
+    (λ κs a z e. (r : Refusal) → z ≡ Err r → e.1.1.1.1.0.now ≡ a.1.1.1.1.0.now)
 table_strict_writes_nothing κs a z e p r h =
     let out = a.1.1.1.1.0.now in
     p.1 ∙ kept a.0.span a.1.0 (table_strict_of a.0 a.1.0 a.1.1.0.now a.1.1.1.0 (length out)) out r (sym p.0 ∙ h)
 
 -- ---- an answer refuses exactly where the conversion does
-by_handing : (s : ℕ) (to : Basis) (x : Conversion) (z : TableConversion) (r : Refusal) → z ≡ handed_of s to (answer_of x)
-    → Exactly (z ≡ H.Refused r) (x ≡ refuses r)
+by_handing : (s : ℕ) (to : Basis) (x : Conversion) (z : Result (Table × ℕ) Refusal) (r : Refusal) → z ≡ handed_of s to (answer_of x)
+    → Exactly (z ≡ Err r) (x ≡ refuses r)
 by_handing s to (gives l) z r p = (λ h. never (cc), λ h. never (cc))
-by_handing s to (refuses q) z r p = (λ h. let e : q ≡ r = cc in ap refuses e, λ h. let e : q ≡ r = cc in p ∙ ap H.Refused e)
+by_handing s to (refuses q) z r p = (λ h. let e : q ≡ r = cc in ap refuses e, λ h. let e : q ≡ r = cc in p ∙ ap Err e)
 
 -- without a span: a row of the length, or 14; never 15
 record Spanless (b : Basis) (n : ℕ) : Type 0 where
   row : Refusal
-  told : Failed row ≡ first ((BadSpan, true) ∷ curve_length b n)
+  told : Err row ≡ first ((BadSpan, true) ∷ curve_length b n)
   no_seam : (s : ℕ) → row ≡ LostSeam s → ⊥
 
 spanless : (b : Basis) (n : ℕ) → Spanless b n
@@ -120,7 +118,7 @@ module _ (t : Table) (to : Basis) (ks : List Float) (allowance : Float) (room : 
 -- 15 with segment s: the span is good, the plain conversion would answer, the allowance is good, and s is the lowest segment that loses a double
 pub table_strict_lost : Keeps table_convert_spline_strict.Learnt
     (λ κs a z e. (s : ℕ)
-    → Exactly (z ≡ H.Refused (LostSeam s))
+    → Exactly (z ≡ Err (LostSeam s))
     ((good_span a.0.span ≡ true) × SeamLost a.0.basis a.1.0 a.1.1.0.now a.1.1.1.0 (length a.1.1.1.1.0.now) s))
 table_strict_lost κs a z e p s =
     let room = length a.1.1.1.1.0.now in
@@ -131,8 +129,8 @@ table_strict_lost κs a z e p s =
 -- where neither 17 nor 15 is given, the reply and the whole buffer are those of the table's plain conversion
 pub table_strict_is_the_plain : Keeps table_convert_spline_strict.Learnt
     (λ κs a z e.
-    (z ≡ H.Refused BadAllowance → ⊥)
-    → ((s : ℕ) → z ≡ H.Refused (LostSeam s) → ⊥)
+    (z ≡ Err BadAllowance → ⊥)
+    → ((s : ℕ) → z ≡ Err (LostSeam s) → ⊥)
     → (z ≡ handed_of a.0.span a.1.0 (answer_of (table_converted_of a.0 a.1.0 a.1.1.0.now (length a.1.1.1.1.0.now))))
     × (e.1.1.1.1.0.now ≡ buffer_of (table_converted_of a.0 a.1.0 a.1.1.0.now (length a.1.1.1.1.0.now)) a.1.1.1.1.0.now))
 table_strict_is_the_plain κs a z e p u v =

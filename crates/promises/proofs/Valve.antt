@@ -1,5 +1,6 @@
 -- The valve's call and its export: what each asks, when it refuses, between what its sum lies; and that its weights are the B-spline's whole numbers.
 -- The weights are compared with the cubic at every step by one computed test. Assumes nothing.
+use Rattle.std.specs.Prelude.{Ok, Err, Result, ℤ}
 use mathlib.Core.Path.{◌≡◌, refl, sym, ap, ◌∙◌, subst}
 use mathlib.Core.Logic.{inl, inr}
 use mathlib.Core.Bool.{Bool, false, ◌&&◌}
@@ -11,15 +12,11 @@ use lib.Dec.{T, eqb, eqb→eq}
 use lib.IntN.{ℤ, pos, negsuc}
 use lib.Ieee.Fits.{and_l, and_r}
 use Rattle.error.specs.declared.Refusal.{Refusal}
-use Rattle.error.specs.declared.Verdict.{Verdict}
-use Rattle.error.specs.declared.Verdict.TheVariants.{Passed, Failed}
-use Rattle.error.specs.Refusals.{rows, first}
+use Rattle.error.specs.Refusals.{rows, first, Verdict}
 use Rattle.error.proofs.First.{never, First, first_sound, first_complete}
 use Rattle.basis.specs.declared.Basis.TheVariants.{Bspline}
 use Rattle.basis.specs.Basis.{whole_of}
 use Rattle.spline_exact.specs.Cubic.{whole_sum, cubic}
-use Rattle.valve.specs.declared.Mixture.{Mixture}
-use Rattle.valve.specs.declared.Mixture.TheVariants.{Refused, Mixed}
 use Rattle.valve.specs.Mix.{weight_of, mix_of, mix_uses, mixture, mixture_of, mixture_reply, sum_left}
 use Rattle.valve.proofs.Between.{Between, mixed_between}
 use Rattle.valve.proofs.mix.Reads as mix
@@ -35,24 +32,24 @@ mix_asks_nothing κs a = tt
 pub mix_ordered : (j : ℕ) (ks : List ℤ) → Ordered (mix_uses j ks) (1 ∷ 2 ∷ 16 ∷ 4 ∷ [])
 mix_ordered j ks = (refl, refl)
 
-by_mixture : (v : Verdict) (z : ℤ) (r : Refusal) → Exactly (mixture v z ≡ Refused r) (v ≡ Failed r)
-by_mixture Passed z r = (λ p. never (cc), λ p. never (cc))
-by_mixture (Failed q) z r = (λ p. let s : q ≡ r = cc in ap Failed s, λ p. let s : q ≡ r = cc in ap Refused s)
+by_mixture : (v : Verdict) (z : ℤ) (r : Refusal) → Exactly (mixture v z ≡ Err r) (v ≡ Err r)
+by_mixture (Ok _) z r = (λ p. never (cc), λ p. never (cc))
+by_mixture (Err q) z r = (λ p. let s : q ≡ r = cc in ap Err s, λ p. let s : q ≡ r = cc in ap Err s)
 
-mixture_refused : (j : ℕ) (ks : List ℤ) (r : Refusal) → Exactly (mixture_of j ks ≡ Refused r) (First (mix_uses j ks) rows r)
+mixture_refused : (j : ℕ) (ks : List ℤ) (r : Refusal) → Exactly (mixture_of j ks ≡ Err r) (First (mix_uses j ks) rows r)
 unfolding mixture_of
 mixture_refused j ks r =
     let m = by_mixture (first (mix_uses j ks)) (mix_of ks j) r in
     (λ p. first_sound rows (mix_uses j ks) r (m.0 p), λ f. m.1 (first_complete rows (mix_uses j ks) r f))
 
-pub mix_refuses : Keeps mix.Learnt (λ κs a z e. (r : Refusal) → Exactly (z ≡ Refused r) (First (mix_uses a.0 a.1.0.now) rows r))
+pub mix_refuses : Keeps mix.Learnt (λ κs a z e. (r : Refusal) → Exactly (z ≡ Err r) (First (mix_uses a.0 a.1.0.now) rows r))
 mix_refuses κs a z e p r = let m = mixture_refused a.0 a.1.0.now r in (λ q. m.0 (sym p ∙ q), λ f. p ∙ m.1 f)
 
 pub mix_one_reply : OneReply mix.Learnt (λ κs z e z' e'. z ≡ z')
 mix_one_reply κs a z z' e e' p q = p ∙ sym q
 
 -- a sum lies between the least and the greatest knot, times what the weights come to
-pub mix_between : Keeps mix.Learnt (λ κs a z e. (s : ℤ) → z ≡ Mixed s → Between a.1.0.now s)
+pub mix_between : Keeps mix.Learnt (λ κs a z e. (s : ℤ) → z ≡ Ok s → Between a.1.0.now s)
 mix_between κs a z e p s q = mixed_between a.0 a.1.0.now s (sym p ∙ q)
 
 -- ---- the export
@@ -62,9 +59,9 @@ valve_asks_nothing κs a = tt
 pub valve_one_reply : OneReply c_valve.Learnt (λ κs z e z' e'. (z ≡ z') × (e.1.1.0.now ≡ e'.1.1.0.now))
 valve_one_reply κs a z z' e e' p q = (p.0 ∙ sym q.0, p.1 ∙ sym q.1)
 
-kept : (m : Mixture) (old : ℤ) → (mixture_reply m ≡ 0 → ⊥) → sum_left m old ≡ old
-kept (Mixed z) old h = absurd (h refl)
-kept (Refused r) old h = refl
+kept : (m : Result ℤ Refusal) (old : ℤ) → (mixture_reply m ≡ 0 → ⊥) → sum_left m old ≡ old
+kept (Ok z) old h = absurd (h refl)
+kept (Err r) old h = refl
 
 pub valve_writes_nothing : Keeps c_valve.Learnt (λ κs a z e. (z ≡ 0 → ⊥) → e.1.1.0.now ≡ a.1.1.0.now)
 valve_writes_nothing κs a z e p h = p.1 ∙ kept (mixture_of a.0 a.1.0.now) a.1.1.0.now (λ w. h (p.0 ∙ w))
@@ -75,7 +72,7 @@ pub valve_is_mix : Keeps c_valve.Learnt (λ κs a z e. Keeps mix.Learnt (λ κs'
 valve_is_mix κs a z e p κs' b m e' q s k =
     let same : m ≡ mixture_of a.0 a.1.0.now =
     q ∙ ap (λ (j : ℕ). mixture_of j b.1.0.now) s ∙ ap (λ (ks : List ℤ). mixture_of a.0 ks) k in
-    (p.0 ∙ sym (ap mixture_reply same), p.1 ∙ sym (ap (λ (x : Mixture). sum_left x a.1.1.0.now) same))
+    (p.0 ∙ sym (ap mixture_reply same), p.1 ∙ sym (ap (λ (x : Result ℤ Refusal). sum_left x a.1.1.0.now) same))
 
 -- ---- the weights: knot i is 1 and the others are 0
 abbrev pub unit : ℕ → List ℤ

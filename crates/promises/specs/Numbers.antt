@@ -1,24 +1,20 @@
 -- The number that a call owes by the rows that it uses, and the number that a reply tells. Definitions only.
-use Rattle.std.specs.Prelude.{◌≡◌, ℕ}
+use Rattle.uneven.specs.declared.DepthMiss.{DepthMiss}
+use Rattle.uneven.specs.declared.Depth.{Depth}
+use Rattle.uneven.specs.declared.DepthMiss.TheVariants.{Refused, OffCurve}
+use Rattle.table_span.specs.declared.Table.{Table}
+use Rattle.inverse_segment.specs.declared.Miss.{Miss}
+use Rattle.inverse_segment.specs.declared.Place.{Place}
+use Rattle.inverse_segment.specs.declared.Miss.TheVariants.{Refused, OffCurve}
+use Rattle.error.specs.declared.Refusal.{Refusal}
+use Rattle.std.specs.Prelude.{◌≡◌, ℕ, Ok, Err, Result, ℤ, true, false, Bool}
 use Rattle.error.specs.declared.Refusal.TheVariants as R
-use Rattle.error.specs.declared.Verdict.{Verdict}
-use Rattle.error.specs.declared.Verdict.TheVariants.{Passed, Failed}
-use Rattle.error.specs.Refusals.{number_of, Uses, first}
-use Rattle.claim.specs.declared.ClaimAnswer.{ClaimAnswer}
-use Rattle.claim.specs.declared.ClaimAnswer.TheVariants as C
-use Rattle.table.specs.declared.TableInversion.{TableInversion}
-use Rattle.table.specs.declared.TableInversion.TheVariants as T
-use Rattle.table.specs.declared.TableConversion.{TableConversion}
-use Rattle.table.specs.declared.TableConversion.TheVariants as H
-use Rattle.uneven.specs.declared.DepthAnswer.{DepthAnswer}
-use Rattle.uneven.specs.declared.DepthAnswer.TheVariants as S
-use Rattle.valve.specs.declared.Mixture.{Mixture}
-use Rattle.valve.specs.declared.Mixture.TheVariants as M
+use Rattle.error.specs.Refusals.{number_of, Uses, first, Verdict}
 
 -- 0 where every row was passed, else the number of the one that was not
 abbrev pub number_in : Verdict → ℕ
-number_in Passed = 0
-number_in (Failed r) = number_of r
+number_in (Ok _) = 0
+number_in (Err r) = number_of r
 
 -- of the first row that applies; 0 where none does
 abbrev pub number_by : Uses → ℕ
@@ -26,36 +22,36 @@ number_by us = number_in (first us)
 
 -- of a call with two tables: the first row of the first table, or where it passes of the second
 abbrev pub either_of : Verdict → Verdict → Verdict
-either_of Passed w = w
-either_of (Failed r) w = Failed r
+either_of (Ok _) w = w
+either_of (Err r) w = Err r
 
 abbrev pub number_by_both : Uses → Uses → ℕ
 number_by_both us vs = number_in (either_of (first us) (first vs))
 
 -- ---- what a reply tells, where the crates have no word for it
-abbrev pub timed_number : TableInversion → ℕ
-timed_number (T.At p s) = 0
-timed_number (T.OffCurve n) = number_of R.OffCurve
-timed_number (T.Refused r) = number_of r
+abbrev pub timed_number : Result (Place × ℕ) Miss → ℕ
+timed_number (Ok (p, s)) = 0
+timed_number (Err (OffCurve n)) = number_of R.OffCurve
+timed_number (Err (Refused r)) = number_of r
 
-abbrev pub handed_number : TableConversion → ℕ
-handed_number (H.On t n) = 0
-handed_number (H.Refused r) = number_of r
+abbrev pub handed_number : Result (Table × ℕ) Refusal → ℕ
+handed_number (Ok (t, n)) = 0
+handed_number (Err r) = number_of r
 
 -- whichever table refuses
-abbrev pub sounded_number : DepthAnswer → ℕ
-sounded_number (S.At d) = 0
-sounded_number (S.OffCurve n) = number_of R.OffCurve
-sounded_number (S.Refused t r) = number_of r
+abbrev pub sounded_number : Result Depth DepthMiss → ℕ
+sounded_number (Ok d) = 0
+sounded_number (Err (OffCurve n)) = number_of R.OffCurve
+sounded_number (Err (Refused t r)) = number_of r
 
-abbrev pub mixture_number : Mixture → ℕ
-mixture_number (M.Mixed z) = 0
-mixture_number (M.Refused r) = number_of r
+abbrev pub mixture_number : Result ℤ Refusal → ℕ
+mixture_number (Ok z) = 0
+mixture_number (Err r) = number_of r
 
-abbrev pub claimed_number : ClaimAnswer → ℕ
-claimed_number C.Holds = 0
-claimed_number C.Differs = 0
-claimed_number (C.Refused r) = number_of r
+abbrev pub claimed_number : Result Bool Refusal → ℕ
+claimed_number (Ok true) = 0
+claimed_number (Ok false) = 0
+claimed_number (Err r) = number_of r
 
 -- a reply is the case that carries a count
 abbrev pub Counts : {Z : Type 0} → (ℕ → Z) → Z → Type 0

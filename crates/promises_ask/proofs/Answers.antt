@@ -1,5 +1,7 @@
 -- What each question about a fine sheet prints. Its knots are in range and their number suits, so that no question is refused by them: `at` within the span
 -- tells the curve's value, and `find` what the depth says of a stopped job. Assumes nothing.
+use Rattle.inverse_segment.specs.declared.Miss.TheVariants.{Refused}
+use Rattle.std.specs.Prelude.{Ok, Some, None, Option, ℕ, Bool, Err}
 use mathlib.Core.Path.{◌≡◌, refl, sym, ap, ◌∙◌, subst}
 use mathlib.Core.Bool.{Bool, true, false, cond, ◌&&◌}
 use mathlib.Core.List.{List, [], ◌∷◌, ◌++◌, map, append_assoc, append-nil}
@@ -21,30 +23,22 @@ use Rattle.doubles.proofs.Order.{Le, of_Le, ne_itself}
 use Rattle.doubles.proofs.Bounds.{Size, round_size, within_number}
 use Rattle.error.specs.declared.Refusal.{Refusal}
 use Rattle.error.specs.declared.Refusal.TheVariants.{BadSpan, BadLine}
-use Rattle.error.specs.declared.Verdict.{Verdict}
-use Rattle.error.specs.declared.Verdict.TheVariants.{Passed}
-use Rattle.error.specs.Refusals.{first, rows}
+use Rattle.error.specs.Refusals.{first, rows, Verdict}
 use Rattle.error.proofs.First.{never, clear, first_complete}
 use Rattle.basis.specs.declared.Basis.{Basis}
 use Rattle.basis.specs.Basis.{regular}
 use Rattle.checks.specs.Checks.{curve_length, bound, in_range, all_in_range, precise}
 use Rattle.spline.specs.Curve.{curve_value}
 use Rattle.spline.specs.Evaluation.{evaluated, spline_of}
-use Rattle.spline.specs.declared.Evaluation.TheVariants as E
 use Rattle.spline.proofs.Verdicts.{curve_passes}
-use Rattle.sheet.specs.declared.Depth.{Depth}
-use Rattle.sheet.specs.declared.Depth.TheVariants as D
 use Rattle.sheet.specs.Sheet.{depth_in}
 use Rattle.sheet_depth.specs.Depth.{depth_of}
-use Rattle.text.specs.declared.HexNumber.{HexNumber}
-use Rattle.text.specs.declared.HexNumber.TheVariants as H
 use Rattle.text.specs.Text.{bytes, same, tab_of}
 use Rattle.text_decimals.specs.Decimals.{number_in}
 use Rattle.whole.specs.Held.{Small}
 use Rattle.turns_back.specs.Call.{turning_uses}
 use Rattle.turns_back.proofs.Verdicts.{passed}
 use Rattle.inverse_segment.specs.Answer.{default_precision}
-use Rattle.stopped.specs.declared.Job.TheVariants as J
 use Rattle.stopped.specs.Stopped.{stopped_uses, stopped_of}
 use Rattle.stopped.proofs.Which.{Passes, said_only}
 use Rattle.table_span.specs.declared.Table.{Table}
@@ -171,9 +165,9 @@ Sane (Q.At n) = Unit
 Sane (Q.Every n) = Unit
 Sane Q.Nothing = Unit
 
-sane_sought : (d : Depth) → Sane (sought d)
-sane_sought (D.Is minus n) = depth_number minus n
-sane_sought D.Nothing = tt
+sane_sought : (d : Option (Bool × ℕ)) → Sane (sought d)
+sane_sought (Some (minus, n)) = depth_number minus n
+sane_sought None = tt
 
 sane_number : (w : List ℕ) (n : ℕ) → Sane (by_number w n)
 unfolding by_number
@@ -185,9 +179,9 @@ sane_number w n = go (same w (bytes "row")) (same w (bytes "at")) (same w (bytes
     go false false true = tt
     go false false false = tt
 
-sane_numbered : (w : List ℕ) (h : HexNumber) → Sane (numbered w h)
-sane_numbered w (H.Is n) = sane_number w n
-sane_numbered w H.Nothing = tt
+sane_numbered : (w : List ℕ) (h : Option ℕ) → Sane (numbered w h)
+sane_numbered w (Some n) = sane_number w n
+sane_numbered w None = tt
 
 sane_word : (w s : List ℕ) → Sane (by_word w s)
 unfolding by_word
@@ -217,7 +211,7 @@ pub record Taken (b : Basis) (ks : List Float) : Type 0 where
   pub few : length ks ≤ 4096
   pub range : all_in_range ks ≡ true
 
-pub taken_by : (b : Basis) (w : List ℤ) → first (turning_uses b w) ≡ Passed → Taken b (map double_of w)
+pub taken_by : (b : Basis) (w : List ℤ) → first (turning_uses b w) ≡ Ok tt → Taken b (map double_of w)
 taken_by b w e =
     let p = passed b w e in
     let l : length (map double_of w) ≡ length w = length-map w double_of in
@@ -233,14 +227,14 @@ unfolding precise of_bits lt
 sharp = refl
 
 module _ (b : Basis) (ks : List Float) (k : Taken b ks) where
-  lengths : first (curve_length b (length ks)) ≡ Passed
+  lengths : first (curve_length b (length ks)) ≡ Ok tt
   lengths = simp (le-ltb (length ks) 4 k.many, k.whole, le-ltb 4096 (length ks) k.few)
 
   -- a curve has a value at every parameter that is a number
-  value_is : (x : Float) → is_nan x ≡ false → spline_of b x ks ≡ E.Value (curve_value b x ks)
+  value_is : (x : Float) → is_nan x ≡ false → spline_of b x ks ≡ Ok (curve_value b x ks)
   unfolding spline_of
   value_is x h =
-      ap (λ (v : Verdict). evaluated v (curve_value b x ks)) (sym (curve_passes b x ks {l = Passed} (sym lengths) refl (ne_itself x ∙ h) k.range))
+      ap (λ (v : Verdict). evaluated v (curve_value b x ks)) (sym (curve_passes b x ks {l = Ok tt} (sym lengths) refl (ne_itself x ∙ h) k.range))
 
   moment_is : (span n : ℕ) → 0 < span → span ≤ day → n ≤ span → moment_text b ks span n ≡ value_text n (curve_value b (parameter_at span n) ks)
   unfolding moment_text
@@ -394,9 +388,9 @@ module _ (k : Kind) (ks : List Float) (ls : List (List ℕ)) (span : ℕ) (o : L
         go false e = refl
 
     -- which is never a refusal by a row of the table; between the ends it may be 11 alone
-    pub find_not_refused : (y : Float) → question_of o ≡ Q.Find y → (r : Refusal) → stopped_of (table_by k span) y ks false ≡ J.Refused r → ⊥
+    pub find_not_refused : (y : Float) → question_of o ≡ Q.Find y → (r : Refusal) → stopped_of (table_by k span) y ks false ≡ Err (Refused r) → ⊥
     find_not_refused y q r e =
         let p = no_row (basis_of k) ks taken (table_by k span) y refl good (found_number o y q) in
         let f = first_complete rows (bad_span (table_by k span).span ∷ stopped_uses (table_by k span) y ks false) r
-        (said_only (table_by k span) y ks false (J.Refused r) (sym e)) in
+        (said_only (table_by k span) y ks false (Err (Refused r)) (sym e)) in
         never (cc)

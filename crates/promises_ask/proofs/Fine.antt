@@ -1,4 +1,6 @@
 -- A sheet without a fault draws a curve that never turns back: each segment begins at a row, and that row is silent. Assumes nothing.
+use Rattle.turns_back.specs.declared.Turning.TheVariants.{Never, Flat}
+use Rattle.std.specs.Prelude.{Ok}
 use mathlib.Core.Path.{◌≡◌, refl, sym, ap, subst}
 use mathlib.Core.Logic.{◌⊎◌, inl, inr}
 use mathlib.Core.Bool.{Bool, true, false, not, cond, ◌&&◌, ◌||◌}
@@ -13,7 +15,6 @@ use lib.Ieee.{Float}
 use lib.ListN.{length, drop, get_or}
 use lib.Signed.{lt_z}
 use lib.Ieee.Fits.{and_i}
-use Rattle.error.specs.declared.Verdict.TheVariants.{Passed}
 use Rattle.error.specs.Refusals.{first}
 use Rattle.error.proofs.First.{never, clear}
 use Rattle.basis.specs.declared.Basis.{Basis}
@@ -24,7 +25,6 @@ use Rattle.whole.proofs.Held.{turned_long}
 use Rattle.whole.proofs.Differences.{up, down, Is, itself, times, of_le, alike}
 use Rattle.turns_back.specs.declared.Way.{Way}
 use Rattle.turns_back.specs.declared.Way.TheVariants.{Rising, Falling, Level}
-use Rattle.turns_back.specs.declared.Turning.TheVariants.{Never, Flat}
 use Rattle.turns_back.specs.Curve.{curve_at, cubic_never_falls, coefficient, starts_no_lower, segment_never_falls}
 use Rattle.turns_back.specs.Four.{four_never_fall}
 use Rattle.turns_back.specs.Call.{turning_uses, start_of, end_of, turning_of, answered, turns_back_by_of, turns_back_of}
@@ -218,8 +218,8 @@ segment_keeps b w s f h =
     and_i (starts_no_lower b w s) (cubic_never_falls (coefficient b w s 0) (coefficient b w s 1) (coefficient b w s 2)) (starts b w s f h) (keeps b w s (f s h))
 
 -- ---- asked by the direction in which no row speaks
-by_direction : (k : Kind) (up : Bool) (z : List ℤ) → first (turning_uses (basis_of k) (knots_of k z)) ≡ Passed → 4 ≤ length (knots_of k z)
-    → ((i : ℕ) → i < length z → none (bend_at k up z i) ≡ true) → turns_back_by_of (basis_of k) up (knots_of k z) ≡ Never
+by_direction : (k : Kind) (up : Bool) (z : List ℤ) → first (turning_uses (basis_of k) (knots_of k z)) ≡ Ok tt → 4 ≤ length (knots_of k z)
+    → ((i : ℕ) → i < length z → none (bend_at k up z i) ≡ true) → turns_back_by_of (basis_of k) up (knots_of k z) ≡ Ok Never
 by_direction k up z v m f =
     none_turns (basis_of k) up (knots_of k z) v
     (λ s l. segment_keeps (basis_of k) (turned_all up (knots_of k z)) s (λ i j. silent i (subst (λ (n : ℕ). i < segments_of (basis_of k) n) long j))
@@ -243,7 +243,7 @@ silent_rows k z ls h w e =
 
 -- no fault is told, and `turns_back` takes the table: then it answers that the curve never turns back
 pub fine_never_turns : (k : Kind) (z : List ℤ) (ls : List (List ℕ)) → none (faults_of k z ls) ≡ true
-    → first (turning_uses (basis_of k) (knots_of k z)) ≡ Passed → turns_back_of (basis_of k) (knots_of k z) ≡ Never
+    → first (turning_uses (basis_of k) (knots_of k z)) ≡ Ok tt → turns_back_of (basis_of k) (knots_of k z) ≡ Ok Never
 unfolding turns_back_of turns_back_by_of way_in
 fine_never_turns k z ls h taken =
     go (lt_z (start_of (basis_of k) (knots_of k z)) (end_of (basis_of k) (knots_of k z))) (lt_z (end_of (basis_of k) (knots_of k z)) (start_of
@@ -258,14 +258,14 @@ fine_never_turns k z ls h taken =
         × ((i : ℕ) → i < length z → none (bent_at k (cond c Rising (cond d Falling Level)) z i) ≡ true)
         → answered (first (turning_uses (basis_of k) (knots_of k z)))
         (cond c (turning_of (basis_of k) true (knots_of k z)) (cond d (turning_of (basis_of k) false (knots_of k z)) Flat))
-        ≡ Never
+        ≡ Ok Never
     go true d s = by_direction k true z taken many s.1
     go false true s = by_direction k false z taken many s.1
     go false false s = never (cc)
 
 -- so, in one direction, of any two places of it, in whatever segments and parts, the values are in order
 pub fine_in_order : (k : Kind) (z : List ℤ) (ls : List (List ℕ)) → none (faults_of k z ls) ≡ true
-    → first (turning_uses (basis_of k) (knots_of k z)) ≡ Passed
+    → first (turning_uses (basis_of k) (knots_of k z)) ≡ Ok tt
     → (up : Bool)
     × ((s n j s' n' j' : ℕ) → s' < segments_in k z → NotAfter s n j s' n' j'
     → before up (curve_at (basis_of k) (knots_of k z) s n j *ℤ pos (n' * n' * n')) (curve_at (basis_of k) (knots_of k z) s' n' j' *ℤ pos (n * n * n)))
@@ -302,7 +302,7 @@ module _ (x y w : ℤ) (a b c : ℕ) (some : 0 < b) (one : x *ℤ pos b ≡ w *�
 
 -- where the exact curve has one value at two places, it has that value at every place between them
 pub fine_one_stretch : (k : Kind) (z : List ℤ) (ls : List (List ℕ)) → none (faults_of k z ls) ≡ true
-    → first (turning_uses (basis_of k) (knots_of k z)) ≡ Passed
+    → first (turning_uses (basis_of k) (knots_of k z)) ≡ Ok tt
     → (s n j t m i s' n' j' : ℕ) → 0 < n' → s' < segments_in k z → NotAfter s n j t m i → NotAfter t m i s' n' j'
     → curve_at (basis_of k) (knots_of k z) s n j *ℤ pos (n' * n' * n') ≡ curve_at (basis_of k) (knots_of k z) s' n' j' *ℤ pos (n * n * n)
     → curve_at (basis_of k) (knots_of k z) s n j *ℤ pos (m * m * m) ≡ curve_at (basis_of k) (knots_of k z) t m i *ℤ pos (n * n * n)

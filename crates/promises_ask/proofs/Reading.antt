@@ -1,5 +1,7 @@
 -- A sheet as it is read, line by line: its depths are small and few, its labels short. So of a sheet that is fine `turns_back` takes the knots, and
 -- what is said of a curve without a fault holds of each. Assumes nothing.
+use Rattle.turns_back.specs.declared.Turning.TheVariants.{Never}
+use Rattle.std.specs.Prelude.{Ok, Some, None, Option, Bool, ℕ}
 use mathlib.Core.Path.{◌≡◌, refl, sym, ap, ◌∙◌, subst}
 use mathlib.Core.Bool.{Bool, true, false, cond, ◌&&◌}
 use mathlib.Core.List.{List, [], ◌∷◌, ◌++◌}
@@ -10,7 +12,6 @@ use lib.Dec.{leb, ltb}
 use lib.IntN.{ℤ}
 use lib.Ieee.{Float}
 use lib.ListN.{length, get_or, take, length-append, length-take, length-map}
-use Rattle.error.specs.declared.Verdict.TheVariants.{Passed}
 use Rattle.error.specs.Refusals.{first}
 use Rattle.error.proofs.First.{never}
 use Rattle.basis.specs.declared.Basis.TheVariants.{Hermite}
@@ -20,10 +21,7 @@ use Rattle.text.specs.Text.{tab_of}
 use Rattle.whole.specs.Held.{Small}
 use Rattle.whole.proofs.Held.{small_all}
 use Rattle.lines_machine.specs.Program.{Line, so, over, line_of}
-use Rattle.sheet.specs.declared.Depth.{Depth}
-use Rattle.sheet.specs.declared.Depth.TheVariants as D
 use Rattle.sheet.specs.Sheet.{most, depth_line}
-use Rattle.turns_back.specs.declared.Turning.TheVariants.{Never}
 use Rattle.turns_back.specs.Call as turns
 use Rattle.turns_back.specs.Call.{turning_uses, turns_back_of}
 use Rattle.turns_back.proofs.Verdicts.{passes}
@@ -33,8 +31,6 @@ use Rattle.monotone.proofs.Kept.{knots_within, lengths_pass}
 use Rattle.monotone.proofs.Pairs.{table_long}
 use Rattle.ask_sheet.specs.declared.Kind.{Kind}
 use Rattle.ask_sheet.specs.declared.Kind.TheVariants.{Drawn, Monotone}
-use Rattle.ask_sheet.specs.declared.KindName.{KindName}
-use Rattle.ask_sheet.specs.declared.KindName.TheVariants as K
 use Rattle.ask_sheet.specs.declared.Reason.TheVariants.{NoLabel, NoDepth, Many}
 use Rattle.ask_sheet.specs.Sheet.{Sheet, unbegun, on, faulty, kind_of, named, whole_of, most_in, added, grown, after_of}
 use Rattle.ask_sheet.specs.Contract.{Sound}
@@ -72,9 +68,9 @@ Few unbegun = Unit
 Few (on k z ls) = (length z ≤ most) × Short ls × (length ls ≡ length z)
 Few (faulty n r) = Unit
 
-few_added : (k : Kind) (z : List ℤ) (ls : List (List ℕ)) (w : List ℕ) (d : Depth) → length w ≤ 16 → Few (on k z ls) → Few (added k z ls w d)
-few_added k z ls w D.Nothing h f = tt
-few_added k z ls w (D.Is minus n) h f = go (ltb (most_in k) n) (ltb (length z) most) refl
+few_added : (k : Kind) (z : List ℤ) (ls : List (List ℕ)) (w : List ℕ) (d : Option (Bool × ℕ)) → length w ≤ 16 → Few (on k z ls) → Few (added k z ls w d)
+few_added k z ls w None h f = tt
+few_added k z ls w (Some (minus, n)) h f = go (ltb (most_in k) n) (ltb (length z) most) refl
   where
     go : (t u : Bool) → ltb (length z) most ≡ u
         → Few (cond t (faulty (length z + 2) NoDepth) (cond u (on k (z ++ (whole_of minus n ∷ [])) (ls ++ (w ∷ []))) (faulty (length z + 2) Many)))
@@ -96,9 +92,9 @@ few_grown k z ls l f = go (leb 1 (tab_of l)) (leb (tab_of l) 16) refl
     go true false e = tt
     go false u e = tt
 
-few_named : (n : KindName) → Few (named n)
-few_named (K.Is k) = (omega arith, tt, refl)
-few_named K.Nothing = tt
+few_named : (n : Option Kind) → Few (named n)
+few_named (Some k) = (omega arith, tt, refl)
+few_named None = tt
 
 few_after : (s : Sheet) (o : Line) → Few s → Few (after_of s o)
 unfolding after_of
@@ -134,24 +130,24 @@ both true b e = (refl, e)
 both false b e = never (cc)
 
 modest_passes : (k : Kind) (z : List ℤ) (ls : List (List ℕ)) → Modest k z ls → suits k (length z) ≡ true
-    → Passed ≡ first (turning_uses (basis_of k) (knots_of k z))
+    → Ok tt ≡ first (turning_uses (basis_of k) (knots_of k z))
 modest_passes (Drawn b) z ls m s =
     let r = both (leb 4 (length z)) (regular b (length z)) s in
     let four : 4 ≤ length z = leb-true 4 (length z) r.0 in
-    let lengths : first (curve_length b (length z)) ≡ Passed =
+    let lengths : first (curve_length b (length z)) ≡ Ok tt =
     simp (le-ltb (length z) 4 four, r.1, le-ltb 4096 (length z) m.few) in
-    passes b z {l = Passed} (sym lengths) refl (small_all turns.most z m.small.each)
+    passes b z {l = Ok tt} (sym lengths) refl (small_all turns.most z m.small.each)
 modest_passes Monotone z ls m s =
     let r = both (leb 2 (length z)) (leb (length z) 2048) s in
     let two : 2 ≤ length z = leb-true 2 (length z) r.0 in
-    passes Hermite (table_of z) {l = Passed} (sym (lengths_pass z two (leb-true (length z) 2048 r.1))) refl
+    passes Hermite (table_of z) {l = Ok tt} (sym (lengths_pass z two (leb-true (length z) 2048 r.1))) refl
     (small_all turns.most (table_of z) (knots_within z monotone.most m.small.each two (length z) 0 (omega arith)))
 
 -- ---- what may be asked about after some lines: the curve of a sheet that was read, whose knots `turns_back` takes and says of them that the curve never
 -- turns back; the calls over doubles take them too; and as many knots as the labels want
 pub record Read (k : Kind) (ks : List Float) (ls : List (List ℕ)) (z : List ℤ) : Type 0 where
-  pub passes : first (turning_uses (basis_of k) (knots_of k z)) ≡ Passed
-  pub never : turns_back_of (basis_of k) (knots_of k z) ≡ Never
+  pub passes : first (turning_uses (basis_of k) (knots_of k z)) ≡ Ok tt
+  pub never : turns_back_of (basis_of k) (knots_of k z) ≡ Ok Never
   pub taken : Taken (basis_of k) ks
   pub knots : KnotsFor k (length ls) (length ks)
 

@@ -3,47 +3,47 @@ use mathlib.Core.Path.{◌≡◌, refl, ap, ◌∙◌}
 use mathlib.Core.List.{List, [], ◌∷◌, ◌++◌}
 use Prim.Native.Nat.{ℕ}
 use lib.ListN.{take}
-use lib.Seq.{slice}
+use Rattle.decimals.specs.declared.Decimals.{Decimals}
 use Rattle.decimals.specs.Decimals.{shown_line, decimals_program}
-use Rattle.decimals.specs.Contract.{state_of}
-use Rattle.lines_machine.specs.Program.{lines_of, line_of, prints_of, output_of}
+use Rattle.lines_machine.specs.Program.{Line, lines_of, line_of, prints_of, output_of}
+use Rattle.lines_machine.specs.Bytes.{state_at}
 use Rattle.lines_machine.specs.Contract.{So}
 use Rattle.lines_machine.proofs.Feeding.{so_none, so_fed, so_ended}
-use Rattle.decimals.proofs.begin.Reads as begin
-use Rattle.decimals.proofs.feed.Reads as feed
-use Rattle.decimals.proofs.finish.Reads as finish
+use Rattle.decimals.proofs.DecimalsMachine.begin.Reads as begin
+use Rattle.decimals.proofs.DecimalsMachine.feed.Reads as feed
+use Rattle.decimals.proofs.DecimalsMachine.finish.Reads as finish
 use Rattle.calls.specs.Calls.{OneReply}
 use Rattle.promises_programs.proofs.There.{one, wrote_one, fed_one}
 
 -- its calls one after another, each as its contract tells: of the input the bytes x were taken, and the bytes w written
-pub data DecimalsSoFar : ℕ → List ℕ → List ℕ → List ℕ → Type 0 where
-  begun : (κs : _) (a : _) (z : _) (e : _) → begin.Learnt κs a z e → (line : List ℕ) → DecimalsSoFar z line [] []
-  fed : (κs : _) (a : _) (z : _) (e : _) → feed.Learnt κs a z e → (x w : List ℕ) → DecimalsSoFar a.0 a.1.1.1.0.now x w
-      → DecimalsSoFar z.len e.1.1.1.0.now (x ++ slice a.1.1.0 z.next a.1.0.now) (w ++ take z.at e.1.1.1.1.0.now)
+pub data DecimalsSoFar : Decimals → Line → List ℕ → List ℕ → Type 0 where
+  begun : (s : Decimals) (κs : _) (a : _) (o : _) (e : _) → begin.Learnt κs a o e → DecimalsSoFar s o [] []
+  fed : (κs : _) (a : _) (z : _) (e : _) → feed.Learnt κs a z e → (x w : List ℕ) → DecimalsSoFar a.0.now a.1.0.now x w
+      → DecimalsSoFar e.0.now e.1.0.now (x ++ take z.bytes a.1.1.0.now) (w ++ take z.at e.1.1.1.0.now)
 
 -- a whole run: the input is x, and all that the calls wrote, once the last has returned, is y
 pub data DecimalsRun : List ℕ → List ℕ → Type 0 where
-  ended : (κs : _) (a : _) (z : _) (e : _) → finish.Learnt κs a z e → (x w : List ℕ) → DecimalsSoFar a.0 a.1.0.now x w
+  ended : (κs : _) (a : _) (z : _) (e : _) → finish.Learnt κs a z e → (x w : List ℕ) → DecimalsSoFar a.0.now a.1.0.now x w
       → DecimalsRun x (w ++ take z e.1.1.0.now)
 
-so_far : (st : ℕ) (line : List ℕ) (x w : List ℕ) → DecimalsSoFar st line x w → So decimals_program tt (state_of st line) x w
-so_far st line x w (begun κs a z e p line₀) = rw (p line₀) (so_none decimals_program tt)
-so_far st line x w (fed κs a z e p y v r) = so_fed decimals_program (so_far _ _ y v r) p.0
+so_far : (s : Decimals) (o : Line) (x w : List ℕ) → DecimalsSoFar s o x w → So decimals_program tt (state_at o (tt)) x w
+so_far s o x w (begun t κs a z e p) = rw p (so_none decimals_program tt)
+so_far s o x w (fed κs a z e p y v r) = so_fed decimals_program (so_far _ _ y v r) p.0
 
 -- however the input is cut
 pub decimals_writes : (x y : List ℕ) → DecimalsRun x y → y ≡ output_of decimals_program tt x
 decimals_writes x y (ended κs a z e p v w r) = so_ended decimals_program (so_far _ _ v w r) p.0
 
 -- ---- no second reply
-pub decimals_begin_one_reply : OneReply begin.Learnt (λ κs z e z' e'. (line : List ℕ) → state_of z line ≡ state_of z' line)
-decimals_begin_one_reply κs a z z' e e' p q line = one (p line) (q line)
+pub decimals_begin_one_reply : OneReply begin.Learnt (λ κs z e z' e'. z ≡ z')
+decimals_begin_one_reply κs a z z' e e' p q = one p q
 
 -- where two runs take as many bytes of the chunk; how many that are is left to the room in `out`
 pub decimals_feed_one_reply : OneReply feed.Learnt
-    (λ κs z e z' e'. z.next ≡ z'.next
-    → (z.at ≡ z'.at) × (e.1.1.1.1.0.now ≡ e'.1.1.1.1.0.now)
-    × (state_of z.len e.1.1.1.0.now ≡ state_of z'.len e'.1.1.1.0.now))
-decimals_feed_one_reply κs a z z' e e' p q n = fed_one decimals_program (ap (λ (i : ℕ). slice a.1.1.0 i a.1.0.now) n) p.0 q.0
+    (λ κs z e z' e'. z.bytes ≡ z'.bytes
+    → (z.at ≡ z'.at) × (e.1.1.1.0.now ≡ e'.1.1.1.0.now)
+    × (state_at e.1.0.now (tt {0}) ≡ state_at e'.1.0.now (tt {0})))
+decimals_feed_one_reply κs a z z' e e' p q n = fed_one decimals_program (ap (λ (i : ℕ). take i a.1.1.0.now) n) p.0 q.0
 
 pub decimals_finish_one_reply : OneReply finish.Learnt (λ κs z e z' e'. (z ≡ z') × (e.1.1.0.now ≡ e'.1.1.0.now))
 decimals_finish_one_reply κs a z z' e e' p q = wrote_one p.0 q.0

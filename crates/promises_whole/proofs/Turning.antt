@@ -1,4 +1,7 @@
 -- Whether a curve turns back, by the two calls: what each asks, when it refuses, and what each answer says of the curve. Assumes nothing.
+use Rattle.turns_back.specs.declared.Turning.{Turning}
+use Rattle.turns_back.specs.declared.Turning.TheVariants.{Flat, Never, At}
+use Rattle.std.specs.Prelude.{Ok, Err, Result}
 use mathlib.Core.Path.{◌≡◌, refl, sym, ap, ◌∙◌, subst}
 use mathlib.Core.Bool.{Bool, true, false, cond}
 use mathlib.Core.List.{List, [], ◌∷◌}
@@ -10,16 +13,12 @@ use lib.Signed.{lt_z}
 use borrow.Author.Tests.{ltb-true}
 use Rattle.error.specs.declared.Refusal.{Refusal}
 use Rattle.error.specs.declared.Refusal.TheVariants.{BadKnot}
-use Rattle.error.specs.declared.Verdict.{Verdict}
-use Rattle.error.specs.declared.Verdict.TheVariants.{Passed, Failed}
-use Rattle.error.specs.Refusals.{rows, first}
+use Rattle.error.specs.Refusals.{rows, first, Verdict}
 use Rattle.error.proofs.First.{never, First, first_sound, first_complete, first_applies}
 use Rattle.error.proofs.Orders.{order_of, named, once}
 use Rattle.basis.specs.declared.Basis.{Basis}
 use Rattle.basis.specs.Basis.{segments_of}
 use Rattle.whole.specs.Held.{held_all, turned_all, first_large}
-use Rattle.turns_back.specs.declared.Turning.{Turning}
-use Rattle.turns_back.specs.declared.Turning.TheVariants.{Refused, Flat, Never, At}
 use Rattle.turns_back.specs.Curve.{curve_at, first_fall}
 use Rattle.turns_back.specs.Call.{most, turning_uses, turning, turning_of, start_of, end_of, by_ends, answered, turns_back_by_of, turns_back_of}
 use Rattle.turns_back.proofs.Everywhere.{NotAfter}
@@ -49,50 +48,31 @@ turns_back_by_one_reply κs a z z' e e' p q = p ∙ sym q
 pub turning_ordered : (b : Basis) (z : List ℤ) → (order_of (turning_uses b z) ≡ 1 ∷ 2 ∷ 3 ∷ 4 ∷ []) × (once (named (turning_uses b z)) ≡ true)
 turning_ordered b z = (refl, refl)
 
-no_refusal : (s k : ℕ) (r : Refusal) → turning s k ≡ Refused r → Prim.⊥
-no_refusal s k r q = go (ltb s k) q
-  where
-    go : (t : Bool) → cond t (At s) Never ≡ Refused r → Prim.⊥
-    go true q = never (cc)
-    go false q = never (cc)
+by_answer : (v : Verdict) (t : Turning) (r : Refusal) → Exactly (answered v t ≡ Err r) (v ≡ Err r)
+by_answer (Ok _) t r = (λ p. never (cc), λ p. never (cc))
+by_answer (Err q) t r = (λ p. let s : q ≡ r = cc in ap Err s, λ p. let s : q ≡ r = cc in ap Err s)
 
-in_direction_answers : (b : Basis) (t : Bool) (z : List ℤ) (r : Refusal) → turning_of b t z ≡ Refused r → Prim.⊥
-unfolding turning_of
-in_direction_answers b t z r q = no_refusal (first_fall b (turned_all t z)) (segments_of b (length z)) r q
-
-by_ends_answers : (s e : ℤ) (b : Basis) (z : List ℤ) (r : Refusal) → by_ends s e b z ≡ Refused r → Prim.⊥
-by_ends_answers s e b z r q = go (lt_z s e) (lt_z e s) q
-  where
-    go : (t u : Bool) → cond t (turning_of b true z) (cond u (turning_of b false z) Flat) ≡ Refused r → Prim.⊥
-    go true u q = in_direction_answers b true z r q
-    go false true q = in_direction_answers b false z r q
-    go false false q = never (cc)
-
-by_answer : (v : Verdict) (t : Turning) (r : Refusal) → (t ≡ Refused r → Prim.⊥) → Exactly (answered v t ≡ Refused r) (v ≡ Failed r)
-by_answer Passed t r n = (λ p. absurd (n p), λ p. never (cc))
-by_answer (Failed q) t r n = (λ p. let s : q ≡ r = cc in ap Failed s, λ p. let s : q ≡ r = cc in ap Refused s)
-
-by_rows : (b : Basis) (z : List ℤ) (t : Turning) (r : Refusal) → (t ≡ Refused r → Prim.⊥)
-    → Exactly (answered (first (turning_uses b z)) t ≡ Refused r) (First (turning_uses b z) rows r)
-by_rows b z t r n =
-    let m = by_answer (first (turning_uses b z)) t r n in
+by_rows : (b : Basis) (z : List ℤ) (t : Turning) (r : Refusal)
+    → Exactly (answered (first (turning_uses b z)) t ≡ Err r) (First (turning_uses b z) rows r)
+by_rows b z t r =
+    let m = by_answer (first (turning_uses b z)) t r in
     (λ p. first_sound rows (turning_uses b z) r (m.0 p), λ f. m.1 (first_complete rows (turning_uses b z) r f))
 
-own_refused : (b : Basis) (z : List ℤ) (r : Refusal) → Exactly (turns_back_of b z ≡ Refused r) (First (turning_uses b z) rows r)
+own_refused : (b : Basis) (z : List ℤ) (r : Refusal) → Exactly (turns_back_of b z ≡ Err r) (First (turning_uses b z) rows r)
 unfolding turns_back_of
-own_refused b z r = by_rows b z (by_ends (start_of b z) (end_of b z) b z) r (by_ends_answers (start_of b z) (end_of b z) b z r)
+own_refused b z r = by_rows b z (by_ends (start_of b z) (end_of b z) b z) r
 
-by_refused : (b : Basis) (t : Bool) (z : List ℤ) (r : Refusal) → Exactly (turns_back_by_of b t z ≡ Refused r) (First (turning_uses b z) rows r)
+by_refused : (b : Basis) (t : Bool) (z : List ℤ) (r : Refusal) → Exactly (turns_back_by_of b t z ≡ Err r) (First (turning_uses b z) rows r)
 unfolding turns_back_by_of
-by_refused b t z r = by_rows b z (turning_of b t z) r (in_direction_answers b t z r)
+by_refused b t z r = by_rows b z (turning_of b t z) r
 
 -- exactly where a row applies, and by the first
 pub turns_back_refuses : Keeps turns_back.Learnt
-    (λ κs a z e. (r : Refusal) → Exactly (z ≡ Refused r) (First (turning_uses a.0 (held_all a.1.0.now)) rows r))
+    (λ κs a z e. (r : Refusal) → Exactly (z ≡ Err r) (First (turning_uses a.0 (held_all a.1.0.now)) rows r))
 turns_back_refuses κs a z e p r = let m = own_refused a.0 (held_all a.1.0.now) r in (λ q. m.0 (sym p ∙ q), λ f. p ∙ m.1 f)
 
 pub turns_back_by_refuses : Keeps turns_back_by.Learnt
-    (λ κs a z e. (r : Refusal) → Exactly (z ≡ Refused r) (First (turning_uses a.0 (held_all a.1.1.0.now)) rows r))
+    (λ κs a z e. (r : Refusal) → Exactly (z ≡ Err r) (First (turning_uses a.0 (held_all a.1.1.0.now)) rows r))
 turns_back_by_refuses κs a z e p r = let m = by_refused a.0 a.1.0 (held_all a.1.1.0.now) r in (λ q. m.0 (sym p ∙ q), λ f. p ∙ m.1 f)
 
 -- 4 tells the first knot above the bound
@@ -102,10 +82,10 @@ knot_told b z i f =
     let e : first_large most z ≡ i = cc in
     subst (λ (n : ℕ). FirstLarger most z n) e (first_larger most z (ltb-true (first_large most z) (length z) h.0))
 
-pub turns_back_knot_told : Keeps turns_back.Learnt (λ κs a z e. (i : ℕ) → z ≡ Refused (BadKnot i) → FirstLarger most (held_all a.1.0.now) i)
+pub turns_back_knot_told : Keeps turns_back.Learnt (λ κs a z e. (i : ℕ) → z ≡ Err (BadKnot i) → FirstLarger most (held_all a.1.0.now) i)
 turns_back_knot_told κs a z e p i q = knot_told a.0 (held_all a.1.0.now) i ((turns_back_refuses κs a z e p (BadKnot i)).0 q)
 
-pub turns_back_by_knot_told : Keeps turns_back_by.Learnt (λ κs a z e. (i : ℕ) → z ≡ Refused (BadKnot i) → FirstLarger most (held_all a.1.1.0.now) i)
+pub turns_back_by_knot_told : Keeps turns_back_by.Learnt (λ κs a z e. (i : ℕ) → z ≡ Err (BadKnot i) → FirstLarger most (held_all a.1.1.0.now) i)
 turns_back_by_knot_told κs a z e p i q = knot_told a.0 (held_all a.1.1.0.now) i ((turns_back_by_refuses κs a z e p (BadKnot i)).0 q)
 
 -- ---- what an answer says: of two places, the later one in a segment before k, the values are in order
@@ -114,51 +94,51 @@ InOrderUpTo b t z k = (s n j s' n' j' : ℕ) → s' < k → NotAfter s n j s' n'
     → before t (curve_at b z s n j *ℤ pos (n' * n' * n')) (curve_at b z s' n' j' *ℤ pos (n * n * n))
 
 -- never: throughout; at r: before segment r, and in r it goes against the direction
-abbrev pub Says : Basis → Bool → List ℤ → Turning → Type 0
-Says b t z (Refused r) = Unit
-Says b t z Flat = Prim.⊥
-Says b t z Never = InOrderUpTo b t z (segments_of b (length z))
-Says b t z (At r) = InOrderUpTo b t z r × Against b t z r
+abbrev pub Says : Basis → Bool → List ℤ → Result Turning Refusal → Type 0
+Says b t z (Err r) = Unit
+Says b t z (Ok Flat) = Prim.⊥
+Says b t z (Ok Never) = InOrderUpTo b t z (segments_of b (length z))
+Says b t z (Ok (At r)) = InOrderUpTo b t z r × Against b t z r
 
-says : (b : Basis) (t : Bool) (z : List ℤ) (a : Turning) → turns_back_by_of b t z ≡ a → Says b t z a
-says b t z (Refused r) q = tt
-says b t z Flat q = by_never_flat b z t q
-says b t z Never q = in_order_everywhere b t z q
-says b t z (At r) q = (in_order_before b t z r q, turns_somewhere b t z r q)
+says : (b : Basis) (t : Bool) (z : List ℤ) (a : Result Turning Refusal) → turns_back_by_of b t z ≡ a → Says b t z a
+says b t z (Err r) q = tt
+says b t z (Ok Flat) q = by_never_flat b z t q
+says b t z (Ok Never) q = in_order_everywhere b t z q
+says b t z (Ok (At r)) q = (in_order_before b t z r q, turns_somewhere b t z r q)
 
 pub turns_back_by_says : Keeps turns_back_by.Learnt (λ κs a z e. Says a.0 a.1.0 (held_all a.1.1.0.now) z)
 turns_back_by_says κs a z e p = says a.0 a.1.0 (held_all a.1.1.0.now) z (sym p)
 
 -- by the curve's own ends: flat, where they are equal; else the same in the direction in which the end lies after the start
-pub record Directed (b : Basis) (z : List ℤ) (a : Turning) : Type 0 where
+pub record Directed (b : Basis) (z : List ℤ) (a : Result Turning Refusal) : Type 0 where
   pub up : Bool
   pub ends : after up (end_of b z) (start_of b z)
   pub says : Says b up z a
 
-abbrev pub SaysOwn : Basis → List ℤ → Turning → Type 0
-SaysOwn b z (Refused r) = Unit
-SaysOwn b z Flat = start_of b z ≡ end_of b z
-SaysOwn b z Never = Directed b z Never
-SaysOwn b z (At r) = Directed b z (At r)
+abbrev pub SaysOwn : Basis → List ℤ → Result Turning Refusal → Type 0
+SaysOwn b z (Err r) = Unit
+SaysOwn b z (Ok Flat) = start_of b z ≡ end_of b z
+SaysOwn b z (Ok Never) = Directed b z (Ok Never)
+SaysOwn b z (Ok (At r)) = Directed b z (Ok (At r))
 
-directed : (b : Basis) (z : List ℤ) (a : Turning) → Own b z a → Directed b z a
+directed : (b : Basis) (z : List ℤ) (a : Result Turning Refusal) → Own b z a → Directed b z a
 directed b z a o = record { up = o.up; ends = o.ends; says = says b o.up z a o.same }
 
-says_own : (b : Basis) (z : List ℤ) (a : Turning) → turns_back_of b z ≡ a → SaysOwn b z a
-says_own b z (Refused r) q = tt
-says_own b z Flat q = flat_only b z q
-says_own b z Never q = directed b z Never (own_never b z q)
-says_own b z (At r) q = directed b z (At r) (own_at b z r q)
+says_own : (b : Basis) (z : List ℤ) (a : Result Turning Refusal) → turns_back_of b z ≡ a → SaysOwn b z a
+says_own b z (Err r) q = tt
+says_own b z (Ok Flat) q = flat_only b z q
+says_own b z (Ok Never) q = directed b z (Ok Never) (own_never b z q)
+says_own b z (Ok (At r)) q = directed b z (Ok (At r)) (own_at b z r q)
 
 pub turns_back_says : Keeps turns_back.Learnt (λ κs a z e. SaysOwn a.0 (held_all a.1.0.now) z)
 turns_back_says κs a z e p = says_own a.0 (held_all a.1.0.now) z (sym p)
 
 -- and it is flat wherever they are equal and no row applies
 pub turns_back_flat : Keeps turns_back.Learnt (λ κs a z e. let ks = held_all a.1.0.now in
-    first (turning_uses a.0 ks) ≡ Passed → start_of a.0 ks ≡ end_of a.0 ks → z ≡ Flat)
+    first (turning_uses a.0 ks) ≡ Ok tt → start_of a.0 ks ≡ end_of a.0 ks → z ≡ Ok Flat)
 turns_back_flat κs a z e p v q = p ∙ flat_where a.0 (held_all a.1.0.now) q v
 
 -- ---- B-spline, Bezier and Linear over knots in order
 pub turns_back_by_sorted : Keeps turns_back_by.Learnt (λ κs a z e. let ks = held_all a.1.1.0.now in
-    T (keeps_order a.0) → InOrder a.1.0 ks → first (turning_uses a.0 ks) ≡ Passed → z ≡ Never)
+    T (keeps_order a.0) → InOrder a.1.0 ks → first (turning_uses a.0 ks) ≡ Ok tt → z ≡ Ok Never)
 turns_back_by_sorted κs a z e p k o v = p ∙ sorted_never_turns a.0 k a.1.0 (held_all a.1.1.0.now) o v

@@ -1,5 +1,6 @@
 -- A whole sheet: it is read exactly where its first line is a basis and each other line a depth, one knot for each, at most 4,096; the first
 -- line at fault decides, and nothing is printed before the end. Assumes nothing.
+use Rattle.std.specs.Prelude.{Some, None, Option, Bool, ℕ}
 use mathlib.Core.Path.{◌≡◌, refl, sym, ap, subst, ◌∙◌}
 use mathlib.Core.Bool.{Bool, true, false, cond, not}
 use mathlib.Core.List.{List, [], ◌∷◌, ◌++◌, append_assoc, append-nil}
@@ -17,29 +18,25 @@ use Rattle.doubles.specs.Numbers.{nought}
 use Rattle.sheet_depth.specs.Depth.{greatest, depth_of}
 use Rattle.sheet_depth.specs.Nearest.{Nearer}
 use Rattle.sheet_depth.proofs.Decimal.{depth_nearest, zero_depth}
-use Rattle.lines_record.specs.declared.BasisName.{BasisName}
-use Rattle.lines_record.specs.declared.BasisName.TheVariants as N
 use Rattle.lines_record.specs.Record.{named_of}
 use Rattle.lines_machine.specs.Program.{lines_of, Line, so, over, line_of, prints_of, output_of}
-use Rattle.sheet.specs.declared.Depth.{Depth}
-use Rattle.sheet.specs.declared.Depth.TheVariants.{Is, Nothing}
 use Rattle.keeper.specs.Table.{kept}
 use Rattle.sheet.specs.Sheet.{Sheet, unbegun, on, faulty, most, depth_line, named, added, after_of, ends_of, sheet_program}
 use Rattle.sheet.proofs.Lines.{depth_small}
 
 -- ---- what a line says: a basis, or a depth; one that is too long says neither
-abbrev pub basis_said : Line → BasisName
+abbrev pub basis_said : Line → Option Basis
 basis_said (so l) = named_of l
-basis_said over = N.Nothing
+basis_said over = None
 
-abbrev pub depth_said : Line → Depth
+abbrev pub depth_said : Line → Option (Bool × ℕ)
 depth_said (so l) = depth_line l
-depth_said over = Nothing
+depth_said over = None
 
 -- a line's depth is x
-abbrev pub DepthIs : Depth → Float → Type 0
-DepthIs (Is minus n) x = depth_of minus n ≡ x
-DepthIs Nothing x = ⊥
+abbrev pub DepthIs : Option (Bool × ℕ) → Float → Type 0
+DepthIs (Some (minus, n)) x = depth_of minus n ≡ x
+DepthIs None x = ⊥
 
 -- each of the lines says a depth, and these are the depths in order
 abbrev pub Depths : List (List ℕ) → List Float → Type 0
@@ -53,7 +50,7 @@ pub record Admissible (ls : List (List ℕ)) (b : Basis) (xs : List Float) : Typ
   pub top : List ℕ
   pub rest : List (List ℕ)
   pub lines : ls ≡ top ∷ rest
-  pub name : basis_said (line_of top) ≡ N.Is b
+  pub name : basis_said (line_of top) ≡ Some b
   pub depths : Depths rest xs
   pub few : length xs ≤ most
 
@@ -101,9 +98,9 @@ fault_stays r [] = refl
 fault_stays r (l ∷ ls) = ap (λ (s : Sheet). sheet_after s ls) (faulty_line r (line_of l)) ∙ fault_stays r ls
 
 -- ---- an admissible sheet is read
-add_one_depth : (b : Basis) (ks : List Float) (d : Depth) (x : Float) → length ks < most → DepthIs d x → added b ks d ≡ on b (ks ++ (x ∷ []))
-add_one_depth b ks (Is minus n) x h e = rw (lt-ltb (length ks) most h, e) refl
-add_one_depth b ks Nothing x h e = absurd e
+add_one_depth : (b : Basis) (ks : List Float) (d : Option (Bool × ℕ)) (x : Float) → length ks < most → DepthIs d x → added b ks d ≡ on b (ks ++ (x ∷ []))
+add_one_depth b ks (Some (minus, n)) x h e = rw (lt-ltb (length ks) most h, e) refl
+add_one_depth b ks None x h e = absurd e
 
 depths_read : (b : Basis) (ks : List Float) (ls : List (List ℕ)) (xs : List Float) → Depths ls xs → length ks + length xs ≤ most
     → sheet_after (on b ks) ls ≡ on b (ks ++ xs)
@@ -148,7 +145,7 @@ behind b ks (l ∷ ls) c ns h e =
     Next : Type 0
     Next = (x : Float) → length (ks ++ (x ∷ [])) ≤ most → sheet_after (on b (ks ++ (x ∷ []))) ls ≡ on c ns → Behind b (ks ++ (x ∷ [])) ls c ns
 
-    room : Next → (minus : Bool) (n : ℕ) → depth_said (line_of l) ≡ Is minus n → (t : Bool) → ltb (length ks) most ≡ t
+    room : Next → (minus : Bool) (n : ℕ) → depth_said (line_of l) ≡ Some (minus, n) → (t : Bool) → ltb (length ks) most ≡ t
         → sheet_after (cond t (on b (cond t (ks ++ (depth_of minus n ∷ [])) ks)) (faulty TooMany)) ls ≡ on c ns → Behind b ks (l ∷ ls) c ns
     room next minus n d true f g =
         let z : length ks < most = ltb-true (length ks) most f in
@@ -162,20 +159,20 @@ behind b ks (l ∷ ls) c ns h e =
         }
     room next minus n d false f g = never (sym (fault_stays TooMany ls) ∙ g)
 
-    go : Next → (d : Depth) → depth_said (line_of l) ≡ d → sheet_after (added b ks d) ls ≡ on c ns → Behind b ks (l ∷ ls) c ns
-    go next (Is minus n) d g = room next minus n d (ltb (length ks) most) refl g
-    go next Nothing d g = never (sym (fault_stays BadSheet ls) ∙ g)
+    go : Next → (d : Option (Bool × ℕ)) → depth_said (line_of l) ≡ d → sheet_after (added b ks d) ls ≡ on c ns → Behind b ks (l ∷ ls) c ns
+    go next (Some (minus, n)) d g = room next minus n d (ltb (length ks) most) refl g
+    go next None d g = never (sym (fault_stays BadSheet ls) ∙ g)
 
 pub read_only : (ls : List (List ℕ)) (b : Basis) (xs : List Float) → sheet_after unbegun ls ≡ on b xs → Admissible ls b xs
 unfolding sheet_after
 read_only [] b xs e = let z : ◌≡◌ {A = ℕ} 0 1 = cc in absurd (omega arith)
 read_only (l ∷ ls) b xs e = go (basis_said (line_of l)) refl (ap (λ (s : Sheet). sheet_after s ls) (sym (first_line (line_of l))) ∙ e)
   where
-    go : (n : BasisName) → basis_said (line_of l) ≡ n → sheet_after (named n) ls ≡ on b xs → Admissible (l ∷ ls) b xs
-    go (N.Is c) p g =
+    go : (n : Option Basis) → basis_said (line_of l) ≡ n → sheet_after (named n) ls ≡ on b xs → Admissible (l ∷ ls) b xs
+    go (Some c) p g =
         let q : Behind c [] ls b xs = behind c [] ls b xs (omega arith) g in
-        record { top = l; rest = ls; lines = refl; name = p ∙ ap N.Is q.basis; depths = rw (← q.all) q.depths; few = q.few }
-    go N.Nothing p g = never (sym (fault_stays BadSheet ls) ∙ g)
+        record { top = l; rest = ls; lines = refl; name = p ∙ ap Some q.basis; depths = rw (← q.all) q.depths; few = q.few }
+    go None p g = never (sym (fault_stays BadSheet ls) ∙ g)
 
 -- ---- a fault is 13, or 3 where a depth comes upon 4,096
 pub data Fault : Refusal → Type 0 where
@@ -190,18 +187,18 @@ Fine (faulty r) = Fault r
 fine_after : (s : Sheet) (o : Line) → Fine s → Fine (after_of s o)
 fine_after unbegun o f = rw (first_line o) (go (basis_said o))
   where
-    go : (n : BasisName) → Fine (named n)
-    go (N.Is b) = tt
-    go N.Nothing = malformed
+    go : (n : Option Basis) → Fine (named n)
+    go (Some b) = tt
+    go None = malformed
 fine_after (on b ks) o f = rw (later_line b ks o) (go (depth_said o))
   where
     room : (t : Bool) (l : List Float) → Fine (cond t (on b l) (faulty TooMany))
     room true l = tt
     room false l = too_many
 
-    go : (d : Depth) → Fine (added b ks d)
-    go (Is minus n) = room (ltb (length ks) most) (kept ks (depth_of minus n))
-    go Nothing = malformed
+    go : (d : Option (Bool × ℕ)) → Fine (added b ks d)
+    go (Some (minus, n)) = room (ltb (length ks) most) (kept ks (depth_of minus n))
+    go None = malformed
 fine_after (faulty r) o f = rw (faulty_line r o) f
 
 fine_all : (s : Sheet) (ls : List (List ℕ)) → Fine s → Fine (sheet_after s ls)
@@ -213,11 +210,11 @@ pub fault_is : (ls : List (List ℕ)) (r : Refusal) → sheet_after unbegun ls �
 fault_is ls r e = subst Fine e (fine_all unbegun ls tt)
 
 -- ---- the double of a depth line is the nearest to its decimal: every other one lies strictly further away
-said_small : (o : Line) (minus : Bool) (n : ℕ) → depth_said o ≡ Is minus n → n ≤ greatest
+said_small : (o : Line) (minus : Bool) (n : ℕ) → depth_said o ≡ Some (minus, n) → n ≤ greatest
 said_small (so l) minus n e = depth_small l minus n e
 said_small over minus n e = let z : ◌≡◌ {A = ℕ} 0 1 = cc in absurd (omega arith)
 
-pub line_nearest : (l : List ℕ) (minus : Bool) (n : ℕ) → depth_said (line_of l) ≡ Is minus n
+pub line_nearest : (l : List ℕ) (minus : Bool) (n : ℕ) → depth_said (line_of l) ≡ Some (minus, n)
     → (y : Float) → T (fits binary64 y) → T (not (eq (depth_of minus n) y)) → Nearer (depth_of minus n) y minus n 1000
 line_nearest l minus n e y f d = depth_nearest minus n (said_small (line_of l) minus n e) y f d
 
@@ -244,6 +241,6 @@ depths_fit [] (x ∷ xs) p = absurd p
 depths_fit (l ∷ ls) [] p = absurd p
 depths_fit (l ∷ ls) (x ∷ xs) p = (go (depth_said (line_of l)) p.0, depths_fit ls xs p.1)
   where
-    go : (d : Depth) → DepthIs d x → T (fits binary64 x)
-    go (Is minus n) e = subst (λ (z : Float). T (fits binary64 z)) e (depth_fits minus n)
-    go Nothing e = absurd e
+    go : (d : Option (Bool × ℕ)) → DepthIs d x → T (fits binary64 x)
+    go (Some (minus, n)) e = subst (λ (z : Float). T (fits binary64 z)) e (depth_fits minus n)
+    go None e = absurd e

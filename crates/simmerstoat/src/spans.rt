@@ -17,8 +17,6 @@ ghost use Rattle.exports_table.specs.Tables.{
   handed_length,
 };
 
-use exports_reply::BasisChoice;
-
 // A curve's value; with a good span it is the curve's own export that tells it.
 #[unsafe(no_mangle)]
 pub extern "C" fn simmerstoat_table_spline(
@@ -37,7 +35,7 @@ pub extern "C" fn simmerstoat_table_spline(
         return crate::simmerstoat_spline(basis, x, knots, value);
     }
     let c = exports_reply::basis_of(basis);
-    let BasisChoice::Known(b) = c else {
+    let Some(b) = c else {
         return exports_reply::UNKNOWN;
     };
     error::reply(table_span::without_span(b, knots.len()))

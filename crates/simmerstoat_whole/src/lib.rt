@@ -8,26 +8,25 @@ ghost use Rattle.monotone.specs.Table.{made_of, left_of};
 ghost use Rattle.exports_reply.specs.Replies.{chosen_of, no_basis, chosen};
 ghost use Rattle.simmerstoat_whole.specs.Replies.{turning_reply, turning_left, made_reply, written_left};
 
-use exports_reply::BasisChoice;
-use monotone::Made;
+use error::Refusal;
 use turns_back::Turning;
 
 // An answer leaves which one it is, and the segment; a refusal writes nothing.
-fn turning_told(t: Turning, turning: &mut [usize; 2]) -> u32
+fn turning_told(t: Result<Turning, Refusal>, turning: &mut [usize; 2]) -> u32
     ensures answer { result ≡ turning_reply t }
     ensures turning { turning.new ≡ turning_left t turning.old }
 {
     match t {
-        Turning::Refused(r) => error::reply(r),
-        Turning::Never => {
+        Err(r) => error::reply(r),
+        Ok(Turning::Never) => {
             *turning = [0, 0];
             0
         }
-        Turning::At(s) => {
+        Ok(Turning::At(s)) => {
             *turning = [1, s as usize];
             0
         }
-        Turning::Flat => {
+        Ok(Turning::Flat) => {
             *turning = [2, 0];
             0
         }
@@ -43,7 +42,7 @@ pub extern "C" fn simmerstoat_turns_back(basis: u8, knots: &[i64], turning: &mut
         (λ b. turning_left (turns_back_of b (held_all knots.now)) turning.old) }
 {
     let c = exports_reply::basis_of(basis);
-    let BasisChoice::Known(b) = c else {
+    let Some(b) = c else {
         return exports_reply::UNKNOWN;
     };
     turning_told(turns_back::turns_back(b, knots), turning)
@@ -63,20 +62,20 @@ pub extern "C" fn simmerstoat_turns_back_by(
         (λ b. turning_left (turns_back_by_of b up (held_all knots.now)) turning.old) }
 {
     let c = exports_reply::basis_of(basis);
-    let BasisChoice::Known(b) = c else {
+    let Some(b) = c else {
         return exports_reply::UNKNOWN;
     };
     turning_told(turns_back::turns_back_by(b, up, knots), turning)
 }
 
 // How many numbers were written is told and answered by 0; a refusal writes nothing.
-fn written_told(m: Made, written: &mut usize) -> u32
+fn written_told(m: Result<usize, Refusal>, written: &mut usize) -> u32
     ensures answer { result ≡ made_reply m }
     ensures written { written.new ≡ written_left m written.old }
 {
     match m {
-        Made::Refused(r) => error::reply(r),
-        Made::Wrote(n) => {
+        Err(r) => error::reply(r),
+        Ok(n) => {
             *written = n;
             0
         }

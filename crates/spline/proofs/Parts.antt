@@ -1,5 +1,5 @@
 -- The part of a slice from a place on, and where a curve's segments start. Assumes nothing.
-use mathlib.Core.Path.{◌≡◌, sym, ap, ◌∙◌, subst}
+use mathlib.Core.Path.{◌≡◌, sym, ◌∙◌, subst}
 use mathlib.Core.Bool.{true}
 use mathlib.Core.List.{List}
 use Prim.Native.Nat.{ℕ, ◌+◌, ◌-◌, ◌*◌, ◌/◌, ◌≤◌, ◌<◌}
@@ -13,7 +13,7 @@ use Rattle.basis.specs.Basis.{step_of, segments_of, matrix_of}
 use Rattle.doubles.specs.Numbers.{clamp}
 use Rattle.doubles.specs.Whole.{double, whole_up_to}
 use Rattle.doubles.proofs.WholePart.{confirmed}
-use Rattle.spline.specs.Segment.{row_sums_of, horner_of, segment_value}
+use Rattle.spline.specs.Segment.{row_sums_of, horner_of}
 use Rattle.spline.specs.Curve.{curve_value}
 use Rattle.spline.specs.Contract.{IsSpot}
 use Rattle.spline.specs.declared.RowSums.{RowSums}
@@ -57,15 +57,3 @@ pub put_together : (b : Basis) (x : Float) (ks : List Float) {k step s : ℕ} {r
     → w ≡ row_sums_of (matrix_of b) (take (length ks - s * step) (drop (s * step) ks)) → r ≡ horner_of w t → r ≡ curve_value b x ks
 unfolding curve_value
 put_together b x ks {k} {step} {s} {r} {t} c e u h f = let v = subst (λ (j : ℕ). IsSpot j x s t) c u in f ∙ simp (h, rest, e, v.segment, v.local)
-
--- the row sums and a segment's value, where the basis is known
-pub by_basis_sums : (b c : Basis) (m : List (List Float)) (cv : List Float) {w : RowSums} → b ≡ c → m ≡ matrix_of c → w ≡ row_sums_of m cv
-    → w ≡ row_sums_of (matrix_of b) cv
-by_basis_sums b c m cv e k h = h ∙ (ap (λ (n : List (List Float)). row_sums_of n cv) k ∙ ap (λ (d : Basis). row_sums_of (matrix_of d) cv) (sym e))
-
-pub by_basis_segment : (b c : Basis) (m : List (List Float)) (cv : List Float) (t : Float) {w : RowSums} {r : Float} → b ≡ c → m ≡ matrix_of c
-    → w ≡ row_sums_of m cv → r ≡ horner_of w t → r ≡ segment_value (matrix_of b) cv t
-by_basis_segment b c m cv t e k h f =
-    f
-    ∙ (ap (λ (w : RowSums). horner_of w t) h
-    ∙ (ap (λ (n : List (List Float)). segment_value n cv t) k ∙ ap (λ (d : Basis). segment_value (matrix_of d) cv t) (sym e)))

@@ -1,4 +1,5 @@
 -- What evaluation answers: the local place lies in 0 to 1, every rounded step is finite, and so is every value told. Assumes nothing.
+use Rattle.std.specs.Prelude.{Ok, Err}
 use mathlib.Core.Path.{◌≡◌, refl, subst}
 use mathlib.Core.Bool.{not, ◌&&◌}
 use mathlib.Core.List.{List}
@@ -10,9 +11,7 @@ use lib.ListN.{length, drop}
 use lib.Ieee.{Float, le, is_nan}
 use lib.Ieee.Fits.{and_l, and_r}
 use lib.Ieee.Scale.{finite}
-use Rattle.error.specs.declared.Verdict.{Verdict}
-use Rattle.error.specs.declared.Verdict.TheVariants.{Passed, Failed}
-use Rattle.error.specs.Refusals.{first}
+use Rattle.error.specs.Refusals.{first, Verdict}
 use Rattle.error.proofs.First.{never}
 use Rattle.basis.specs.declared.Basis.{Basis}
 use Rattle.basis.specs.Basis.{step_of, segments_of, matrix_of}
@@ -21,7 +20,6 @@ use Rattle.doubles.proofs.Tests.{holds, fails}
 use Rattle.doubles.proofs.Bounds.{Within, InOne, times, within_finite, clamp_in, clamp_within, unit_within, whole_within}
 use Rattle.doubles.proofs.LocalPart.{local_in}
 use Rattle.doubles.proofs.WholePart.{whole_le}
-use Rattle.spline.specs.declared.Evaluation.TheVariants.{Value}
 use Rattle.spline.specs.Segment.{segment_steps}
 use Rattle.spline.specs.Curve.{scaled, segment_at, local_at, curve_value}
 use Rattle.spline.specs.Evaluation.{spline_uses, spline_segment_uses, evaluated, spline_of, spline_segment_of}
@@ -56,17 +54,17 @@ module _ (b : Basis) (x : Float) (ks : List Float) (s : Sound b x ks) where
 
 -- ---- every value told is finite
 -- a value is told only where the verdict is passed, and then it is the value
-told : (v : Verdict) {f r : Float} → evaluated v f ≡ Value r → (v ≡ Passed) × (f ≡ r)
-told Passed e = (refl, cc)
-told (Failed q) e = never (cc)
+told : (v : Verdict) {f r : Float} → evaluated v f ≡ Ok r → (v ≡ Ok tt) × (f ≡ r)
+told (Ok _) e = (refl, cc)
+told (Err q) e = never (cc)
 
-pub spline_finite : (b : Basis) (x : Float) (ks : List Float) (r : Float) → spline_of b x ks ≡ Value r → T (finite r)
+pub spline_finite : (b : Basis) (x : Float) (ks : List Float) (r : Float) → spline_of b x ks ≡ Ok r → T (finite r)
 unfolding spline_of
 spline_finite b x ks r e =
     let t = told (first (spline_uses b x ks)) e in
     subst (λ (z : Float). T (finite z)) t.1 (within_finite (curve_finite b x ks (curve_sound b x ks t.0)).0)
 
-pub spline_segment_finite : (b : Basis) (x : Float) (cv : List Float) (r : Float) → spline_segment_of b x cv ≡ Value r → T (finite r)
+pub spline_segment_finite : (b : Basis) (x : Float) (cv : List Float) (r : Float) → spline_segment_of b x cv ≡ Ok r → T (finite r)
 unfolding spline_segment_of
 spline_segment_finite b x cv r e =
     let t = told (first (spline_segment_uses x cv)) e in

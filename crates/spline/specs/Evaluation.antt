@@ -1,27 +1,28 @@
 -- The two calls of evaluation: what each refuses, and what it answers. Definitions only.
-use Rattle.std.specs.Prelude.{not, ◌&&◌, List, [], ◌∷◌, ◌++◌, ℕ, length, Float}
+use Rattle.error.specs.declared.Refusal.{Refusal}
+use Rattle.std.specs.Prelude.{not, ◌&&◌, List, [], ◌∷◌, ◌++◌, ℕ, length, Float, Ok, Err, Result}
 use Rattle.std.specs.Float.Ieee.{le, is_nan}
 use Rattle.error.specs.declared.Refusal.TheVariants.{NotANumber}
-use Rattle.error.specs.declared.Verdict.{Verdict}
-use Rattle.error.specs.declared.Verdict.TheVariants.{Passed, Failed}
-use Rattle.error.specs.Refusals.{number_of, Uses, first}
+use Rattle.error.specs.Refusals.{number_of, Uses, first, Verdict}
 use Rattle.basis.specs.declared.Basis.{Basis}
 use Rattle.basis.specs.Basis.{matrix_of}
 use Rattle.doubles.specs.Numbers.{nought, one}
-use Rattle.spline.specs.declared.Evaluation.{Evaluation}
-use Rattle.spline.specs.declared.Evaluation.TheVariants.{Value, Refused}
 use Rattle.spline.specs.Segment.{segment_value}
 use Rattle.checks.specs.Checks.{curve_length, segment_length, bad_knot}
 use Rattle.spline.specs.Curve.{curve_value}
 
+-- a value, or a refusal
+abbrev pub Evaluation : Type 0
+Evaluation = Result Float Refusal
+
 -- the number that an answer tells: the refusal's; 0 for a value
 abbrev pub evaluated_number : Evaluation → ℕ
-evaluated_number (Value v) = 0
-evaluated_number (Refused r) = number_of r
+evaluated_number (Ok v) = 0
+evaluated_number (Err r) = number_of r
 
 abbrev pub evaluated : Verdict → Float → Evaluation
-evaluated Passed v = Value v
-evaluated (Failed r) v = Refused r
+evaluated (Ok _) v = Ok v
+evaluated (Err r) v = Err r
 
 -- a curve
 abbrev pub spline_uses : Basis → Float → List Float → Uses

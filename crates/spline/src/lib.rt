@@ -5,17 +5,11 @@ ghost use Rattle.std.specs.Prelude.{◌≡◌};
 ghost use Rattle.spline.specs.Evaluation.{spline_of, spline_segment_of};
 
 use basis::Basis;
-use error::{Refusal, Verdict};
+use error::Refusal;
 
 pub mod curve;
 pub mod refusals;
 pub mod segment;
-
-#[derive(Clone, Copy)]
-pub enum Evaluation {
-    Value(f64),
-    Refused(Refusal),
-}
 
 // The four row sums of a segment: the coefficients of its cubic, that of the third power first.
 #[derive(Clone, Copy)]
@@ -27,23 +21,17 @@ pub struct RowSums {
 }
 
 // The curve at x; x is clamped to 0..1.
-pub fn spline(b: Basis, x: f64, knots: &[f64]) -> Evaluation
+pub fn spline(b: Basis, x: f64, knots: &[f64]) -> Result<f64, Refusal>
     ensures { result ≡ spline_of b x knots.now }
 {
-    let v = refusals::curve_verdict(b, x, knots);
-    match v {
-        Verdict::Failed(r) => Evaluation::Refused(r),
-        Verdict::Passed => Evaluation::Value(curve::curve_value(b, x, knots)),
-    }
+    refusals::curve_verdict(b, x, knots)?;
+    Ok(curve::curve_value(b, x, knots))
 }
 
 // One segment at x.
-pub fn spline_segment(b: Basis, x: f64, cv: &[f64]) -> Evaluation
+pub fn spline_segment(b: Basis, x: f64, cv: &[f64]) -> Result<f64, Refusal>
     ensures { result ≡ spline_segment_of b x cv.now }
 {
-    let v = refusals::segment_verdict(x, cv);
-    match v {
-        Verdict::Failed(r) => Evaluation::Refused(r),
-        Verdict::Passed => Evaluation::Value(segment::segment_value(b, cv, x)),
-    }
+    refusals::segment_verdict(x, cv)?;
+    Ok(segment::segment_value(b, cv, x))
 }

@@ -6,18 +6,15 @@ ghost use Rattle.doubles.specs.Numbers.{nought, one};
 ghost use Rattle.spline.specs.Evaluation.{spline_uses, spline_segment_uses};
 
 use basis::Basis;
-use error::{Refusal, Verdict};
+use error::Refusal;
 
 // The refusals of evaluating a curve, in the order of the table.
-pub fn curve_verdict(b: Basis, x: f64, knots: &[f64]) -> Verdict
+pub fn curve_verdict(b: Basis, x: f64, knots: &[f64]) -> Result<(), Refusal>
     ensures { result ≡ first (spline_uses b x knots.now) }
 {
-    let l = checks::curve_length(b, knots.len());
-    let Verdict::Passed = l else {
-        return l;
-    };
+    checks::curve_length(b, knots.len())?;
     if x != x {
-        return Verdict::Failed(Refusal::NotANumber);
+        return Err(Refusal::NotANumber);
     }
     checks::knots(knots)
 }
@@ -30,15 +27,12 @@ fn is_inside(x: f64) -> bool
 }
 
 // The refusals of evaluating one segment, in the order of the table.
-pub fn segment_verdict(x: f64, cv: &[f64]) -> Verdict
+pub fn segment_verdict(x: f64, cv: &[f64]) -> Result<(), Refusal>
     ensures { result ≡ first (spline_segment_uses x cv.now) }
 {
-    let l = checks::segment_length(cv.len());
-    let Verdict::Passed = l else {
-        return l;
-    };
+    checks::segment_length(cv.len())?;
     if !is_inside(x) {
-        return Verdict::Failed(Refusal::NotANumber);
+        return Err(Refusal::NotANumber);
     }
     checks::knots(cv)
 }

@@ -5,6 +5,7 @@ ghost use Rattle.spline.specs.Segment.{row_sums_of, horner_of, segment_value};
 
 use crate::RowSums;
 use basis::Basis;
+use basis::basis_macros::by_basis;
 
 // The four sums of knots times a row of the matrix: the cubic's coefficients.
 pub fn sums(m: [[f64; 4]; 4], cv: &[f64]) -> RowSums
@@ -30,32 +31,19 @@ pub fn horner(w: RowSums, t: f64) -> f64
     ((w.w0 * t + w.w1) * t + w.w2) * t + w.w3
 }
 
-// A match on the basis, so that each matrix is known where it is used.
+// The row sums by the matrix of the basis.
 pub fn row_sums(b: Basis, cv: &[f64]) -> RowSums
     requires { 4 ≤ length cv.now }
     ensures { result ≡ row_sums_of (matrix_of b) cv.now }
 {
-    match b {
-        Basis::Bspline => sums(basis::basis_macros::bspline(), cv),
-        Basis::Bezier => sums(basis::basis_macros::bezier(), cv),
-        Basis::CatmullRom => sums(basis::basis_macros::catmull_rom(), cv),
-        Basis::Hermite => sums(basis::basis_macros::hermite(), cv),
-        Basis::Linear => sums(basis::basis_macros::linear(), cv),
-        Basis::Power => sums(basis::basis_macros::power(), cv),
-    }
+    by_basis(b, |terms| sums(terms.matrix, cv))
 }
 
-// The segment whose four knots stand at the front of cv. The match is here too, so that no row sum goes through memory.
+// The segment whose four knots stand at the front of cv. Inlined where it is called, so that no row sum goes through memory.
+#[inline(always)]
 pub fn segment_value(b: Basis, cv: &[f64], t: f64) -> f64
     requires { 4 ≤ length cv.now }
     ensures { result ≡ segment_value (matrix_of b) cv.now t }
 {
-    match b {
-        Basis::Bspline => horner(sums(basis::basis_macros::bspline(), cv), t),
-        Basis::Bezier => horner(sums(basis::basis_macros::bezier(), cv), t),
-        Basis::CatmullRom => horner(sums(basis::basis_macros::catmull_rom(), cv), t),
-        Basis::Hermite => horner(sums(basis::basis_macros::hermite(), cv), t),
-        Basis::Linear => horner(sums(basis::basis_macros::linear(), cv), t),
-        Basis::Power => horner(sums(basis::basis_macros::power(), cv), t),
-    }
+    by_basis(b, |terms| horner(sums(terms.matrix, cv), t))
 }

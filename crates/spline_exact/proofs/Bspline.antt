@@ -1,5 +1,6 @@
 -- Why the B-spline is left out, by example: four knots of 1, at place 0. The cubic gives 1; the three sixths, each rounded, come to the double below 1. Assumes
 -- nothing.
+use Rattle.std.specs.Prelude.{Ok}
 use mathlib.Core.Path.{◌≡◌, refl, sym, ap, ◌∙◌, subst}
 use mathlib.Core.Bool.{Bool, false}
 use mathlib.Core.List.{List, [], ◌∷◌}
@@ -11,7 +12,6 @@ use Rattle.basis.specs.declared.Basis.TheVariants.{Bspline}
 use Rattle.basis.specs.Basis.{matrix_of, whole_of}
 use Rattle.doubles.specs.Numbers.{nought, one}
 use Rattle.doubles.specs.Number.{signed, Number}
-use Rattle.spline.specs.declared.Evaluation.TheVariants.{Value}
 use Rattle.spline.specs.Segment.{segment_value}
 use Rattle.checks.specs.Checks.{in_range, all_in_range, first_bad}
 use Rattle.spline.specs.Evaluation.{spline_segment_of}
@@ -37,7 +37,7 @@ pub bspline_value : segment_value (matrix_of Bspline) ones nought ≡ below_one
 unfolding matrix_of add mul
 bspline_value = refl
 
-pub bspline_answers : spline_segment_of Bspline nought ones ≡ Value below_one
+pub bspline_answers : spline_segment_of Bspline nought ones ≡ Ok below_one
 unfolding spline_segment_of in_range all_in_range first_bad matrix_of neg add mul lt le eq
 bspline_answers = refl
 

@@ -1,4 +1,5 @@
 -- What the two calls of evaluation answer on whole knots: no row of the refusals applies but those of the lengths, and the value is exact. Assumes nothing.
+use Rattle.std.specs.Prelude.{Ok}
 use mathlib.Core.Path.{◌≡◌, refl, sym, ap, ◌∙◌}
 use mathlib.Core.Bool.{Bool, true, false, ◌&&◌}
 use mathlib.Core.List.{List, [], ◌∷◌}
@@ -11,7 +12,6 @@ use lib.ListN.{length, get_or, drop, length-drop}
 use lib.Seq.{get_or-drop}
 use lib.Ieee.{Float, nan, inf, fin, binary64, round, neg, add, sub, mul, lt, le, of_int, is_nan}
 use lib.Ieee.Fits.{and_i}
-use Rattle.error.specs.declared.Verdict.TheVariants.{Passed}
 use Rattle.error.specs.Refusals.{first}
 use Rattle.basis.specs.declared.Basis.{Basis}
 use Rattle.basis.specs.Basis.{step_of, segments_of, matrix_of}
@@ -61,7 +61,7 @@ in_one x j v h =
 
 -- ---- one segment
 segment_passes : (x : Float) (cv : List Float) → length cv ≡ 4 → (le nought x && le x one) ≡ true → all_in_range cv ≡ true
-    → first (spline_segment_uses x cv) ≡ Passed
+    → first (spline_segment_uses x cv) ≡ Ok tt
 segment_passes x cv e l t = simp (e, l, t)
 
 pub segment_answers : (b : Basis) → T (is_exact b) → (x : Float) (cv : List Float) (z : List ℤ) (j : ℕ) → length cv ≡ 4 → WholeKnots cv z
@@ -97,7 +97,7 @@ module _ (b : Basis) (x : Float) (ks : List Float) where
   unfolding place
   starts l = let i = inside (segment_at (segments_of b (length ks)) x) (step_of b) (length ks - 4) (le_trans (whole_le _ _) (omega arith)) in omega (arith, i)
 
-pub curve_answers : (b : Basis) → T (is_exact b) → (x : Float) (ks : List Float) (z : List ℤ) (j : ℕ) → first (curve_length b (length ks)) ≡ Passed
+pub curve_answers : (b : Basis) → T (is_exact b) → (x : Float) (ks : List Float) (z : List ℤ) (j : ℕ) → first (curve_length b (length ks)) ≡ Ok tt
     → WholeKnots ks z
     → Number (local_at (segments_of b (length ks)) x) (pos j) 8 → j ≤ 256
     → Answers (spline_of b x ks) (exact_of b (drop (segment_at (segments_of b (length ks)) x * step_of b) z) j)

@@ -1,12 +1,11 @@
 -- Where a segment's evaluation rounds nothing, and the whole number that it comes to. Definitions only.
-use Rattle.std.specs.Prelude.{◌≡◌, Bool, true, false, List, [], ◌∷◌, ℕ, ◌/◌, ◌^◌, ◌≤◌, ◌<◌, ℤ, pos, nat_abs, ◌*ℤ◌, length, get_or, Float}
+use Rattle.spline.specs.Evaluation.{Evaluation}
+use Rattle.std.specs.Prelude.{◌≡◌, Bool, true, false, List, [], ◌∷◌, ℕ, ◌/◌, ◌^◌, ◌≤◌, ◌<◌, ℤ, pos, nat_abs, ◌*ℤ◌, length, get_or, Float, Ok}
 use Rattle.std.specs.Float.{nan}
 use Rattle.basis.specs.declared.Basis.{Basis}
 use Rattle.basis.specs.declared.Basis.TheVariants.{Bspline, Bezier, CatmullRom, Hermite, Linear, Power}
 use Rattle.basis.specs.Basis.{whole_of, divisor_of}
 use Rattle.doubles.specs.Number.{Number}
-use Rattle.spline.specs.declared.Evaluation.{Evaluation}
-use Rattle.spline.specs.declared.Evaluation.TheVariants.{Value}
 use Rattle.spline_exact.specs.Cubic.{at, cubic}
 
 -- the five; a B-spline's matrix has sixths, which are no doubles
@@ -46,5 +45,5 @@ pub record WholeKnots (ks : List Float) (z : List ℤ) : Type 0 where
 -- a value is answered, and 2^25 times it is the whole number z
 pub record Answers (r : Evaluation) (z : ℤ) : Type 0 where
   pub value : Float
-  pub told : r ≡ Value value
+  pub told : r ≡ Ok value
   pub exact : Number value z parts

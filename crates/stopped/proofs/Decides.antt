@@ -1,5 +1,11 @@
 -- With a good span what the inversion answers decides: where it answered by its end rule no row applies, and what is said goes by the ends; elsewhere the end
 -- rule is silent, so that the depth is strictly between, or a row applies. Assumes nothing.
+use Rattle.stopped.specs.declared.Job.{Job}
+use Rattle.inverse_segment.specs.declared.Miss.{Miss}
+use Rattle.inverse_segment.specs.declared.Place.{Place}
+use Rattle.inverse_segment.specs.Inversion.{Inversion}
+use Rattle.inverse_segment.specs.declared.Miss.TheVariants.{Refused}
+use Rattle.std.specs.Prelude.{Ok, Err, Result, ℕ}
 use mathlib.Core.Path.{◌≡◌, refl, sym, ap, ◌∙◌, subst}
 use mathlib.Core.Bool.{Bool, true, false, cond}
 use mathlib.Core.List.{List}
@@ -9,9 +15,7 @@ use lib.ListN.{length}
 use lib.Ieee.{Float}
 use Rattle.basis.specs.Basis.{segments_of}
 use Rattle.doubles.specs.Numbers.{nought, one}
-use Rattle.error.specs.declared.Verdict.{Verdict}
-use Rattle.error.specs.declared.Verdict.TheVariants.{Passed, Failed}
-use Rattle.error.specs.Refusals.{first}
+use Rattle.error.specs.Refusals.{first, Verdict}
 use Rattle.error.proofs.First.{never}
 use Rattle.inverse.specs.declared.Ends.{Ends}
 use Rattle.inverse.specs.Curve.{ended, located}
@@ -19,8 +23,6 @@ use Rattle.inverse.specs.EndRule.{EndRule, at_low, at_high, curve_rule}
 use Rattle.inverse.specs.Inverse.{inverse_by}
 use Rattle.inverse_order.specs.declared.EndsBy.{EndsBy}
 use Rattle.inverse_order.specs.declared.EndsBy.TheVariants.{Curve}
-use Rattle.inverse_segment.specs.declared.Inversion.{Inversion}
-use Rattle.inverse_segment.specs.declared.Inversion.TheVariants as I
 use Rattle.inverse_segment.specs.declared.Method.TheVariants.{Steady}
 use Rattle.inverse_segment.specs.Answer.{inverted, default_precision}
 use Rattle.inverse_segment.specs.Evaluations.{Evaluations}
@@ -28,14 +30,12 @@ use Rattle.inverse_segment.specs.Method.{steady_limit}
 use Rattle.inverse_segment.specs.Round.{Rule}
 use Rattle.inverse_segment.specs.Steady.{steady}
 use Rattle.spline.specs.Segment.{segment_of}
-use Rattle.stopped.specs.declared.Job.{Job}
 use Rattle.stopped.specs.Contract.{by_end}
 use Rattle.stopped.specs.Stopped.{ends_of, between, said_of, stopped_uses, stopped_of}
 use Rattle.stopped.proofs.Between.{is_between, silent_between}
 use Rattle.stopped.proofs.Call.{by_row}
 use Rattle.stopped.proofs.Which.{Passes, ends, inversion, low_number, high_number, depth_number, passed, quiet}
 use Rattle.table.specs.Calls.{timed_of}
-use Rattle.table.specs.declared.TableInversion.{TableInversion}
 use Rattle.table.proofs.Spans.{good_verdict, inverse_base}
 use Rattle.table_span.specs.declared.Table.{Table}
 use Rattle.table_span.specs.Second.{good_span}
@@ -53,15 +53,15 @@ silent R e ev g k y ε limit = go (at_low e y) (at_high e y) _
 
 -- an inversion that answered by its end rule, whichever that is, was refused by no row
 pub no_row_applies : (m : EndsBy) (t : Table) (y : Float) (ks : List Float) (check : Bool) {i : Inversion}
-    → i ≡ inverse_by m Steady t.basis y ks check steady_limit default_precision → by_end i ≡ true → first (stopped_uses t y ks check) ≡ Passed
+    → i ≡ inverse_by m Steady t.basis y ks check steady_limit default_precision → by_end i ≡ true → first (stopped_uses t y ks check) ≡ Ok tt
 unfolding inverse_by
 no_row_applies m t y ks check {i} q h = go (first (stopped_uses t y ks check)) refl _ q
   where
     go : (v : Verdict) → first (stopped_uses t y ks check) ≡ v → (x : Inversion) → i ≡ inverted (first (stopped_uses t y ks check)) x
-        → first (stopped_uses t y ks check) ≡ Passed
-    go Passed e x w = e
-    go (Failed r) e x w =
-        let z : by_end (I.Refused r) ≡ true = subst (λ (a : Inversion). by_end a ≡ true) (w ∙ ap (λ (v : Verdict). inverted v x) e) h in
+        → first (stopped_uses t y ks check) ≡ Ok tt
+    go (Ok _) e x w = e
+    go (Err r) e x w =
+        let z : by_end (Err (Refused r)) ≡ true = subst (λ (a : Inversion). by_end a ≡ true) (w ∙ ap (λ (v : Verdict). inverted v x) e) h in
         never (cc)
 
 module _ (t : Table) (y : Float) (ks : List Float) (check : Bool) (g : good_span t.span ≡ true) {i : Inversion}
@@ -80,16 +80,16 @@ module _ (t : Table) (y : Float) (ks : List Float) (check : Bool) (g : good_span
   told : inversion t y ks check ≡ timed_of t.span i
   told = inverse_base Curve Steady t y ks check steady_limit default_precision g ∙ ap (timed_of t.span) (sym q)
 
-  passes : first (stopped_uses t y ks check) ≡ Passed → Passes t y ks check
+  passes : first (stopped_uses t y ks check) ≡ Ok tt → Passes t y ks check
   passes e = good_verdict t (stopped_uses t y ks check) refl g ∙ e
 
   -- ---- by the end rule
-  pub at_ends : by_end i ≡ true → {j : Job} → j ≡ said_of (ends_of t.basis ks) y (timed_of t.span i) → j ≡ stopped_of t y ks check
+  pub at_ends : by_end i ≡ true → {j : Result Job Miss} → j ≡ said_of (ends_of t.basis ks) y (timed_of t.span i) → j ≡ stopped_of t y ks check
   at_ends h p =
-      p ∙ ap (λ (x : TableInversion). said_of (ends_of t.basis ks) y x) (sym told) ∙ sym (passed t y ks check (passes (no_row_applies Curve t y ks check q h)))
+      p ∙ ap (λ (x : Result (Place × ℕ) Miss). said_of (ends_of t.basis ks) y x) (sym told) ∙ sym (passed t y ks check (passes (no_row_applies Curve t y ks check q h)))
 
   -- ---- not by the end rule
-  inside : first (stopped_uses t y ks check) ≡ Passed → by_end i ≡ false → T (is_between (ends t y ks check) y)
+  inside : first (stopped_uses t y ks check) ≡ Ok tt → by_end i ≡ false → T (is_between (ends t y ks check) y)
   inside e h =
       let w : i ≡ answer = by_verdict ∙ ap (λ (v : Verdict). inverted v answer) e in
       let s =
@@ -98,11 +98,11 @@ module _ (t : Table) (y : Float) (ks : List Float) (check : Bool) (g : good_span
       let f = passes e in
       silent_between rule.ends y (low_number t y ks check f) (high_number t y ks check f) (depth_number t y ks check f) s.0 s.1
 
-  pub elsewhere : by_end i ≡ false → {j : Job} → j ≡ between (timed_of t.span i) → j ≡ stopped_of t y ks check
+  pub elsewhere : by_end i ≡ false → {j : Result Job Miss} → j ≡ between (timed_of t.span i) → j ≡ stopped_of t y ks check
   elsewhere h {j} p = go (first (stopped_uses t y ks check)) refl
     where
       go : (v : Verdict) → first (stopped_uses t y ks check) ≡ v → j ≡ stopped_of t y ks check
-      go Passed e = p ∙ ap between (sym told) ∙ sym (quiet t y ks check (inside e h)) ∙ sym (passed t y ks check (passes e))
-      go (Failed r) e =
-          let w : i ≡ I.Refused r = by_verdict ∙ ap (λ (v : Verdict). inverted v answer) e in
+      go (Ok _) e = p ∙ ap between (sym told) ∙ sym (quiet t y ks check (inside e h)) ∙ sym (passed t y ks check (passes e))
+      go (Err r) e =
+          let w : i ≡ Err (Refused r) = by_verdict ∙ ap (λ (v : Verdict). inverted v answer) e in
           p ∙ ap (λ (a : Inversion). between (timed_of t.span a)) w ∙ by_row t y ks check g e

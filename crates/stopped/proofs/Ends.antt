@@ -1,5 +1,10 @@
 -- Equal doubles either way round; a depth that is at neither end and outside neither is one of which the end rule is silent; the code's tests one by one.
 -- Assumes nothing.
+use Rattle.stopped.specs.declared.Job.{Job}
+use Rattle.stopped.specs.declared.Job.TheVariants.{Flat, Before, Start, End, Beyond}
+use Rattle.inverse_segment.specs.declared.Miss.{Miss}
+use Rattle.inverse_segment.specs.declared.Place.{Place}
+use Rattle.std.specs.Prelude.{Result, ℕ, Ok}
 use mathlib.Core.Path.{◌≡◌, refl, sym, ap, ◌∙◌}
 use mathlib.Core.Bool.{Bool, true, false, cond, ◌||◌, beq}
 use mathlib.Core.List.{List}
@@ -15,10 +20,7 @@ use Rattle.doubles.proofs.Tests.{fails}
 use Rattle.inverse.specs.declared.Ends.{Ends}
 use Rattle.inverse.specs.EndRule.{at_low, at_high, curve_rule}
 use Rattle.spline.specs.Segment.{segment_of}
-use Rattle.stopped.specs.declared.Job.{Job}
-use Rattle.stopped.specs.declared.Job.TheVariants.{Flat, Before, Start, End, Beyond}
 use Rattle.stopped.specs.Stopped.{ends_of, is_before, is_beyond, between, said_of}
-use Rattle.table.specs.declared.TableInversion.{TableInversion}
 
 -- ---- equal doubles, either way round
 level_swapped : (s : Bool) (a : ℕ) (t : Bool) (b : ℕ) → T (level s a t b) → T (level t b s a)
@@ -72,29 +74,29 @@ not_high e y a b = go e.rising b
     go false b = not_at_most y e.high a b
 
 -- ---- the code's tests are those of the definition; e is what `curve_ends` answers of the k segments, x what the inversion found
-module _ (b : Basis) (ks : List Float) (y : Float) (x : TableInversion) {k : ℕ} (q : k ≡ segments_of b (length ks)) {e : Ends}
+module _ (b : Basis) (ks : List Float) (y : Float) (x : Result (Place × ℕ) Miss) {k : ℕ} (q : k ≡ segments_of b (length ks)) {e : Ends}
     (h : e ≡ (curve_rule (segment_of b ks) k).ends) where
-  by_ends_lem : {j : Job} → j ≡ said_of e y x → j ≡ said_of (ends_of b ks) y x
+  by_ends_lem : {j : Result Job Miss} → j ≡ said_of e y x → j ≡ said_of (ends_of b ks) y x
   by_ends_lem p = p ∙ ap (λ (z : Ends). said_of z y x) (h ∙ ap (λ (z : ℕ). (curve_rule (segment_of b ks) z).ends) q)
 
-  pub said_flat : eq e.low e.high ≡ true → Flat ≡ said_of (ends_of b ks) y x
+  pub said_flat : eq e.low e.high ≡ true → Ok Flat ≡ said_of (ends_of b ks) y x
   said_flat a = by_ends_lem (simp a)
 
   module _ (a : eq e.low e.high ≡ false) where
-    pub said_start : eq y e.low ≡ true → Start ≡ said_of (ends_of b ks) y x
+    pub said_start : eq y e.low ≡ true → Ok Start ≡ said_of (ends_of b ks) y x
     said_start c = by_ends_lem (simp (a, c))
 
     module _ (c : eq y e.low ≡ false) where
-      pub said_end : eq y e.high ≡ true → End ≡ said_of (ends_of b ks) y x
+      pub said_end : eq y e.high ≡ true → Ok End ≡ said_of (ends_of b ks) y x
       said_end d = by_ends_lem (simp (a, c, d))
 
       module _ (d : eq y e.high ≡ false) where
-        pub said_before : is_before e y ≡ true → Before ≡ said_of (ends_of b ks) y x
+        pub said_before : is_before e y ≡ true → Ok Before ≡ said_of (ends_of b ks) y x
         said_before f = by_ends_lem (simp (a, c, d, f))
 
         module _ (f : is_before e y ≡ false) where
-          pub said_beyond : is_beyond e y ≡ true → Beyond ≡ said_of (ends_of b ks) y x
+          pub said_beyond : is_beyond e y ≡ true → Ok Beyond ≡ said_of (ends_of b ks) y x
           said_beyond g = by_ends_lem (simp (a, c, d, f, g))
 
-          pub said_between : is_beyond e y ≡ false → {j : Job} → j ≡ between x → j ≡ said_of (ends_of b ks) y x
+          pub said_between : is_beyond e y ≡ false → {j : Result Job Miss} → j ≡ between x → j ≡ said_of (ends_of b ks) y x
           said_between g r = by_ends_lem (r ∙ simp (a, c, d, f, g))

@@ -1,6 +1,11 @@
 -- What is promised of a job that is under way: its place is the inversion's, which keeps all that an inversion keeps, and since the depth is at neither end a
 -- segment was entered. And the evaluations: those of that inversion, which are the curve's two ends alone wherever nothing is searched; so two tables that
 -- agree there get one answer. Assumes nothing.
+use Rattle.stopped.specs.declared.Job.{Job}
+use Rattle.inverse_segment.specs.declared.Miss.{Miss}
+use Rattle.inverse_segment.specs.Inversion.{Inversion}
+use Rattle.inverse_segment.specs.declared.Miss.TheVariants.{Refused, OffCurve}
+use Rattle.std.specs.Prelude.{Ok, Err, Result}
 use mathlib.Core.Path.{◌≡◌, refl, sym, ap, ◌∙◌, subst}
 use mathlib.Core.Logic.{inl, inr}
 use mathlib.Core.Bool.{Bool, true, false, not, cond}
@@ -12,7 +17,6 @@ use lib.Ieee.{Float}
 use Rattle.basis.specs.declared.Basis.{Basis}
 use Rattle.basis.specs.Basis.{segments_of}
 use Rattle.doubles.proofs.Tests.{fails}
-use Rattle.error.specs.declared.Verdict.TheVariants.{Passed}
 use Rattle.error.specs.Refusals.{first}
 use Rattle.error.proofs.First.{never}
 use Rattle.inverse.specs.Curve.{located, evaluations}
@@ -31,39 +35,36 @@ use Rattle.inverse_order.specs.declared.EndsBy.TheVariants.{Curve}
 use Rattle.inverse_search.specs.Bound.{bound_of}
 use Rattle.inverse_segment.specs.declared.Ground.{Ground}
 use Rattle.inverse_segment.specs.declared.Ground.TheVariants as G
-use Rattle.inverse_segment.specs.declared.Inversion.{Inversion}
-use Rattle.inverse_segment.specs.declared.Inversion.TheVariants as I
 use Rattle.inverse_segment.specs.declared.Place.{Place}
 use Rattle.inverse_segment.specs.Agreed.{Agreed}
 use Rattle.inverse_segment.specs.Answer.{count_told, default_precision}
 use Rattle.inverse_segment.specs.Evaluations.{Evaluations}
 use Rattle.spline.specs.Segment.{segment_of}
-use Rattle.stopped.specs.declared.Job.{Job}
 use Rattle.stopped.specs.Stopped.{said_of, stopped_uses, stopped_of}
 use Rattle.stopped.proofs.Between.{is_between, between_alone, silent_between}
 use Rattle.stopped.proofs.Call as call
 use Rattle.stopped.proofs.Ends.{not_low, not_high}
 use Rattle.stopped.proofs.Which.{Passes, ends, inversion, span_good, no_row, low_number, high_number, depth_number}
 use Rattle.table.specs.Calls.{timed_of}
-use Rattle.table.specs.declared.TableInversion.TheVariants as T
 use Rattle.table.proofs.Spans.{inverse_base}
 use Rattle.table_span.specs.declared.Table.{Table}
 use Rattle.table_span.specs.Second.{elapsed, second_of}
 use Rattle.table_span.proofs.Spans.{good_least}
 use Rattle.table_span.proofs.Largest.{Largest, second_largest}
 
-timed_off : (s : ℕ) (i : Inversion) (n : ℕ) → timed_of s i ≡ T.OffCurve n → i ≡ I.OffCurve n
-timed_off s (I.Refused q) n h = never (cc)
-timed_off s (I.OffCurve m) n h = let z : m ≡ n = cc in ap I.OffCurve z
-timed_off s (I.At p) n h = never (cc)
+timed_off : (s : ℕ) (i : Inversion) (n : ℕ) → timed_of s i ≡ Err (OffCurve n) → i ≡ Err (OffCurve n)
+timed_off s (Err (Refused q)) n h = never (cc)
+timed_off s (Err (OffCurve m)) n h = let z : m ≡ n = cc in ap (λ a. Err (OffCurve a)) z
+timed_off s (Ok p) n h = never (cc)
 
-timed_at : (s : ℕ) (i : Inversion) (p : Place) (n : ℕ) → timed_of s i ≡ T.At p n → (i ≡ I.At p) × (n ≡ second_of s p.parameter)
-timed_at s (I.Refused r) p n h = never (cc)
-timed_at s (I.OffCurve m) p n h = never (cc)
-timed_at s (I.At q) p n h =
-    let e : q ≡ p = cc in
-    let f : second_of s q.parameter ≡ n = cc in
-    (ap I.At e, sym f ∙ ap (λ (x : Place). second_of s x.parameter) e)
+timed_at : (s : ℕ) (i : Inversion) (p : Place) (n : ℕ) → timed_of s i ≡ Ok (p, n) → (i ≡ Ok p) × (n ≡ second_of s p.parameter)
+timed_at s (Err (Refused r)) p n h = never (cc)
+timed_at s (Err (OffCurve m)) p n h = never (cc)
+timed_at s (Ok q) p n h =
+    let k : ◌≡◌ {A = Place × ℕ} (q, second_of s q.parameter) (p, n) = cc in
+    let e : q ≡ p = ap (λ (x : Place × ℕ). x.0) k in
+    let f : second_of s q.parameter ≡ n = ap (λ (x : Place × ℕ). x.1) k in
+    (ap Ok e, sym f ∙ ap (λ (x : Place). second_of s x.parameter) e)
 
 module _ (t : Table) (y : Float) (ks : List Float) (check : Bool) where
   abbrev pub b : Basis
@@ -87,7 +88,7 @@ module _ (t : Table) (y : Float) (ks : List Float) (check : Bool) where
 
   -- ---- under way: what is promised of an inversion, not for want of rounds, in a segment that was entered; few evaluations; and the second
   pub record Kept (s : ℕ) (p : Place) : Type 0 where
-    pub promised : Promised Curve Steady b y ks check steady_limit default_precision (I.At p)
+    pub promised : Promised Curve Steady b y ks check steady_limit default_precision (Ok p)
     pub entered : Enclosing rule.ends rule.made (segment_of b ks) k y default_precision steady_limit p
     pub not_spent : T (not (is_spent p.ground))
     pub bounded : p.count ≤ 2 + bound_of k 39
@@ -113,10 +114,10 @@ module _ (t : Table) (y : Float) (ks : List Float) (check : Bool) where
   inner w G.Width p h q = h
   inner w G.Spent p h q = h
 
-  pub under_way_kept : Passes t y ks check → T (is_between (ends t y ks check) y) → (s : ℕ) (p : Place) → inversion t y ks check ≡ T.At p s → Kept s p
+  pub under_way_kept : Passes t y ks check → T (is_between (ends t y ks check) y) → (s : ℕ) (p : Place) → inversion t y ks check ≡ Ok (p, s) → Kept s p
   under_way_kept e w s p h =
       let a = timed_at t.span answer p s (sym (timed e) ∙ h) in
-      let q = reply_promised Curve Steady b y ks check steady_limit default_precision (I.At p) (sym a.0) in
+      let q = reply_promised Curve Steady b y ks check steady_limit default_precision (Ok p) (sym a.0) in
       let r = timely Curve b ks steady_limit y check default_precision 39 default_enough in
       record {
         promised = q;
@@ -129,17 +130,17 @@ module _ (t : Table) (y : Float) (ks : List Float) (check : Bool) where
       }
 
   -- ---- not on the curve: the same promises, and as few
-  pub off_kept : Passes t y ks check → (n : ℕ) → inversion t y ks check ≡ T.OffCurve n
-      → Promised Curve Steady b y ks check steady_limit default_precision (I.OffCurve n) × (n ≤ 2 + bound_of k 39)
+  pub off_kept : Passes t y ks check → (n : ℕ) → inversion t y ks check ≡ Err (OffCurve n)
+      → Promised Curve Steady b y ks check steady_limit default_precision (Err (OffCurve n)) × (n ≤ 2 + bound_of k 39)
   off_kept e n h =
       let a = timed_off t.span answer n (sym (timed e) ∙ h) in
       let r = timely Curve b ks steady_limit y check default_precision 39 default_enough in (
-        reply_promised Curve Steady b y ks check steady_limit default_precision (I.OffCurve n) (sym a),
+        reply_promised Curve Steady b y ks check steady_limit default_precision (Err (OffCurve n)) (sym a),
         subst (λ (i : Inversion). count_told i ≤ 2 + bound_of k 39) a r.1,
       )
 
   -- ---- the evaluations
-  searched_list : first (stopped_uses t y ks check) ≡ Passed
+  searched_list : first (stopped_uses t y ks check) ≡ Ok tt
       → listed ≡ evaluations steady rule.ends rule.made (segment_of b ks) k y default_precision steady_limit
   unfolding evaluations_by
   searched_list e = rw e refl
@@ -162,7 +163,7 @@ rule_same : (g h : ℕ → Float → Float) (k : ℕ) → Agreed g h (curve_rule
 rule_same g h k a = rw (a.0, a.1.0)
 
 module _ (t : Table) (y : Float) (ks ls : List Float) (check : Bool) where
-  abbrev past : (ℕ → Float → Float) → ℕ → Job
+  abbrev past : (ℕ → Float → Float) → ℕ → Result Job Miss
   past g n =
       said_of (curve_rule g n).ends y
       (timed_of t.span (located steady (curve_rule g n).ends (curve_rule g n).made g n y default_precision steady_limit))

@@ -1,11 +1,14 @@
 -- What the depth at which a job stopped says of the job, by the curve's own ends. Definitions only.
-use Rattle.std.specs.Prelude.{Bool, cond, List, length, Float}
+use Rattle.stopped.specs.declared.Job.{Job}
+use Rattle.stopped.specs.declared.Job.TheVariants.{Flat, Before, Start, UnderWay, End, Beyond}
+use Rattle.inverse_segment.specs.declared.Miss.{Miss}
+use Rattle.inverse_segment.specs.declared.Place.{Place}
+use Rattle.inverse_segment.specs.declared.Miss.TheVariants.{Refused, OffCurve}
+use Rattle.std.specs.Prelude.{Bool, cond, List, length, Float, Ok, Err, Result, ℕ}
 use Rattle.std.specs.Float.Ieee.{lt, eq}
 use Rattle.basis.specs.declared.Basis.{Basis}
 use Rattle.basis.specs.Basis.{segments_of}
-use Rattle.error.specs.Refusals.{Uses}
-use Rattle.error.specs.declared.Verdict.{Verdict}
-use Rattle.error.specs.declared.Verdict.TheVariants.{Passed, Failed}
+use Rattle.error.specs.Refusals.{Uses, Verdict}
 use Rattle.inverse.specs.declared.Ends.{Ends}
 use Rattle.inverse.specs.EndRule.{curve_rule}
 use Rattle.inverse.specs.Inverse.{inverse_uses}
@@ -14,11 +17,7 @@ use Rattle.inverse_segment.specs.Method.{steady_limit}
 use Rattle.inverse_order.specs.declared.EndsBy.TheVariants.{Curve}
 use Rattle.inverse_segment.specs.Answer.{default_precision}
 use Rattle.spline.specs.Segment.{segment_of}
-use Rattle.stopped.specs.declared.Job.{Job}
-use Rattle.stopped.specs.declared.Job.TheVariants.{Refused, OffCurve, Flat, Before, Start, UnderWay, End, Beyond}
 use Rattle.table.specs.Calls.{verdict_of, table_inverse_by}
-use Rattle.table.specs.declared.TableInversion.{TableInversion}
-use Rattle.table.specs.declared.TableInversion.TheVariants as T
 use Rattle.table_span.specs.declared.Table.{Table}
 
 -- the curve's own ends: its evaluated start, its evaluated end, and whether it rises from the one to the other
@@ -33,29 +32,28 @@ abbrev pub is_beyond : Ends → Float → Bool
 is_beyond e y = cond e.rising (lt e.high y) (lt y e.high)
 
 -- strictly between the ends: what the inversion answers
-abbrev pub between : TableInversion → Job
-between (T.Refused r) = Refused r
-between (T.OffCurve n) = OffCurve n
-between (T.At p s) = UnderWay s p
+abbrev pub between : Result (Place × ℕ) Miss → Result Job Miss
+between (Err m) = Err m
+between (Ok (p, s)) = Ok (UnderWay s p)
 
 -- equal ends say nothing; then at an end, then outside both
-abbrev pub said_of : Ends → Float → TableInversion → Job
+abbrev pub said_of : Ends → Float → Result (Place × ℕ) Miss → Result Job Miss
 said_of e y found =
-    cond (eq e.low e.high) Flat
-    (cond (eq y e.low) Start
-    (cond (eq y e.high) End
-    (cond (is_before e y) Before
-    (cond (is_beyond e y) Beyond (between found)))))
+    cond (eq e.low e.high) (Ok Flat)
+    (cond (eq y e.low) (Ok Start)
+    (cond (eq y e.high) (Ok End)
+    (cond (is_before e y) (Ok Before)
+    (cond (is_beyond e y) (Ok Beyond) (between found)))))
 
 -- the rows of a table's inversion, by the steady method's defaults
 abbrev pub stopped_uses : Table → Float → List Float → Bool → Uses
 stopped_uses t y ks check = inverse_uses t.basis y ks check steady_limit default_precision
 
-abbrev pub said_unless : Verdict → Job → Job
-said_unless Passed j = j
-said_unless (Failed r) j = Refused r
+abbrev pub said_unless : Verdict → Result Job Miss → Result Job Miss
+said_unless (Ok _) j = j
+said_unless (Err r) j = Err (Refused r)
 
-unfoldable pub stopped_of : Table → Float → List Float → Bool → Job
+unfoldable pub stopped_of : Table → Float → List Float → Bool → Result Job Miss
 stopped_of t y ks check =
     said_unless (verdict_of t (stopped_uses t y ks check))
     (said_of (ends_of t.basis ks) y (table_inverse_by Curve Steady t y ks check steady_limit default_precision))

@@ -12,15 +12,13 @@ use basis::Basis;
 use error::Refusal;
 use inverse::{Ends, Options};
 use inverse_order::EndsBy;
-use inverse_segment::{DEFAULT_PRECISION, Ground, Inversion, Method, Place, STEADY_LIMIT};
+use inverse_segment::{DEFAULT_PRECISION, Ground, Method, Miss, Place, STEADY_LIMIT};
 use table_span::Table;
 
 // Refused by a row of the table; not on the curve after so many evaluations; the curve's two ends are equal, so that no depth says
 // anything; before the start, at the start, under way with the second and the place, at the end, beyond the end.
 #[derive(Clone, Copy)]
 pub enum Job {
-    Refused(Refusal),
-    OffCurve(usize),
     Flat,
     Before,
     Start,
@@ -44,15 +42,12 @@ fn is_beyond(e: Ends, y: f64) -> bool
 }
 
 // What the inversion answers of a depth between the ends, with the second of its place.
-fn found(span: u32, i: Inversion) -> Job
+fn found(span: u32, i: Result<Place, Miss>) -> Result<Job, Miss>
     requires { good_span span ≡ true }
     ensures { result ≡ between (timed_of span i) }
 {
-    match i {
-        Inversion::Refused(r) => Job::Refused(r),
-        Inversion::OffCurve(n) => Job::OffCurve(n),
-        Inversion::At(p) => Job::UnderWay(table_span::second(span, p.parameter), p),
-    }
+    let p = i?;
+    Ok(Job::UnderWay(table_span::second(span, p.parameter), p))
 }
 
 // Whether the end rule answered.
@@ -69,21 +64,20 @@ fn is_end(g: Ground) -> bool
 }
 
 // Whether the inversion answered by its end rule, and so did not search.
-fn is_by_end(i: Inversion) -> bool
+fn is_by_end(i: Result<Place, Miss>) -> bool
     ensures { result ≡ by_end i }
 {
     match i {
-        Inversion::Refused(_) => false,
-        Inversion::OffCurve(_) => false,
-        Inversion::At(p) => {
+        Ok(p) => {
             let g = p.ground;
             is_end(g)
         }
+        Err(_) => false,
     }
 }
 
 // Where the end rule answered: which of its cases it was, by the ends, which are evaluated again.
-fn said(b: Basis, span: u32, y: f64, knots: &[f64], i: Inversion) -> Job
+fn said(b: Basis, span: u32, y: f64, knots: &[f64], i: Result<Place, Miss>) -> Result<Job, Miss>
     requires span { good_span span ≡ true }
     requires enough { 4 ≤ length knots.now }
     requires most { length knots.now ≤ most_knots }
@@ -92,19 +86,19 @@ fn said(b: Basis, span: u32, y: f64, knots: &[f64], i: Inversion) -> Job
     let k = basis::segments(b, knots.len());
     let e = inverse::curve_ends(b, knots, k);
     if e.low == e.high {
-        return Job::Flat;
+        return Ok(Job::Flat);
     }
     if y == e.low {
-        return Job::Start;
+        return Ok(Job::Start);
     }
     if y == e.high {
-        return Job::End;
+        return Ok(Job::End);
     }
     if is_before(e, y) {
-        return Job::Before;
+        return Ok(Job::Before);
     }
     if is_beyond(e, y) {
-        return Job::Beyond;
+        return Ok(Job::Beyond);
     }
     found(span, i)
 }
@@ -112,7 +106,7 @@ fn said(b: Basis, span: u32, y: f64, knots: &[f64], i: Inversion) -> Job
 // How far a job had come that stopped at the depth y, by the curve's own ends and the steady method with limit 64 and precision 1e-10;
 // with `check`, knots that turn back are refused. The search is that of `spline_inverse_by` and stands in no second place: the stack of
 // every inversion would grow by it.
-pub fn stopped(t: Table, y: f64, knots: &[f64], check: bool) -> Job
+pub fn stopped(t: Table, y: f64, knots: &[f64], check: bool) -> Result<Job, Miss>
     ensures { result ≡ stopped_of t y knots.now check }
 {
     let b = t.basis;
@@ -131,5 +125,5 @@ pub fn stopped(t: Table, y: f64, knots: &[f64], check: bool) -> Job
         }
         return found(span, i);
     }
-    Job::Refused(table_span::without_span(b, knots.len()))
+    Err(Miss::Refused(table_span::without_span(b, knots.len())))
 }

@@ -1,10 +1,12 @@
-// Standard input and output in pieces: what the loop of every program over lines shares.
+// Standard input and output in pieces, and the loop of every program over lines between them.
 // Where a read or a write fails, standard error is told.
 #![tactic(auto)]
 
-ghost use Rattle.std.specs.Prelude.{◌≡◌, true, false, ◌≤◌, ◌<◌, ltb, length};
-ghost use Rattle.stream.specs.Stream.{got_of, left_of, moved};
+ghost use Rattle.std.specs.Prelude.{◌≡◌, ◌+◌, ◌≤◌, ◌<◌, length, Err, IfOk, IfErr, IfSome};
+ghost use Rattle.stream.specs.Stream.{got_of, moved};
+ghost use Rattle.lines_machine.specs.Bytes.{state_at, ran_of};
 
+use lines_machine::{LineSoFar, Machine};
 use std::io::{Read, Stdin};
 
 // The descriptors of standard output and of standard error.
@@ -12,74 +14,106 @@ const STDOUT: i32 = 1;
 
 const STDERR: i32 = 2;
 
-// How many bytes a read brought; whether it did not fail, and whether to read on.
-#[derive(Clone, Copy)]
-pub struct Got {
-    pub n: usize,
-    pub fine: bool,
-    pub more: bool,
+// What failed.
+#[derive(Clone, Copy, Debug, PartialEq, Eq)]
+pub enum Failure {
+    Read,
+    Write,
 }
 
-// All of a text, unless a write failed before: then nothing, and it stays failed.
-pub fn written(fine: bool, text: &[u8]) -> bool
-    ensures { fine ≡ false → result ≡ false }
+// All of a text, unless something failed before: then nothing, and that is still what failed.
+pub fn written(before: Result<(), Failure>, text: &[u8]) -> Result<(), Failure>
+    ensures { IfErr before (λ f. result ≡ Err f) }
 {
-    if !fine {
-        return false;
-    }
+    before?;
     if io::write_all(STDOUT, text) {
-        return true;
+        return Ok(());
     }
     io::write_all(STDERR, b"write failed\n");
-    false
+    Err(Failure::Write)
 }
 
-// How many reads are left: one fewer than before, or none. It begins with more than any run makes.
-pub fn left(before: u64, more: bool) -> u64
-    requires { 0 < before }
-    ensures answer { result ≡ left_of before more }
-    ensures fewer { result < before }
-{
-    if more { before - 1 } else { 0 }
-}
-
-// What a read's answer says.
-fn of_answer(answer: std::io::Result<usize>) -> Got
+// What a read's answer says: how many bytes it brought, or that there is no more to read.
+fn of_answer(answer: std::io::Result<usize>) -> Result<Option<usize>, Failure>
     ensures { result ≡ got_of (moved answer) }
 {
     match answer {
-        Ok(n) => {
-            if 0 < n {
-                return Got {
-                    n: n,
-                    fine: true,
-                    more: true,
-                };
-            }
-            Got {
-                n: 0,
-                fine: true,
-                more: false,
-            }
-        }
-        Err(_) => Got {
-            n: 0,
-            fine: false,
-            more: false,
-        },
+        Ok(0) => Ok(None),
+        Ok(n) => Ok(Some(n)),
+        Err(_) => Err(Failure::Read),
     }
 }
 
-// One read: it goes on after one that brought a byte, and after no other; one that failed brought none.
-pub fn read(mut input: Stdin, chunk: &mut [u8]) -> Got
-    ensures fits { result.n ≤ length chunk.new }
-    ensures on { result.more ≡ ltb 0 result.n }
-    ensures failed { result.fine ≡ false → result.n ≡ 0 }
+// One read: it brought some bytes, or there is no more; one that failed brought none.
+pub fn read(mut input: Stdin, chunk: &mut [u8]) -> Result<Option<usize>, Failure>
+    ensures fits { IfOk result (λ got. IfSome got (λ n. n ≤ length chunk.new)) }
+    ensures on { IfOk result (λ got. IfSome got (λ n. 0 < n)) }
 {
-    let answer = input.read(&mut *chunk);
-    let g = of_answer(answer);
-    if !g.fine {
+    let got = of_answer(input.read(&mut *chunk));
+    if got.is_err() {
         io::write_all(STDERR, b"read failed\n");
     }
-    g
+    got
+}
+
+// The bytes of a chunk. Each pass of the loop writes what `out` has room for; after a failed write nothing is written.
+pub fn feed_all<M: Machine>(
+    m: &mut M,
+    line: &mut LineSoFar,
+    chunk: &[u8],
+    out: &mut [u8],
+) -> Result<(), Failure>
+    requires keeps { M.Keeps m.old }
+    requires room { M.LINE_ROOM ≤ length out.old }
+    ensures state { state_at line.new (M.held m.new) ≡ ran_of M.program (state_at line.old (M.held m.old)) chunk.now }
+    ensures kept { M.Keeps m.new }
+{
+    let mut rest = chunk;
+    let mut wrote = Ok(());
+    while !rest.is_empty() {
+        let taken = m.feed(&mut *line, rest, &mut *out);
+        wrote = written(wrote, &out[..taken.at]);
+        rest = &rest[taken.bytes..];
+    }
+    wrote
+}
+
+// One read, fed and written: whether there is more.
+fn piece<M: Machine>(
+    input: Stdin,
+    m: &mut M,
+    line: &mut LineSoFar,
+    chunk: &mut [u8],
+    out: &mut [u8],
+) -> Result<bool, Failure>
+    requires keeps { M.Keeps m.old }
+    requires room { M.LINE_ROOM ≤ length out.old }
+    ensures kept { M.Keeps m.new }
+{
+    let Some(n) = read(input, &mut *chunk)? else {
+        return Ok(false);
+    };
+    feed_all(m, line, &chunk[..n], out)?;
+    Ok(true)
+}
+
+// The whole input; its end is written where nothing failed.
+pub fn whole<M: Machine>(
+    input: Stdin,
+    m: &mut M,
+    chunk: &mut [u8],
+    out: &mut [u8],
+) -> Result<(), Failure>
+    requires keeps { M.Keeps m.old }
+    requires room { M.LINE_ROOM + M.END_ROOM ≤ length out.old }
+{
+    let mut line = M::begin();
+    // more reads than any run makes
+    for _ in 0..u64::MAX {
+        if !piece(input, &mut *m, &mut line, &mut *chunk, &mut *out)? {
+            break;
+        }
+    }
+    let at = m.finish(&line, &mut *out);
+    written(Ok(()), &out[..at])
 }

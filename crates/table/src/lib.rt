@@ -10,31 +10,14 @@ ghost use Rattle.table_span.specs.Second.{good_span};
 ghost use Rattle.table.specs.Calls.{timed_of, table_spline_of, table_inverse_by, table_steady_of, table_converted_of, table_strict_of, handed_of};
 
 use basis::Basis;
-use convert::ConversionAnswer;
 use error::Refusal;
 use inverse::Options;
 use inverse_order::EndsBy;
-use inverse_segment::{DEFAULT_LIMIT, DEFAULT_PRECISION, Inversion, Method, Place, STEADY_LIMIT};
-use spline::Evaluation;
+use inverse_segment::{DEFAULT_LIMIT, DEFAULT_PRECISION, Method, Miss, Place, STEADY_LIMIT};
 use table_span::Table;
 
-// An inversion's answer; a place comes with its second.
-#[derive(Clone, Copy)]
-pub enum TableInversion {
-    Refused(Refusal),
-    OffCurve(usize),
-    At(Place, u32),
-}
-
-// A conversion's answer: the new table, and how many knots it has.
-#[derive(Clone, Copy)]
-pub enum TableConversion {
-    Refused(Refusal),
-    On(Table, usize),
-}
-
 // The curve at x.
-pub fn table_spline(t: Table, x: f64, knots: &[f64]) -> Evaluation
+pub fn table_spline(t: Table, x: f64, knots: &[f64]) -> Result<f64, Refusal>
     ensures { result ≡ table_spline_of t x knots.now }
 {
     let b = t.basis;
@@ -42,23 +25,25 @@ pub fn table_spline(t: Table, x: f64, knots: &[f64]) -> Evaluation
     if table_span::is_span(span) {
         return spline::spline(b, x, knots);
     }
-    Evaluation::Refused(table_span::without_span(b, knots.len()))
+    Err(table_span::without_span(b, knots.len()))
 }
 
 // An inversion's answer with the second of its place.
-fn with_second(span: u32, i: Inversion) -> TableInversion
+fn with_second(span: u32, i: Result<Place, Miss>) -> Result<(Place, u32), Miss>
     requires { good_span span ≡ true }
     ensures { result ≡ timed_of span i }
 {
-    match i {
-        Inversion::Refused(r) => TableInversion::Refused(r),
-        Inversion::OffCurve(n) => TableInversion::OffCurve(n),
-        Inversion::At(p) => TableInversion::At(p, table_span::second(span, p.parameter)),
-    }
+    let p = i?;
+    Ok((p, table_span::second(span, p.parameter)))
 }
 
 // The place of y and its second, by these options.
-pub fn table_spline_inverse_by(o: Options, t: Table, y: f64, knots: &[f64]) -> TableInversion
+pub fn table_spline_inverse_by(
+    o: Options,
+    t: Table,
+    y: f64,
+    knots: &[f64],
+) -> Result<(Place, u32), Miss>
     ensures { result ≡ table_inverse_by o.ends o.method t y knots.now o.check o.limit o.precision }
 {
     let b = t.basis;
@@ -66,11 +51,16 @@ pub fn table_spline_inverse_by(o: Options, t: Table, y: f64, knots: &[f64]) -> T
     if table_span::is_span(span) {
         return with_second(span, inverse::spline_inverse_by(o, b, y, knots));
     }
-    TableInversion::Refused(table_span::without_span(b, knots.len()))
+    Err(Miss::Refused(table_span::without_span(b, knots.len())))
 }
 
 // As the crate inverts, with limit 32 and precision 1e-10.
-pub fn table_spline_inverse(t: Table, y: f64, knots: &[f64], check: bool) -> TableInversion
+pub fn table_spline_inverse(
+    t: Table,
+    y: f64,
+    knots: &[f64],
+    check: bool,
+) -> Result<(Place, u32), Miss>
     ensures { result ≡ table_inverse_by Knots AsCrate t y knots.now check default_limit default_precision }
 {
     let o = Options {
@@ -84,7 +74,12 @@ pub fn table_spline_inverse(t: Table, y: f64, knots: &[f64], check: bool) -> Tab
 }
 
 // By the knots and by the steady method, with limit 64 and precision 1e-10: never spent.
-pub fn table_spline_inverse_steady(t: Table, y: f64, knots: &[f64], check: bool) -> TableInversion
+pub fn table_spline_inverse_steady(
+    t: Table,
+    y: f64,
+    knots: &[f64],
+    check: bool,
+) -> Result<(Place, u32), Miss>
     ensures { result ≡ table_steady_of t y knots.now check }
 {
     let o = Options {
@@ -98,23 +93,28 @@ pub fn table_spline_inverse_steady(t: Table, y: f64, knots: &[f64], check: bool)
 }
 
 // A conversion's answer as a table of the new basis with the old span.
-fn handed_on(span: u32, to: Basis, c: ConversionAnswer) -> TableConversion
+fn handed_on(span: u32, to: Basis, c: Result<usize, Refusal>) -> Result<(Table, usize), Refusal>
     ensures { result ≡ handed_of span to c }
 {
     match c {
-        ConversionAnswer::Refused(r) => TableConversion::Refused(r),
-        ConversionAnswer::Written(n) => TableConversion::On(
+        Err(r) => Err(r),
+        Ok(n) => Ok((
             Table {
                 basis: to,
                 span: span,
             },
             n,
-        ),
+        )),
     }
 }
 
 // The curve over another basis, into the lent buffer; the new table has the old one's span.
-pub fn table_convert_spline(t: Table, to: Basis, knots: &[f64], out: &mut [f64]) -> TableConversion
+pub fn table_convert_spline(
+    t: Table,
+    to: Basis,
+    knots: &[f64],
+    out: &mut [f64],
+) -> Result<(Table, usize), Refusal>
     ensures answer { result ≡ handed_of t.span to
         (answer_of (table_converted_of t to knots.now (length out.old))) }
     ensures buffer { out.new ≡ buffer_of (table_converted_of t to knots.now (length out.old))
@@ -125,7 +125,7 @@ pub fn table_convert_spline(t: Table, to: Basis, knots: &[f64], out: &mut [f64])
     if table_span::is_span(span) {
         return handed_on(span, to, convert::convert_spline(b, to, knots, out));
     }
-    TableConversion::Refused(table_span::without_span(b, knots.len()))
+    Err(table_span::without_span(b, knots.len()))
 }
 
 // The same, unless a seam loses more than the allowance.
@@ -135,7 +135,7 @@ pub fn table_convert_spline_strict(
     knots: &[f64],
     allowance: f64,
     out: &mut [f64],
-) -> TableConversion
+) -> Result<(Table, usize), Refusal>
     ensures answer { result ≡ handed_of t.span to
         (answer_of (table_strict_of t to knots.now allowance (length out.old))) }
     ensures buffer { out.new ≡ buffer_of (table_strict_of t to knots.now allowance (length out.old))
@@ -150,5 +150,5 @@ pub fn table_convert_spline_strict(
             convert_strict::convert_spline_strict(b, to, knots, allowance, out),
         );
     }
-    TableConversion::Refused(table_span::without_span(b, knots.len()))
+    Err(table_span::without_span(b, knots.len()))
 }

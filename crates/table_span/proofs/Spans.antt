@@ -1,4 +1,5 @@
 -- Which spans are good, and what is told without one: the length's refusal, or 14. Assumes nothing.
+use Rattle.std.specs.Prelude.{Ok, Err}
 use mathlib.Core.Path.{◌≡◌, refl, sym, ◌∙◌}
 use mathlib.Core.Bool.{Bool, true, false, not}
 use mathlib.Core.List.{[], ◌∷◌}
@@ -10,9 +11,7 @@ use Rattle.basis.specs.declared.Basis.{Basis}
 use Rattle.basis.specs.Basis.{regular}
 use Rattle.error.specs.declared.Refusal.{Refusal}
 use Rattle.error.specs.declared.Refusal.TheVariants.{TooFew, BadPattern, TooMany, BadSpan}
-use Rattle.error.specs.declared.Verdict.{Verdict}
-use Rattle.error.specs.declared.Verdict.TheVariants.{Passed, Failed}
-use Rattle.error.specs.Refusals.{first}
+use Rattle.error.specs.Refusals.{first, Verdict}
 use Rattle.error.proofs.First.{never}
 use Rattle.checks.specs.Checks.{curve_length}
 use Rattle.table_span.specs.Second.{day, good_span}
@@ -34,21 +33,21 @@ short_bad s h = rw (lt-leb 1 s (omega arith)) refl
 
 -- what `without_span` answers
 module _ (b : Basis) (n : ℕ) where
-  pub by_length : {v : Verdict} (r : Refusal) → v ≡ first (curve_length b n) → v ≡ Failed r → Failed r ≡ first ((BadSpan, true) ∷ curve_length b n)
+  pub by_length : {v : Verdict} (r : Refusal) → v ≡ first (curve_length b n) → v ≡ Err r → Err r ≡ first ((BadSpan, true) ∷ curve_length b n)
   by_length {v} r p q = go (ltb n 4) (regular b n) (ltb 4096 n) (sym q ∙ p)
     where
-      go : (few whole many : Bool) → Failed r ≡ first ((TooFew, few) ∷ (BadPattern, not whole) ∷ (TooMany, many) ∷ [])
-          → Failed r ≡ first ((BadSpan, true) ∷ (TooFew, few) ∷ (BadPattern, not whole) ∷ (TooMany, many) ∷ [])
+      go : (few whole many : Bool) → Err r ≡ first ((TooFew, few) ∷ (BadPattern, not whole) ∷ (TooMany, many) ∷ [])
+          → Err r ≡ first ((BadSpan, true) ∷ (TooFew, few) ∷ (BadPattern, not whole) ∷ (TooMany, many) ∷ [])
       go true whole many h = h
       go false false many h = h
       go false true true h = h
       go false true false h = never (cc)
 
-  pub by_span : {v : Verdict} → v ≡ first (curve_length b n) → v ≡ Passed → Failed BadSpan ≡ first ((BadSpan, true) ∷ curve_length b n)
+  pub by_span : {v : Verdict} → v ≡ first (curve_length b n) → v ≡ Ok tt → Err BadSpan ≡ first ((BadSpan, true) ∷ curve_length b n)
   by_span {v} p q = go (ltb n 4) (regular b n) (ltb 4096 n) (sym q ∙ p)
     where
-      go : (few whole many : Bool) → Passed ≡ first ((TooFew, few) ∷ (BadPattern, not whole) ∷ (TooMany, many) ∷ [])
-          → Failed BadSpan ≡ first ((BadSpan, true) ∷ (TooFew, few) ∷ (BadPattern, not whole) ∷ (TooMany, many) ∷ [])
+      go : (few whole many : Bool) → Ok tt ≡ first ((TooFew, few) ∷ (BadPattern, not whole) ∷ (TooMany, many) ∷ [])
+          → Err BadSpan ≡ first ((BadSpan, true) ∷ (TooFew, few) ∷ (BadPattern, not whole) ∷ (TooMany, many) ∷ [])
       go true whole many h = never (cc)
       go false false many h = never (cc)
       go false true true h = never (cc)

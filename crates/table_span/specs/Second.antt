@@ -1,12 +1,10 @@
 -- Spans, and the second of a place: the largest whole second not above parameter × span, the product rounded once. Definitions only.
-use Rattle.std.specs.Prelude.{Bool, not, cond, ◌&&◌, List, [], ◌∷◌, ℕ, leb, Float}
+use Rattle.std.specs.Prelude.{Bool, not, cond, ◌&&◌, List, [], ◌∷◌, ℕ, leb, Float, Some, None, Option}
 use Rattle.std.specs.Float.{binary64}
 use Rattle.std.specs.Float.Ieee.{mul}
 use Rattle.doubles.specs.Whole.{double, whole_up_to}
 use Rattle.error.specs.declared.Refusal.{Refusal}
 use Rattle.error.specs.declared.Refusal.TheVariants.{BadSpan}
-use Rattle.table_span.specs.declared.Seconds.{Seconds}
-use Rattle.table_span.specs.declared.Seconds.TheVariants.{At, Nothing}
 
 -- the longest span, in seconds
 abbrev pub day : ℕ
@@ -36,6 +34,6 @@ abbrev pub seconds_of : ℕ → Float → List ℕ
 seconds_of span x = cond (good_span span) (second_of span x ∷ []) []
 
 -- as the code holds them
-abbrev pub seconds_in : Seconds → List ℕ
-seconds_in Nothing = []
-seconds_in (At s) = s ∷ []
+abbrev pub seconds_in : Option ℕ → List ℕ
+seconds_in None = []
+seconds_in (Some s) = s ∷ []

@@ -3,8 +3,7 @@
 #![tactic(auto)]
 
 use basis::Basis;
-use convert::ConversionAnswer;
-use spline::Evaluation;
+use error::Refusal;
 
 // Prints a word.
 fn say(w: &[u8]) {
@@ -14,18 +13,19 @@ fn say(w: &[u8]) {
 // Prints a double's bits, on a line of its own.
 fn say_double(x: f64) {
     let mut line = [10u8; 17];
-    text::put_double(&mut line, 0, x);
+    let mut pen = text::Pen::new(&mut line, 0);
+    pen.double(x);
     io::write_all(1, &line);
 }
 
 // Prints what a conversion answered.
-fn say_answer(c: ConversionAnswer) {
+fn say_answer(c: Result<usize, Refusal>) {
     match c {
-        ConversionAnswer::Written(n) => {
+        Ok(n) => {
             say(b"written ");
             io::print_decimal(1, n as u64);
         }
-        ConversionAnswer::Refused(r) => {
+        Err(r) => {
             say(b"refused ");
             io::print_decimal(1, error::number(r) as u64);
         }
@@ -34,8 +34,8 @@ fn say_answer(c: ConversionAnswer) {
 }
 
 fn say_all(out: &[f64]) {
-    for i in 0..out.len() {
-        say_double(out[i]);
+    for x in out {
+        say_double(*x);
     }
 }
 
@@ -57,40 +57,6 @@ fn readings() {
     say_all(&nine);
 }
 
-// The bases by their numbers.
-fn basis_at(i: usize) -> Basis {
-    if i == 0 {
-        return Basis::Bspline;
-    }
-    if i == 1 {
-        return Basis::Bezier;
-    }
-    if i == 2 {
-        return Basis::CatmullRom;
-    }
-    if i == 3 {
-        return Basis::Hermite;
-    }
-    if i == 4 {
-        return Basis::Linear;
-    }
-    Basis::Power
-}
-
-// Whether a double is neither NaN nor infinite.
-fn is_finite(x: f64) -> bool {
-    x - x == 0.0
-}
-
-fn all_finite(out: &[f64]) -> bool {
-    for i in 0..out.len() {
-        if is_finite(out[i]) {} else {
-            return false;
-        }
-    }
-    true
-}
-
 // Sixteen knots suit every basis: 12 is a multiple of 1, 2, 3 and 4.
 fn pair(from: Basis, to: Basis) {
     let big = 1099511627776.0;
@@ -99,33 +65,39 @@ fn pair(from: Basis, to: Basis) {
     ];
     let mut out = [0.0; 52];
     say_answer(convert::convert_spline(from, to, &knots, &mut out));
-    if all_finite(&out) {
+    if out.iter().all(|x| x.is_finite()) {
         say(b"finite\n");
     } else {
         say(b"not finite\n");
     }
 }
 
-// One pair of bases, by their numbers.
-fn pair_at(i: usize, j: usize) {
+// One pair of bases, and the numbers that they are told by.
+fn pair_at(i: usize, from: Basis, j: usize, to: Basis) {
     say(b"pair ");
     io::print_decimal(1, i as u64);
     say(b" ");
     io::print_decimal(1, j as u64);
     say(b" ");
-    pair(basis_at(i), basis_at(j));
+    pair(from, to);
 }
 
-fn pairs_from(i: usize) {
-    for j in 0..6 {
-        pair_at(i, j);
-    }
-}
+// The six bases.
+const BASES: [Basis; 6] = [
+    Basis::Bspline,
+    Basis::Bezier,
+    Basis::CatmullRom,
+    Basis::Hermite,
+    Basis::Linear,
+    Basis::Power,
+];
 
 // Every pair of bases.
 fn pairs() {
-    for i in 0..6 {
-        pairs_from(i);
+    for (i, from) in BASES.iter().enumerate() {
+        for (j, to) in BASES.iter().enumerate() {
+            pair_at(i, *from, j, *to);
+        }
     }
 }
 
@@ -162,10 +134,10 @@ fn lengths() {
 }
 
 // Prints what an evaluation answered.
-fn say_value(e: Evaluation) {
+fn say_value(e: Result<f64, Refusal>) {
     match e {
-        Evaluation::Value(v) => say_double(v),
-        Evaluation::Refused(r) => {
+        Ok(v) => say_double(v),
+        Err(r) => {
             io::print_decimal(1, error::number(r) as u64);
         }
     }
@@ -189,24 +161,17 @@ fn same(a: f64, b: f64) -> bool {
     text::to_bits(a) == text::to_bits(b)
 }
 
-fn same_row(a: [f64; 4], b: [f64; 4]) -> bool {
-    same(a[0], b[0]) & same(a[1], b[1]) & same(a[2], b[2]) & same(a[3], b[3])
+fn same_row(a: &[f64; 4], b: &[f64; 4]) -> bool {
+    a.iter().zip(b).all(|(x, y)| same(*x, *y))
 }
 
-// The elimination is run, and what it gives is held to the constants, bit for bit.
-fn eliminated(i: usize) {
-    let e = convert_elimination::invert_4x4(basis::basis_macros::matrix(basis_at(i)));
-    let c = convert_matrix::inverse_of(basis_at(i));
-    let r0 = e.r0;
-    let r1 = e.r1;
-    let r2 = e.r2;
-    let r3 = e.r3;
-    if e.exists {
-        say(b"inverse");
-    } else {
-        say(b"none");
-    }
-    if same_row(r0, c[0]) & same_row(r1, c[1]) & same_row(r2, c[2]) & same_row(r3, c[3]) {
+// The elimination is run, and what it gives is held to the constants, bit for bit: to zeros where there is no inverse.
+fn eliminated(b: Basis) {
+    let e = convert_elimination::invert_4x4(basis::basis_macros::matrix(b));
+    let c = convert_matrix::inverse_of(b);
+    say(if e.is_some() { b"inverse" } else { b"none" });
+    let rows = e.unwrap_or([[0.0; 4]; 4]);
+    if rows.iter().zip(&c).all(|(x, y)| same_row(x, y)) {
         say(b", the same bits\n");
     } else {
         say(b", other bits\n");
@@ -216,12 +181,9 @@ fn eliminated(i: usize) {
 // Each inverse by elimination, beside its constants.
 fn inverses() {
     say(b"the six inverses by elimination, beside the constants\n");
-    eliminated(0);
-    eliminated(1);
-    eliminated(2);
-    eliminated(3);
-    eliminated(4);
-    eliminated(5);
+    for b in &BASES {
+        eliminated(*b);
+    }
 }
 
 fn main() {

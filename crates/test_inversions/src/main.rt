@@ -7,8 +7,7 @@ ghost use Rattle.std.specs.Prelude.{◌≡◌, ◌<◌, ◌≤◌, length};
 use basis::Basis;
 use inverse::Options;
 use inverse_order::EndsBy;
-use inverse_segment::{Ground, Inversion, Method, Place};
-use spline::Evaluation;
+use inverse_segment::{Ground, Method, Miss, Place};
 
 // What is asked of a curve of k segments, each `step` knots after the one before.
 #[derive(Clone, Copy)]
@@ -19,39 +18,46 @@ struct Question {
     o: Options,
 }
 
-// Places of the tally: the five grounds, refusal 11, the other refusals, what broke a promise; and the greatest count.
-fn note(tally: &mut [u32; 9], at: usize)
-    requires { at < 8 }
-{
-    tally[at] = std::num::wrapping_add_u32(tally[at], 1);
+// The answers of each kind: the five grounds, off the curve, the other refusals; what broke a promise; and the greatest count.
+#[derive(Clone, Copy)]
+struct Tally {
+    end: u32,
+    edge: u32,
+    value: u32,
+    width: u32,
+    spent: u32,
+    off_curve: u32,
+    refused: u32,
+    broken: u32,
+    most: u32,
+}
+
+// One more.
+fn note(n: &mut u32) {
+    *n = n.wrapping_add(1);
 }
 
 // Counts a promise that was broken.
-fn judge(tally: &mut [u32; 9], kept: bool) {
-    if kept {
-        return;
+fn judge(tally: &mut Tally, kept: bool) {
+    if !kept {
+        note(&mut tally.broken);
     }
-    note(tally, 7);
 }
 
 // Holds a count to its bound, and keeps the largest count.
-fn judge_count(tally: &mut [u32; 9], n: u32, bound: u32) {
+fn judge_count(tally: &mut Tally, n: u32, bound: u32) {
     judge(tally, n <= bound);
-    if tally[8] < n {
-        tally[8] = n;
-    }
+    tally.most = n.max(tally.most);
 }
 
-// The place of a ground in the tally.
-fn kind_of(g: Ground) -> usize
-    ensures { result < 5 }
-{
+// Counts a place by its ground.
+fn note_ground(tally: &mut Tally, g: Ground) {
     match g {
-        Ground::End => 0,
-        Ground::Edge => 1,
-        Ground::Value => 2,
-        Ground::Width => 3,
-        Ground::Spent => 4,
+        Ground::End => note(&mut tally.end),
+        Ground::Edge => note(&mut tally.edge),
+        Ground::Value => note(&mut tally.value),
+        Ground::Width => note(&mut tally.width),
+        Ground::Spent => note(&mut tally.spent),
     }
 }
 
@@ -63,7 +69,7 @@ fn again(b: Basis, step: usize, s: usize, x: f64, knots: &[f64]) -> f64 {
             let end = start + 4;
             if end <= knots.len() {
                 let v = spline::spline_segment(b, x, &knots[start..end]);
-                if let Evaluation::Value(r) = v {
+                if let Ok(r) = v {
                     return r;
                 }
             }
@@ -126,9 +132,9 @@ fn ground_kept(a: Question, y: f64, p: Place, v: f64) -> bool {
 }
 
 // A place: its parts lie in 0 to 1, the values at the bracket's ends enclose the target, and the ground holds.
-fn judge_place(a: Question, y: f64, p: Place, bound: u32, knots: &[f64], tally: &mut [u32; 9]) {
+fn judge_place(a: Question, y: f64, p: Place, bound: u32, knots: &[f64], tally: &mut Tally) {
     let ground = p.ground;
-    note(tally, kind_of(ground));
+    note_ground(tally, ground);
     judge_count(tally, p.count, bound);
     judge(tally, places_kept(p));
     let b = a.b;
@@ -146,31 +152,31 @@ fn judge_place(a: Question, y: f64, p: Place, bound: u32, knots: &[f64], tally: 
 fn judge_answer(
     a: Question,
     y: f64,
-    r: Inversion,
+    r: Result<Place, Miss>,
     bound: u32,
     knots: &[f64],
-    tally: &mut [u32; 9],
+    tally: &mut Tally,
 ) {
     match r {
-        Inversion::Refused(n) => {
-            note(tally, 6);
+        Err(Miss::Refused(n)) => {
+            note(&mut tally.refused);
         }
-        Inversion::OffCurve(n) => {
-            note(tally, 5);
+        Err(Miss::OffCurve(n)) => {
+            note(&mut tally.off_curve);
             if n < 1000000 {
                 judge_count(tally, n as u32, bound);
             } else {
                 judge(tally, false);
             }
         }
-        Inversion::At(p) => {
+        Ok(p) => {
             judge_place(a, y, p, bound, knots, tally);
         }
     }
 }
 
 // The whole curve, and its first segment alone.
-fn ask(a: Question, y: f64, knots: &[f64], tally: &mut [u32; 9]) {
+fn ask(a: Question, y: f64, knots: &[f64], tally: &mut Tally) {
     let b = a.b;
     let o = a.o;
     let ends = o.ends;
@@ -196,36 +202,36 @@ fn ask(a: Question, y: f64, knots: &[f64], tally: &mut [u32; 9]) {
 }
 
 // Thirteen targets: infinite, at the ends, outside, and between them.
-fn target(j: u32, low: f64, high: f64) -> f64 {
-    match j {
-        0 => -1.0 / 0.0,
-        1 => 1.0 / 0.0,
-        2 => low,
-        3 => high,
-        4 => low - 0.5,
-        5 => high + 0.5,
-        6 => low + (high - low) * 0.001,
-        7 => low + (high - low) * 0.1,
-        8 => low + (high - low) * 0.25,
-        9 => low + (high - low) * 0.37,
-        10 => low + (high - low) * 0.5,
-        11 => low + (high - low) * 0.77,
-        _ => low + (high - low) * 0.9999,
-    }
+fn targets(low: f64, high: f64) -> [f64; 13] {
+    [
+        -1.0 / 0.0,
+        1.0 / 0.0,
+        low,
+        high,
+        low - 0.5,
+        high + 0.5,
+        low + (high - low) * 0.001,
+        low + (high - low) * 0.1,
+        low + (high - low) * 0.25,
+        low + (high - low) * 0.37,
+        low + (high - low) * 0.5,
+        low + (high - low) * 0.77,
+        low + (high - low) * 0.9999,
+    ]
 }
 
-fn over_targets(a: Question, knots: &[f64], tally: &mut [u32; 9])
+fn over_targets(a: Question, knots: &[f64], tally: &mut Tally)
     requires { 4 ≤ length knots.now }
 {
     let low = knots[1];
     let high = knots[knots.len() - 2];
-    for j in 0..13 {
-        ask(a, target(j, low, high), knots, tally);
+    for y in &targets(low, high) {
+        ask(a, *y, knots, tally);
     }
 }
 
 // By one rule of the ends and one method: with and without the order check, and few rounds.
-fn over_usual(a: Question, ends: EndsBy, method: Method, knots: &[f64], tally: &mut [u32; 9])
+fn over_usual(a: Question, ends: EndsBy, method: Method, knots: &[f64], tally: &mut Tally)
     requires { 4 ≤ length knots.now }
 {
     over_targets(with(a, false, 32, 1e-10, ends, method), knots, tally);
@@ -234,7 +240,7 @@ fn over_usual(a: Question, ends: EndsBy, method: Method, knots: &[f64], tally: &
 }
 
 // Many rounds, with precisions that few values reach.
-fn over_long(a: Question, ends: EndsBy, method: Method, knots: &[f64], tally: &mut [u32; 9])
+fn over_long(a: Question, ends: EndsBy, method: Method, knots: &[f64], tally: &mut Tally)
     requires { 4 ≤ length knots.now }
 {
     over_targets(with(a, false, 200, 1e-16, ends, method), knots, tally);
@@ -242,7 +248,7 @@ fn over_long(a: Question, ends: EndsBy, method: Method, knots: &[f64], tally: &m
 }
 
 // The usual options, and long ones.
-fn over_settings(a: Question, ends: EndsBy, method: Method, knots: &[f64], tally: &mut [u32; 9])
+fn over_settings(a: Question, ends: EndsBy, method: Method, knots: &[f64], tally: &mut Tally)
     requires { 4 ≤ length knots.now }
 {
     over_usual(a, ends, method, knots, tally);
@@ -274,7 +280,7 @@ fn with(
 }
 
 // Every method.
-fn over_methods(a: Question, ends: EndsBy, knots: &[f64], tally: &mut [u32; 9])
+fn over_methods(a: Question, ends: EndsBy, knots: &[f64], tally: &mut Tally)
     requires { 4 ≤ length knots.now }
 {
     over_settings(a, ends, Method::AsCrate, knots, tally);
@@ -283,7 +289,7 @@ fn over_methods(a: Question, ends: EndsBy, knots: &[f64], tally: &mut [u32; 9])
 }
 
 // Every rule of the ends.
-fn over_modes(b: Basis, step: usize, k: usize, knots: &[f64], tally: &mut [u32; 9])
+fn over_modes(b: Basis, step: usize, k: usize, knots: &[f64], tally: &mut Tally)
     requires { 4 ≤ length knots.now }
 {
     let a = Question {
@@ -302,29 +308,41 @@ fn over_modes(b: Basis, step: usize, k: usize, knots: &[f64], tally: &mut [u32; 
     over_methods(a, EndsBy::Curve, knots, tally);
 }
 
-// Rising, falling, flat, uneven, unordered.
-fn knot_at(kind: u32, i: u16) -> f64 {
+// How the knots of a table lie.
+#[derive(Clone, Copy)]
+enum Shape {
+    Rising,
+    Falling,
+    Flat,
+    Uneven,
+    Unordered,
+}
+
+const SHAPES: [Shape; 5] = [
+    Shape::Rising,
+    Shape::Falling,
+    Shape::Flat,
+    Shape::Uneven,
+    Shape::Unordered,
+];
+
+fn knot_at(shape: Shape, i: u16) -> f64 {
     let x = i as f64;
     let part = i % 7;
     let scattered = part as f64;
-    match kind {
-        0 => x * 0.5,
-        1 => 100.0 - x,
-        2 => 3.0,
-        3 => x + scattered * 0.125,
-        _ => scattered * 4.0 - x * 0.25,
+    match shape {
+        Shape::Rising => x * 0.5,
+        Shape::Falling => 100.0 - x,
+        Shape::Flat => 3.0,
+        Shape::Uneven => x + scattered * 0.125,
+        Shape::Unordered => scattered * 4.0 - x * 0.25,
     }
 }
 
-// Fills the table with knots of a kind.
-fn fill(kind: u32, knots: &mut [f64])
-    requires { 4096 ≤ length knots.old }
-    ensures { length knots.new ≡ length knots.old }
-{
-    let mut i: usize = 0;
-    while i < 4096 {
-        knots[i] = knot_at(kind, i as u16);
-        i += 1;
+// Fills the table with knots of a shape.
+fn fill(shape: Shape, knots: &mut [f64; 4096]) {
+    for (i, x) in knots.iter_mut().enumerate() {
+        *x = knot_at(shape, i as u16);
     }
 }
 
@@ -341,7 +359,7 @@ fn longest(b: Basis) -> usize {
 }
 
 // Curves of 1, 12, 13 and 100 segments, and the longest.
-fn over_sizes(b: Basis, knots: &[f64], tally: &mut [u32; 9])
+fn over_sizes(b: Basis, knots: &[f64], tally: &mut Tally)
     requires { 4096 ≤ length knots.now }
 {
     let step = basis::step(b);
@@ -355,7 +373,7 @@ fn over_sizes(b: Basis, knots: &[f64], tally: &mut [u32; 9])
     over_modes(b, step, longest(b), &knots[0..4096], tally);
 }
 
-fn over_bases(knots: &[f64], tally: &mut [u32; 9])
+fn over_bases(knots: &[f64], tally: &mut Tally)
     requires { 4096 ≤ length knots.now }
 {
     over_sizes(Basis::Bspline, knots, tally);
@@ -373,29 +391,35 @@ fn line(name: &[u8], n: u32) {
     io::write_all(1, b"\n");
 }
 
-// Every kind of knots.
-fn over_kinds(knots: &mut [f64], tally: &mut [u32; 9])
-    requires { 4096 ≤ length knots.old }
-{
-    let mut kind: u32 = 0;
-    while kind < 5 {
-        fill(kind, knots);
-        over_bases(knots, tally);
-        kind += 1;
+// Knots of every shape.
+fn over_shapes(knots: &mut [f64; 4096], tally: &mut Tally) {
+    for shape in &SHAPES {
+        fill(*shape, knots);
+        over_bases(&knots[..], tally);
     }
 }
 
 fn main() {
     let mut knots = [0.0; 4096];
-    let mut tally = [0u32; 9];
-    over_kinds(&mut knots, &mut tally);
-    line(b"end ", tally[0]);
-    line(b"edge ", tally[1]);
-    line(b"value ", tally[2]);
-    line(b"width ", tally[3]);
-    line(b"spent ", tally[4]);
-    line(b"off the curve ", tally[5]);
-    line(b"refused ", tally[6]);
-    line(b"most evaluations ", tally[8]);
-    line(b"broken promises ", tally[7]);
+    let mut tally = Tally {
+        end: 0,
+        edge: 0,
+        value: 0,
+        width: 0,
+        spent: 0,
+        off_curve: 0,
+        refused: 0,
+        broken: 0,
+        most: 0,
+    };
+    over_shapes(&mut knots, &mut tally);
+    line(b"end ", tally.end);
+    line(b"edge ", tally.edge);
+    line(b"value ", tally.value);
+    line(b"width ", tally.width);
+    line(b"spent ", tally.spent);
+    line(b"off the curve ", tally.off_curve);
+    line(b"refused ", tally.refused);
+    line(b"most evaluations ", tally.most);
+    line(b"broken promises ", tally.broken);
 }

@@ -1,23 +1,19 @@
 -- The readings: one table of what is asked and what is told. proofs/Readings.antt has the one statement that the definitions give it.
 -- Definitions only.
-use Rattle.std.specs.Prelude.{◌≡◌, Bool, true, false, List, [], ◌∷◌, ◌++◌, map, reverse, ℕ, zero, suc, ◌*◌, pos, Float}
+use Rattle.inverse_segment.specs.Inversion.{Inversion}
+use Rattle.inverse_segment.specs.declared.Miss.TheVariants.{Refused, OffCurve}
+use Rattle.std.specs.Prelude.{◌≡◌, Bool, true, false, List, [], ◌∷◌, ◌++◌, map, reverse, ℕ, zero, suc, ◌*◌, pos, Float, Ok, Err}
 use Rattle.std.specs.Float.{binary64}
 use Rattle.std.specs.Float.Ieee.{of_bits, of_int, round}
-use Rattle.error.specs.declared.Verdict.{Verdict}
-use Rattle.error.specs.declared.Verdict.TheVariants.{Passed, Failed}
 use Rattle.error.specs.declared.Refusal.{Refusal}
-use Rattle.error.specs.Refusals.{number_of, places_of, first}
+use Rattle.error.specs.Refusals.{number_of, places_of, first, Verdict}
 use Rattle.basis.specs.declared.Basis.{Basis}
 use Rattle.basis.specs.declared.Basis.TheVariants.{Bspline, Bezier, CatmullRom, Hermite, Linear, Power}
 use Rattle.doubles.specs.Numbers.{nought, one, half}
-use Rattle.spline.specs.declared.Evaluation.{Evaluation}
-use Rattle.spline.specs.declared.Evaluation.TheVariants as E
 use Rattle.checks.specs.Checks.{curve_length}
-use Rattle.spline.specs.Evaluation.{spline_of}
+use Rattle.spline.specs.Evaluation.{spline_of, Evaluation}
 use Rattle.inverse_segment.specs.declared.Ground.{Ground}
 use Rattle.inverse_segment.specs.declared.Ground.TheVariants.{End, Edge, Value, Spent}
-use Rattle.inverse_segment.specs.declared.Inversion.{Inversion}
-use Rattle.inverse_segment.specs.declared.Inversion.TheVariants as I
 use Rattle.inverse_segment.specs.Answer.{inverse_segment_by, default_limit, default_precision}
 use Rattle.inverse.specs.Inverse.{inverse_by, inverse_of, inverse_evaluations}
 use Rattle.inverse_order.specs.declared.EndsBy.TheVariants.{Curve}
@@ -49,26 +45,26 @@ abbrev pub of_refusal : Refusal → ReadingAnswer
 of_refusal r = told (number_of r) (places_of r)
 
 abbrev pub of_evaluation : Evaluation → ReadingAnswer
-of_evaluation (E.Value x) = value x
-of_evaluation (E.Refused r) = of_refusal r
+of_evaluation (Ok x) = value x
+of_evaluation (Err r) = of_refusal r
 
 abbrev pub of_inversion : Inversion → ReadingAnswer
-of_inversion (I.Refused r) = of_refusal r
-of_inversion (I.OffCurve n) = off n
-of_inversion (I.At p) = place p.parameter p.ground p.count
+of_inversion (Err (Refused r)) = of_refusal r
+of_inversion (Err (OffCurve n)) = off n
+of_inversion (Ok p) = place p.parameter p.ground p.count
 
 abbrev pub of_bracket : Inversion → ReadingAnswer
-of_bracket (I.Refused r) = of_refusal r
-of_bracket (I.OffCurve n) = off n
-of_bracket (I.At p) = bracket p.lower p.upper p.ground p.count
+of_bracket (Err (Refused r)) = of_refusal r
+of_bracket (Err (OffCurve n)) = off n
+of_bracket (Ok p) = bracket p.lower p.upper p.ground p.count
 
 abbrev pub of_conversion : Conversion → ReadingAnswer
 of_conversion (gives l) = knots l
 of_conversion (refuses r) = of_refusal r
 
 abbrev pub of_verdict : Verdict → ReadingAnswer
-of_verdict Passed = accepted
-of_verdict (Failed r) = of_refusal r
+of_verdict (Ok _) = accepted
+of_verdict (Err r) = of_refusal r
 
 -- ---- a reading: what is asked, and what is told
 pub data Question : Type 0 where

@@ -2,12 +2,10 @@
 #![tactic(auto)]
 
 use basis::Basis;
-use convert::ConversionAnswer;
 use error::Refusal;
 use inverse::Options;
 use inverse_order::EndsBy;
-use inverse_segment::{Ground, Inversion, Method};
-use spline::Evaluation;
+use inverse_segment::{Ground, Method, Miss, Place};
 
 // Prints a word.
 fn say(w: &[u8]) {
@@ -17,13 +15,14 @@ fn say(w: &[u8]) {
 // Prints a double's bits, behind a blank.
 fn say_double(x: f64) {
     let mut word = [b' '; 17];
-    text::put_double(&mut word, 1, x);
+    let mut pen = text::Pen::new(&mut word, 1);
+    pen.double(x);
     io::write_all(1, &word);
 }
 
 fn say_all(out: &[f64]) {
-    for i in 0..out.len() {
-        say_double(out[i]);
+    for x in out {
+        say_double(*x);
     }
 }
 
@@ -44,12 +43,12 @@ fn say_refused(r: Refusal) {
 fn value(b: Basis, knots: &[f64], x: f64) {
     let e = spline::spline(b, x, knots);
     match e {
-        Evaluation::Value(v) => {
+        Ok(v) => {
             say(b"value");
             say_double(v);
             say(b"\n");
         }
-        Evaluation::Refused(r) => say_refused(r),
+        Err(r) => say_refused(r),
     }
 }
 
@@ -65,9 +64,9 @@ fn say_ground(g: Ground) {
 }
 
 // Prints what an inversion answered.
-fn say_place(a: Inversion) {
+fn say_place(a: Result<Place, Miss>) {
     match a {
-        Inversion::At(p) => {
+        Ok(p) => {
             say(b"place");
             say_double(p.parameter);
             let g = p.ground;
@@ -75,12 +74,12 @@ fn say_place(a: Inversion) {
             io::print_decimal(1, p.count as u64);
             say(b"\n");
         }
-        Inversion::OffCurve(n) => {
+        Err(Miss::OffCurve(n)) => {
             say(b"refused 11 after ");
             io::print_decimal(1, n as u64);
             say(b"\n");
         }
-        Inversion::Refused(r) => say_refused(r),
+        Err(Miss::Refused(r)) => say_refused(r),
     }
 }
 
@@ -104,7 +103,7 @@ fn own_place(b: Basis, knots: &[f64], y: f64) {
 // The bracket that four rounds leave.
 fn bracket(b: Basis, cv: &[f64], y: f64, how: Method) {
     let a = inverse_segment::spline_inverse_segment_by(b, y, cv, 4, 1e-10, how);
-    let Inversion::At(p) = a else {
+    let Ok(p) = a else {
         return;
     };
     say(b"bracket");
@@ -120,13 +119,13 @@ fn bracket(b: Basis, cv: &[f64], y: f64, how: Method) {
 fn converted(from: Basis, to: Basis, knots: &[f64], out: &mut [f64]) {
     let c = convert::convert_spline(from, to, knots, &mut *out);
     match c {
-        ConversionAnswer::Written(n) => {
+        Ok(n) => {
             say(b"written ");
             io::print_decimal(1, n as u64);
             say_all(&out[..]);
             say(b"\n");
         }
-        ConversionAnswer::Refused(r) => say_refused(r),
+        Err(r) => say_refused(r),
     }
 }
 

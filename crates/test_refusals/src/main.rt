@@ -4,7 +4,7 @@
 ghost use Rattle.std.specs.Prelude.{◌+◌, ◌≤◌, ◌<◌, length};
 
 use basis::Basis;
-use spline::Evaluation;
+use error::Refusal;
 
 fn put(s: &[u8]) {
     io::write_all(1, s);
@@ -21,10 +21,10 @@ fn put_name(b: Basis) {
     }
 }
 
-fn put_reply(e: Evaluation) {
+fn put_reply(e: Result<f64, Refusal>) {
     match e {
-        Evaluation::Value(_) => put(b"taken\n"),
-        Evaluation::Refused(r) => {
+        Ok(_) => put(b"taken\n"),
+        Err(r) => {
             put(b"refused ");
             io::print_decimal(1, error::number(r) as u64);
             put(b"\n");
@@ -33,41 +33,37 @@ fn put_reply(e: Evaluation) {
 }
 
 // The value's bits, or the refusal.
-fn put_value(e: Evaluation) {
+fn put_value(e: Result<f64, Refusal>) {
     match e {
-        Evaluation::Value(x) => {
+        Ok(x) => {
             put(b"value ");
             io::print_hex(1, text::to_bits(x), 16);
             put(b"\n");
         }
-        Evaluation::Refused(_) => put_reply(e),
+        Err(_) => put_reply(e),
     }
 }
 
 fn curve_lengths(b: Basis, from: usize, end: usize, knots: &[f64])
     requires { end ≤ length knots.now + 1 }
 {
-    let mut n = from;
-    while n < end {
+    for n in from..end {
         put_name(b);
         io::print_decimal(1, n as u64);
         put(b" ");
         put_reply(spline::spline(b, 0.5, &knots[0..n]));
-        n += 1;
     }
 }
 
 fn segment_lengths(b: Basis, end: usize, knots: &[f64])
     requires { end ≤ length knots.now + 1 }
 {
-    let mut n = 0;
-    while n < end {
+    for n in 0..end {
         put_name(b);
         put(b"segment ");
         io::print_decimal(1, n as u64);
         put(b" ");
         put_reply(spline::spline_segment(b, 0.5, &knots[0..n]));
-        n += 1;
     }
 }
 

@@ -2,7 +2,7 @@
 // README.md beside this folder says what a line holds and how the list was made.
 #![tactic(auto)]
 
-ghost use Rattle.std.specs.Prelude.{◌+◌, ◌<◌, ◌≤◌};
+ghost use Rattle.std.specs.Prelude.{◌<◌, IfSome};
 
 use simmerstoat::claims::simmerstoat_check_claim;
 use simmerstoat::hours::simmerstoat_depth_at;
@@ -41,33 +41,28 @@ struct Tally {
     pub knots: usize,
 }
 
-// The value of an uppercase hexadecimal digit; 16 for any other byte.
-fn digit(b: u8) -> u64 {
+// The value of an uppercase hexadecimal digit.
+fn digit(b: u8) -> Option<u64>
+    ensures { IfSome result (λ d. d < 16) }
+{
     match b {
-        48..=57 => (b - 48) as u64,
-        65..=70 => (b - 55) as u64,
-        _ => 16,
+        b'0'..=b'9' => Some((b - b'0') as u64),
+        b'A'..=b'F' => Some((b - b'A') as u64 + 10),
+        _ => None,
     }
 }
 
 // A number as a byte; 255 if it is larger.
 fn byte(n: u64) -> u8 {
-    if n < 256 { n as u8 } else { 255 }
+    u8::try_from(n).unwrap_or(255)
 }
 
 fn short(n: u64) -> u16 {
-    if n < 65536 { n as u16 } else { 0 }
+    u16::try_from(n).unwrap_or(0)
 }
 
 fn seconds(n: u64) -> u32 {
-    if n < 4294967296 { n as u32 } else { 0 }
-}
-
-// The number, but at most 64.
-fn up_to_64(n: u64) -> usize
-    ensures { result ≤ 64 }
-{
-    if n < 64 { n as usize } else { 64 }
+    u32::try_from(n).unwrap_or(0)
 }
 
 // The reply is the one stored: 0, or the refusal's number with its place.
@@ -245,15 +240,12 @@ fn depth_equal(q: Question, knots: &[f64], w: [u64; 64]) -> bool {
 
 // The first n doubles are those of the words.
 fn same(n: usize, out: &[f64], w: &[u64]) -> bool {
-    let mut good = n <= w.len();
-    for i in 0..out.len() {
-        if i < n {
-            if i < w.len() {
-                good = good & (text::to_bits(out[i]) == w[i]);
-            }
-        }
-    }
-    good
+    n <= w.len()
+        && out
+            .iter()
+            .zip(w)
+            .take(n)
+            .all(|(x, bits)| text::to_bits(*x) == *bits)
 }
 
 // What a conversion left, with the reply, the length and what is written as stored.
@@ -339,16 +331,10 @@ fn is_equal(letter: u8, w: [u64; 64], knots: &[f64]) -> bool {
     }
 }
 
-fn put(x: f64, table: &mut [f64], i: usize) {
-    if i < table.len() {
-        table[i] = x;
-    }
-}
-
 // k: the words are the knots from now on; the number of them.
 fn stored(w: &[u64], table: &mut [f64]) -> usize {
-    for i in 0..w.len() {
-        put(text::of_bits(w[i]), table, i);
+    for (x, bits) in table.iter_mut().zip(w) {
+        *x = text::of_bits(*bits);
     }
     w.len()
 }
@@ -356,39 +342,29 @@ fn stored(w: &[u64], table: &mut [f64]) -> usize {
 // What a whole line does: it sets knots, or asks and compares.
 fn ended(line: Line, w: [u64; 64], table: &mut [f64], t: Tally) -> Tally {
     if line.letter == b'k' {
-        let words = up_to_64(line.words as u64);
+        let words = line.words.min(64);
         return Tally {
-            compared: t.compared,
-            equal: t.equal,
             knots: stored(&w[0..words], table),
+            ..t
         };
     }
     // z: so many knots from now on
     if line.letter == b'z' {
         return Tally {
-            compared: t.compared,
-            equal: t.equal,
             knots: w[0] as usize,
+            ..t
         };
     }
     let knots = t.knots;
     if knots <= table.len() {
         let good = is_equal(line.letter, w, &table[0..knots]);
         return Tally {
-            compared: count(t.compared, true),
-            equal: count(t.equal, good),
-            knots: knots,
+            compared: t.compared.wrapping_add(1),
+            equal: t.equal.wrapping_add(u64::from(good)),
+            knots,
         };
     }
     t
-}
-
-fn count(n: u64, one: bool) -> u64 {
-    if one {
-        std::num::wrapping_add_u64(n, 1)
-    } else {
-        n
-    }
 }
 
 fn started() -> Line {
@@ -407,10 +383,10 @@ fn pushed(line: Line, w: &mut [u64; 64]) -> Line {
         if n < 64 {
             w[n] = line.word;
             return Line {
-                letter: line.letter,
                 words: n + 1,
                 word: 0,
                 inside: false,
+                ..line
             };
         }
     }
@@ -419,24 +395,17 @@ fn pushed(line: Line, w: &mut [u64; 64]) -> Line {
 
 // A byte of a line: a digit, the end of a word, or the letter.
 fn step(line: Line, b: u8, w: &mut [u64; 64]) -> Line {
-    let d = digit(b);
-    if d < 16 {
+    if let Some(d) = digit(b) {
         return Line {
-            letter: line.letter,
-            words: line.words,
             word: line.word % 1152921504606846976 * 16 + d,
             inside: true,
+            ..line
         };
     }
     if b == b' ' {
         return pushed(line, w);
     }
-    Line {
-        letter: b,
-        words: line.words,
-        word: line.word,
-        inside: line.inside,
-    }
+    Line { letter: b, ..line }
 }
 
 // Both, from byte to byte.
@@ -448,28 +417,23 @@ struct Run {
 
 // A byte of the input.
 fn fed(r: Run, b: u8, w: &mut [u64; 64], table: &mut [f64]) -> Run {
-    let line = r.line;
-    let tally = r.tally;
     if b == b'\n' {
-        let whole = pushed(line, w);
-        let next = ended(whole, *w, table, tally);
+        let whole = pushed(r.line, w);
         return Run {
             line: started(),
-            tally: next,
+            tally: ended(whole, *w, table, r.tally),
         };
     }
-    let further = step(line, b, w);
     Run {
-        line: further,
-        tally: tally,
+        line: step(r.line, b, w),
+        ..r
     }
 }
 
 fn feed(begun: Run, chunk: &[u8], w: &mut [u64; 64], table: &mut [f64]) -> Run {
     let mut r = begun;
-    for i in 0..chunk.len() {
-        let next = fed(r, chunk[i], w, table);
-        r = next;
+    for b in chunk {
+        r = fed(r, *b, w, table);
     }
     r
 }
@@ -489,13 +453,10 @@ fn replayed(chunk: &mut [u8], w: &mut [u64; 64], table: &mut [f64]) -> Tally {
             knots: 0,
         },
     };
-    let most: usize = 32;
-    for i in 0..most {
-        let next = replay_chunk(r, chunk, w, table);
-        r = next;
+    for _ in 0..32 {
+        r = replay_chunk(r, chunk, w, table);
     }
-    let tally = r.tally;
-    tally
+    r.tally
 }
 
 fn main() {

@@ -1,5 +1,6 @@
 -- A valve's sum is the textbook B-spline of its four knots, in their order, times 6 × 256³: the weights meet four equations, which one computed test
 -- sees at every step, and the rest is arithmetic on differences of numbers that are not negative. Assumes nothing.
+use Rattle.std.specs.Prelude.{Ok, Err}
 use mathlib.Core.Path.{◌≡◌, refl, sym, ap, subst, ◌∙◌}
 use mathlib.Core.Logic.{inl, inr}
 use mathlib.Core.Bool.{Bool, ◌&&◌}
@@ -13,10 +14,7 @@ use lib.Ieee.Fits.{and_l, and_r}
 use Rattle.basis.specs.declared.Basis.TheVariants.{Bspline}
 use Rattle.basis.specs.Basis.{whole_of}
 use Rattle.spline_exact.specs.Cubic.{whole_sum, cubic}
-use Rattle.error.specs.declared.Verdict.{Verdict}
-use Rattle.error.specs.declared.Verdict.TheVariants.{Passed, Failed}
-use Rattle.error.specs.Refusals.{first}
-use Rattle.valve.specs.declared.Mixture.TheVariants.{Mixed}
+use Rattle.error.specs.Refusals.{first, Verdict}
 use Rattle.valve.specs.Mix.{weight_of, knot_of, mix_of, mix_uses, mixture, mixture_of}
 use Rattle.error.proofs.First.{never, clear}
 use borrow.Author.Tests.{ltb-false}
@@ -173,12 +171,12 @@ mix_textbook ks j h =
     mixed (knot_of ks 0) (knot_of ks 1) (knot_of ks 2) (knot_of ks 3) (256 * 256 * 256) (256 * 256 * j) (256 * j * j) (j * j * j)
     (weight_of j 0) (weight_of j 1) (weight_of j 2) (weight_of j 3) (of_step j h)
 
-told : (v : Verdict) {z s : ℤ} → mixture v z ≡ Mixed s → (v ≡ Passed) × (z ≡ s)
-told Passed e = (refl, cc)
-told (Failed r) e = never (cc)
+told : (v : Verdict) {z s : ℤ} → mixture v z ≡ Ok s → (v ≡ Ok tt) × (z ≡ s)
+told (Ok _) e = (refl, cc)
+told (Err r) e = never (cc)
 
 -- the call: where it answers a sum, that is the B-spline of the four knots in their order at step/256, times 6 × 256³
-pub mix_is_bspline : Keeps mix.Learnt (λ κs a z e. (s : ℤ) → z ≡ Mixed s
+pub mix_is_bspline : Keeps mix.Learnt (λ κs a z e. (s : ℤ) → z ≡ Ok s
     → s ≡ cubic (whole_of Bspline) (knot_of a.1.0.now 0 ∷ knot_of a.1.0.now 1 ∷ knot_of a.1.0.now 2 ∷ knot_of a.1.0.now 3 ∷ []) a.0)
 unfolding mixture_of
 mix_is_bspline κs a z e p s q =

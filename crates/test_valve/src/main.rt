@@ -2,7 +2,6 @@
 #![tactic(auto)]
 
 use error::Refusal;
-use valve::Mixture;
 
 fn say(w: &[u8]) {
     io::write_all(1, w);
@@ -23,8 +22,8 @@ fn say_refused(r: Refusal) {
 fn answer(step: u16, knots: &[i64], sum: i64) {
     let m = valve::mix(step, knots);
     match m {
-        Mixture::Refused(r) => say_refused(r),
-        Mixture::Mixed(z) => {
+        Err(r) => say_refused(r),
+        Ok(z) => {
             if z == sum {
                 say(b"the sum\n");
             } else {

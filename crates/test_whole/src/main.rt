@@ -2,7 +2,7 @@
 // README.md beside this folder says what a line holds and how the list was made.
 #![tactic(auto)]
 
-ghost use Rattle.std.specs.Prelude.{◌≤◌};
+ghost use Rattle.std.specs.Prelude.{◌<◌, IfSome};
 
 use simmerstoat_whole::{simmerstoat_monotone, simmerstoat_turns_back, simmerstoat_turns_back_by};
 
@@ -23,25 +23,20 @@ struct Tally {
     pub numbers: usize,
 }
 
-// The value of an uppercase hexadecimal digit; 16 for any other byte.
-fn digit(b: u8) -> u64 {
+// The value of an uppercase hexadecimal digit.
+fn digit(b: u8) -> Option<u64>
+    ensures { IfSome result (λ d. d < 16) }
+{
     match b {
-        48..=57 => (b - 48) as u64,
-        65..=70 => (b - 55) as u64,
-        _ => 16,
+        b'0'..=b'9' => Some((b - b'0') as u64),
+        b'A'..=b'F' => Some((b - b'A') as u64 + 10),
+        _ => None,
     }
 }
 
 // A number as a byte; 255 if it is larger.
 fn byte(n: u64) -> u8 {
-    if n < 256 { n as u8 } else { 255 }
-}
-
-// The number, but at most 64.
-fn up_to_64(n: u64) -> usize
-    ensures { result ≤ 64 }
-{
-    if n < 64 { n as usize } else { 64 }
+    u8::try_from(n).unwrap_or(255)
 }
 
 // A signed number: the half of an even one, and of an odd one its bits turned, which is as far below −1.
@@ -70,19 +65,12 @@ fn is_right(i: usize, n: usize, x: i64, w: &[u64]) -> bool {
     if n <= i {
         return x == 7;
     }
-    if i < w.len() {
-        return x == signed(w[i]);
-    }
-    false
+    w.get(i).is_some_and(|v| x == signed(*v))
 }
 
 // Whether the output is as stored, place by place.
 fn same(n: usize, out: &[i64], w: &[u64]) -> bool {
-    let mut good = true;
-    for i in 0..out.len() {
-        good = good & is_right(i, n, out[i], w);
-    }
-    good
+    out.iter().enumerate().all(|(i, x)| is_right(i, n, *x, w))
 }
 
 fn output_equal(
@@ -113,16 +101,10 @@ fn is_equal(letter: u8, w: [u64; 64], numbers: &[i64]) -> bool {
     }
 }
 
-fn put(x: i64, table: &mut [i64], i: usize) {
-    if i < table.len() {
-        table[i] = x;
-    }
-}
-
 // k: the words are the numbers from now on; how many there are.
 fn stored(w: &[u64], table: &mut [i64]) -> usize {
-    for i in 0..w.len() {
-        put(signed(w[i]), table, i);
+    for (x, word) in table.iter_mut().zip(w) {
+        *x = signed(*word);
     }
     w.len()
 }
@@ -130,39 +112,29 @@ fn stored(w: &[u64], table: &mut [i64]) -> usize {
 // What a whole line does: it sets numbers, or asks and compares.
 fn ended(line: Line, w: [u64; 64], table: &mut [i64], t: Tally) -> Tally {
     if line.letter == b'k' {
-        let words = up_to_64(line.words as u64);
+        let words = line.words.min(64);
         return Tally {
-            compared: t.compared,
-            equal: t.equal,
             numbers: stored(&w[0..words], table),
+            ..t
         };
     }
     // z: so many numbers from now on
     if line.letter == b'z' {
         return Tally {
-            compared: t.compared,
-            equal: t.equal,
             numbers: w[0] as usize,
+            ..t
         };
     }
     let numbers = t.numbers;
     if numbers <= table.len() {
         let good = is_equal(line.letter, w, &table[0..numbers]);
         return Tally {
-            compared: count(t.compared, true),
-            equal: count(t.equal, good),
-            numbers: numbers,
+            compared: t.compared.wrapping_add(1),
+            equal: t.equal.wrapping_add(u64::from(good)),
+            numbers,
         };
     }
     t
-}
-
-fn count(n: u64, one: bool) -> u64 {
-    if one {
-        std::num::wrapping_add_u64(n, 1)
-    } else {
-        n
-    }
 }
 
 fn started() -> Line {
@@ -181,10 +153,10 @@ fn pushed(line: Line, w: &mut [u64; 64]) -> Line {
         if n < 64 {
             w[n] = line.word;
             return Line {
-                letter: line.letter,
                 words: n + 1,
                 word: 0,
                 inside: false,
+                ..line
             };
         }
     }
@@ -193,24 +165,17 @@ fn pushed(line: Line, w: &mut [u64; 64]) -> Line {
 
 // A byte of a line: a digit, the end of a word, or the letter.
 fn step(line: Line, b: u8, w: &mut [u64; 64]) -> Line {
-    let d = digit(b);
-    if d < 16 {
+    if let Some(d) = digit(b) {
         return Line {
-            letter: line.letter,
-            words: line.words,
             word: line.word % 1152921504606846976 * 16 + d,
             inside: true,
+            ..line
         };
     }
     if b == b' ' {
         return pushed(line, w);
     }
-    Line {
-        letter: b,
-        words: line.words,
-        word: line.word,
-        inside: line.inside,
-    }
+    Line { letter: b, ..line }
 }
 
 // Both, from byte to byte.
@@ -222,28 +187,23 @@ struct Run {
 
 // A byte of the input.
 fn fed(r: Run, b: u8, w: &mut [u64; 64], table: &mut [i64]) -> Run {
-    let line = r.line;
-    let tally = r.tally;
     if b == b'\n' {
-        let whole = pushed(line, w);
-        let next = ended(whole, *w, table, tally);
+        let whole = pushed(r.line, w);
         return Run {
             line: started(),
-            tally: next,
+            tally: ended(whole, *w, table, r.tally),
         };
     }
-    let further = step(line, b, w);
     Run {
-        line: further,
-        tally: tally,
+        line: step(r.line, b, w),
+        ..r
     }
 }
 
 fn feed(begun: Run, chunk: &[u8], w: &mut [u64; 64], table: &mut [i64]) -> Run {
     let mut r = begun;
-    for i in 0..chunk.len() {
-        let next = fed(r, chunk[i], w, table);
-        r = next;
+    for b in chunk {
+        r = fed(r, *b, w, table);
     }
     r
 }
@@ -263,13 +223,10 @@ fn replayed(chunk: &mut [u8], w: &mut [u64; 64], table: &mut [i64]) -> Tally {
             numbers: 0,
         },
     };
-    let most: usize = 8;
-    for i in 0..most {
-        let next = replay_chunk(r, chunk, w, table);
-        r = next;
+    for _ in 0..8 {
+        r = replay_chunk(r, chunk, w, table);
     }
-    let tally = r.tally;
-    tally
+    r.tally
 }
 
 fn main() {

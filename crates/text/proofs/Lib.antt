@@ -4,3 +4,4 @@ pub mod Fields
 pub mod Nan
 pub mod Numbers
 pub mod ReadBack
+pub mod Pens

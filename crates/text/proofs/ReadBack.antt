@@ -1,4 +1,5 @@
 -- Hexadecimal digits and decimals read back as what was printed, and print back as what was read. Assumes nothing.
+use Rattle.std.specs.Prelude.{Some, None}
 use mathlib.Core.Path.{◌≡◌, refl, sym, ap, subst, ◌∙◌}
 use mathlib.Core.Bool.{Bool, true, false, cond, not}
 use mathlib.Core.List.{List, [], ◌∷◌, ◌++◌, append_assoc, append-nil}
@@ -10,7 +11,6 @@ use lib.Dec.{ltb, leb, eqb, T}
 use lib.ListN.{length, length-append}
 use lib.Ieee.{Float, to_bits, fits, is_nan, binary64}
 use lib.Ieee.Bits.{to_bits-of_bits, of_bits-to_bits, to_bits-lt}
-use Rattle.text.specs.declared.HexNumber.TheVariants.{Is, Nothing}
 use Rattle.text.specs.Text.{digit_of, value_of, hex_of, glyph_of, hex_text, dec_text, double_of, double_text}
 use Rattle.text.proofs.Words.{digit_below, digit_number, digit_between, digit_letter, digit_above, hex_is}
 
@@ -47,13 +47,13 @@ value_hex (suc k) m n s h =
     ∙ ap (λ (x : ℕ). value_of x s) (sums m (16 ^ k) n ∙ ap (λ (x : ℕ). m * x + n) (sym (pow-suc 16 k)))
 
 -- every u64 that is printed reads back
-pub parse_print : (n : ℕ) → n < 2 ^ 64 → hex_of (hex_text 16 n) ≡ Is n
+pub parse_print : (n : ℕ) → n < 2 ^ 64 → hex_of (hex_text 16 n) ≡ Some n
 unfolding value_of
 parse_print n h =
     hex_is (hex_text 16 n) (length_hex 16 n)
     ∙ ap (value_of 0) (sym (append-nil (hex_text 16 n)))
     ∙ value_hex 16 0 n [] h
-    ∙ ap Is (omega arith)
+    ∙ ap Some (omega arith)
 
 -- ---- read, then printed
 -- the digit of a byte that is one
@@ -88,22 +88,22 @@ hex_front (suc k) n =
     ∙ ap (λ (x : ℕ). glyph_of (x % 16) ∷ (hex_text k (n / 16) ++ (glyph_of (n % 16) ∷ []))) e
 
 -- nothing is no number
-unread : {A : Type 0} {n : ℕ} → Nothing ≡ Is n → A
+unread : {A : Type 0} {n : ℕ} → None ≡ Some n → A
 unread e = let z : ◌≡◌ {A = ℕ} 0 1 = cc in absurd (omega arith)
 
-value_back : (s : List ℕ) (m n : ℕ) → value_of m s ≡ Is n → (n / 16 ^ length s ≡ m) × (hex_text (length s) n ≡ s)
+value_back : (s : List ℕ) (m n : ℕ) → value_of m s ≡ Some n → (n / 16 ^ length s ≡ m) × (hex_text (length s) n ≡ s)
 unfolding value_of hex_text
 value_back [] m n h = let e : m ≡ n = cc in (omega arith, refl)
 value_back (b ∷ s) m n h = go (eqb (digit_of b) 16) refl (value_back s (m * 16 + digit_of b) n)
   where
     go : (t : Bool) → eqb (digit_of b) 16 ≡ t
-        → (value_of (m * 16 + digit_of b) s ≡ Is n → (n / 16 ^ length s ≡ m * 16 + digit_of b) × (hex_text (length s) n ≡ s))
+        → (value_of (m * 16 + digit_of b) s ≡ Some n → (n / 16 ^ length s ≡ m * 16 + digit_of b) × (hex_text (length s) n ≡ s))
         → (n / 16 ^ suc (length s) ≡ m) × (hex_text (suc (length s)) n ≡ b ∷ s)
     go true e ih =
-        let w : Nothing ≡ Is n = rw e at h in unread w
+        let w : None ≡ Some n = rw e at h in unread w
     go false e ih =
         let d : ℕ = digit_of b in
-        let w : value_of (m * 16 + digit_of b) s ≡ Is n = rw e at h in
+        let w : value_of (m * 16 + digit_of b) s ≡ Some n = rw e at h in
         let r : (n / 16 ^ length s ≡ m * 16 + digit_of b) × (hex_text (length s) n ≡ s) = ih w in
         let g : (digit_of b < 16) × (glyph_of (digit_of b) ≡ b) = glyph_digit b (eqb-false (digit_of b) 16 e) in
         let top : n / 16 ^ suc (length s) ≡ n / 16 ^ length s / 16 =
@@ -112,38 +112,38 @@ value_back (b ∷ s) m n h = go (eqb (digit_of b) 16) refl (value_back s (m * 16
         (omega arith, hex_front (length s) n ∙ rw (low, g.1, r.1) refl)
 
 -- what is read prints back
-pub print_parse : (s : List ℕ) (n : ℕ) → hex_of s ≡ Is n → hex_text 16 n ≡ s
+pub print_parse : (s : List ℕ) (n : ℕ) → hex_of s ≡ Some n → hex_text 16 n ≡ s
 unfolding hex_of
 print_parse s n h = go (eqb (length s) 16) refl
   where
     go : (t : Bool) → eqb (length s) 16 ≡ t → hex_text 16 n ≡ s
     go true e =
-        let w : value_of 0 s ≡ Is n = rw e at h in
+        let w : value_of 0 s ≡ Some n = rw e at h in
         subst (λ (k : ℕ). hex_text k n ≡ s) (eqb-true (length s) 16 e) (value_back s 0 n w).1
     go false e =
-        let w : Nothing ≡ Is n = rw e at h in unread w
+        let w : None ≡ Some n = rw e at h in unread w
 
 -- 16 digits say a number below 2^64
-pub read_small : (s : List ℕ) (n : ℕ) → hex_of s ≡ Is n → n < 2 ^ 64
+pub read_small : (s : List ℕ) (n : ℕ) → hex_of s ≡ Some n → n < 2 ^ 64
 unfolding hex_of
 read_small s n h = go (eqb (length s) 16) refl
   where
     go : (t : Bool) → eqb (length s) 16 ≡ t → n < 2 ^ 64
     go true e =
-        let w : value_of 0 s ≡ Is n = rw e at h in
+        let w : value_of 0 s ≡ Some n = rw e at h in
         let z : n / 16 ^ 16 ≡ 0 = subst (λ (k : ℕ). n / 16 ^ k ≡ 0) (eqb-true (length s) 16 e) (value_back s 0 n w).0 in
         omega arith
     go false e =
-        let w : Nothing ≡ Is n = rw e at h in unread w
+        let w : None ≡ Some n = rw e at h in unread w
 
 -- ---- doubles
 -- a double that is no NaN comes out as it went in, digit for digit
-pub hex_in_out : (s : List ℕ) (n : ℕ) → hex_of s ≡ Is n → T (not (is_nan (double_of n))) → double_text (double_of n) ≡ s
+pub hex_in_out : (s : List ℕ) (n : ℕ) → hex_of s ≡ Some n → T (not (is_nan (double_of n))) → double_text (double_of n) ≡ s
 unfolding double_of
 hex_in_out s n h k = ap (hex_text 16) (to_bits-of_bits binary64 n (read_small s n h) k) ∙ print_parse s n h
 
 -- a double that was printed reads back as the same double
-pub hex_out_in : (x : Float) → T (fits binary64 x) → (hex_of (double_text x) ≡ Is (to_bits binary64 x)) × (double_of (to_bits binary64 x) ≡ x)
+pub hex_out_in : (x : Float) → T (fits binary64 x) → (hex_of (double_text x) ≡ Some (to_bits binary64 x)) × (double_of (to_bits binary64 x) ≡ x)
 unfolding double_of
 hex_out_in x h = (parse_print (to_bits binary64 x) (to_bits-lt binary64 x h), of_bits-to_bits binary64 x h)
 

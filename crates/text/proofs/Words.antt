@@ -1,50 +1,27 @@
--- The steps of the loops over words and digits. Assumes nothing.
-use mathlib.Core.Path.{◌≡◌, refl, sym, ap, ◌∙◌}
-use mathlib.Core.Bool.{true, false, cond, ◌&&◌, and-false}
-use mathlib.Core.List.{List, [], ◌∷◌}
-use Prim.Native.Nat.{ℕ, suc, ◌+◌, ◌*◌, ◌-◌, ◌≤◌, ◌<◌, ◌^◌}
-use native.Mathlib.Nat.{pow-suc, pow-le-pow_right}
-use native.Mathlib.Numerals.{add-one}
-use native.Mathlib.Omega.{arith}
-use borrow.Author.Tests.{eq-eqb, ne_eqb, le-leb, lt-leb}
-use lib.Dec.{eqb}
-use lib.ListN.{length, drop, get_or}
-use lib.Seq.{drop-cons, drop-length}
-use Rattle.text.specs.declared.HexNumber.TheVariants.{Is, Nothing}
+-- Words, places and digits: what the library's calls answer, in this crate's words. Assumes nothing.
+use Rattle.std.specs.Prelude.{Some, None}
+use Rattle.std.proofs.Common.{◌≡◌, refl, sym, ap, ◌∙◌, cond, List, [], ◌∷◌, ℕ, suc, ◌+◌, ◌*◌, ◌-◌, ◌≤◌, ◌<◌, ◌^◌}
+use Rattle.std.proofs.Common.{pow-suc, add-one, arith, eq-eqb, ne_eqb, eqb, nat_eq, length, drop, get_or, drop-cons}
+use native.Mathlib.Nat.{pow-le-pow_right}
+use lib.Seq.{drop-length}
+use borrow.Author.Tests.{lt-leb}
+use Rattle.std.proofs.Common.{le-leb, Option, MatchOption, HoldsAt, unwrap_or, ◌≢◌}
+use lib.Pointwise.{pointwise}
+use Rattle.std.specs.List.{AllWithin}
+use Rattle.std.proofs.lemmas.Iterator.{index_from_first}
 use Rattle.text.specs.Text.{same, digit_of, value_of, hex_of, place_of}
 
-pub same_long : (s w : List ℕ) → (length s ≡ length w → ⊥) → same s w ≡ false
+-- `==` of two slices is the test of words
+pub same_is : (s w : List ℕ) → same s w ≡ pointwise nat_eq s w
 unfolding same
-same_long [] [] h = absurd (h refl)
-same_long [] (b ∷ w) h = refl
-same_long (a ∷ s) [] h = refl
-same_long (a ∷ s) (b ∷ w) h = rw (same_long s w (λ e. h (ap suc e))) (and-false (eqb a b))
-
--- at place i
-same_at : (s w : List ℕ) (i : ℕ) → i < length s → i < length w
-    → same (drop i s) (drop i w) ≡ (eqb (get_or s i 0) (get_or w i 0) && same (drop (i + 1) s) (drop (i + 1) w))
-unfolding same
-same_at s w i h k = rw (add-one i, drop-cons s i 0 h, drop-cons w i 0 k) refl
-
-pub same_step : (s w : List ℕ) (i : ℕ) → i < length s → i < length w → get_or s i 0 ≡ get_or w i 0
-    → same (drop (i + 1) s) (drop (i + 1) w) ≡ same (drop i s) (drop i w)
-same_step s w i h k e = sym (same_at s w i h k ∙ simp (eq-eqb _ _ e))
-
-pub same_stop : (s w : List ℕ) (i : ℕ) → i < length s → i < length w → (get_or s i 0 ≡ get_or w i 0 → ⊥)
-    → same (drop i s) (drop i w) ≡ false
-same_stop s w i h k e = same_at s w i h k ∙ simp (ne_eqb _ _ e)
-
-pub same_done : (s w : List ℕ) (i : ℕ) → i ≤ length s → length s ≤ i → length s ≡ length w → same (drop i s) (drop i w) ≡ true
-unfolding same
-same_done s w i h k e =
-    let p : i ≡ length s = omega arith in
-    let q : i ≡ length w = omega arith in
-    ap (λ (l : List ℕ). same l (drop i w)) (ap (λ (j : ℕ). drop j s) p ∙ drop-length s)
-    ∙ ap (λ (l : List ℕ). same [] l) (ap (λ (j : ℕ). drop j w) q ∙ drop-length w)
+same_is [] [] = refl
+same_is [] (b ∷ w) = refl
+same_is (a ∷ s) [] = refl
+same_is (a ∷ s) (b ∷ w) = rw (same_is s w) refl
 
 -- ---- digits
 value_at : (n : ℕ) (s : List ℕ) (i : ℕ) → i < length s
-    → value_of n (drop i s) ≡ cond (eqb (digit_of (get_or s i 0)) 16) Nothing (value_of (n * 16 + digit_of (get_or s i 0)) (drop (i + 1) s))
+    → value_of n (drop i s) ≡ cond (eqb (digit_of (get_or s i 0)) 16) None (value_of (n * 16 + digit_of (get_or s i 0)) (drop (i + 1) s))
 unfolding value_of
 value_at n s i h = rw (add-one i, drop-cons s i 0 h) refl
 
@@ -52,11 +29,10 @@ pub value_step : (n d : ℕ) (s : List ℕ) (i : ℕ) → i < length s → d ≡
     → value_of (n * 16 + d) (drop (i + 1) s) ≡ value_of n (drop i s)
 value_step n d s i h e k = sym (value_at n s i h ∙ rw (← e) (simp (ne_eqb d 16 k)))
 
-pub value_stop : (n d : ℕ) (s : List ℕ) (i : ℕ) → i < length s → d ≡ digit_of (get_or s i 0) → d ≡ 16
-    → value_of n (drop i s) ≡ Nothing
-value_stop n d s i h e k = value_at n s i h ∙ rw (← e) (simp (eq-eqb d 16 k))
+pub value_stop : (n : ℕ) (s : List ℕ) (i : ℕ) → i < length s → digit_of (get_or s i 0) ≡ 16 → value_of n (drop i s) ≡ None
+value_stop n s i h e = value_at n s i h ∙ simp (eq-eqb _ 16 e)
 
-pub value_done : (n : ℕ) (s : List ℕ) (i : ℕ) → i ≤ length s → length s ≤ i → value_of n (drop i s) ≡ Is n
+pub value_done : (n : ℕ) (s : List ℕ) (i : ℕ) → i ≤ length s → length s ≤ i → value_of n (drop i s) ≡ Some n
 unfolding value_of
 value_done n s i h k =
     let p : i ≡ length s = omega arith in
@@ -66,26 +42,18 @@ pub hex_is : (s : List ℕ) → length s ≡ 16 → hex_of s ≡ value_of 0 s
 unfolding hex_of
 hex_is s h = simp (eq-eqb (length s) 16 h)
 
-pub hex_not : (s : List ℕ) → (length s ≡ 16 → ⊥) → hex_of s ≡ Nothing
+pub hex_not : (s : List ℕ) → (length s ≡ 16 → ⊥) → hex_of s ≡ None
 unfolding hex_of
 hex_not s h = simp (ne_eqb (length s) 16 h)
 
 -- ---- a place
-place_at_lem : (b : ℕ) (s : List ℕ) (i : ℕ) → i < length s → place_of b (drop i s) ≡ cond (eqb (get_or s i 0) b) 0 (suc (place_of b (drop (i + 1) s)))
+-- what `position` finds, or the length
+pub place_found : (b : ℕ) (s : List ℕ) (r : Option ℕ)
+    → MatchOption r (AllWithin (λ x. x ≢ b) s 0 (length s)) (λ i. (i < length s) × HoldsAt (λ x. x ≡ b) s i × AllWithin (λ x. x ≢ b) s 0 i)
+    → unwrap_or r (length s) ≡ place_of b s
 unfolding place_of
-place_at_lem b s i h = rw (add-one i, drop-cons s i 0 h) refl
-
-pub place_step : (b : ℕ) (s : List ℕ) (i : ℕ) → i < length s → (get_or s i 0 ≡ b → ⊥) → i + 1 + place_of b (drop (i + 1) s) ≡ i + place_of b (drop i s)
-place_step b s i h k = let e : place_of b (drop i s) ≡ suc (place_of b (drop (i + 1) s)) = place_at_lem b s i h ∙ simp (ne_eqb _ _ k) in omega arith
-
-pub place_stop : (b : ℕ) (s : List ℕ) (i : ℕ) → i < length s → get_or s i 0 ≡ b → i ≡ i + place_of b (drop i s)
-place_stop b s i h k = let e : place_of b (drop i s) ≡ 0 = place_at_lem b s i h ∙ simp (eq-eqb _ _ k) in omega arith
-
-pub place_done : (b : ℕ) (s : List ℕ) (i : ℕ) → i ≤ length s → length s ≤ i → i ≡ i + place_of b (drop i s)
-unfolding place_of
-place_done b s i h k =
-    let p : i ≡ length s = omega arith in
-    let e : place_of b (drop i s) ≡ 0 = ap (place_of b) (ap (λ (j : ℕ). drop j s) p ∙ drop-length s) in omega arith
+place_found b s r h = sym (index_from_first (place_of b) (λ x. x ≡ b) (λ x. x ≢ b) refl (λ x xs e. simp (eq-eqb x b e))
+    (λ x xs e. rw (ne_eqb x b e) (sym (add-one _))) s r h)
 
 -- ---- a digit
 pub digit_below : (b : ℕ) → b < 48 → 16 ≡ digit_of b

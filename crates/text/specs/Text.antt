@@ -1,11 +1,9 @@
 -- Texts as lists of bytes: words, fields, hexadecimal digits, decimals, and doubles as bit patterns. Definitions only.
-use Rattle.std.specs.Prelude.{Bool, true, false, cond, ◌&&◌, List, [], ◌∷◌, ◌++◌, ℕ, zero, suc, ◌+◌, ◌*◌, ◌-◌, ◌/◌, ◌%◌, leb, ltb, eqb, length, Float}
+use Rattle.std.specs.Prelude.{Bool, true, false, cond, ◌&&◌, List, [], ◌∷◌, ◌++◌, ℕ, zero, suc, ◌+◌, ◌*◌, ◌-◌, ◌/◌, ◌%◌, leb, ltb, eqb, length, Float, Some, None, Option}
 use Prim.Native.Char.{code}
 use Prim.Native.String.{String, [] as []ˢ, ◌∷◌ as ◌∷ˢ◌}
 use Rattle.std.specs.Float.Ieee.{of_bits, to_bits}
 use Rattle.std.specs.Float.{binary64}
-use Rattle.text.specs.declared.HexNumber.{HexNumber}
-use Rattle.text.specs.declared.HexNumber.TheVariants.{Is, Nothing}
 
 -- ---- words
 
@@ -55,13 +53,13 @@ abbrev pub digit_of : ℕ → ℕ
 digit_of b = cond (leb 48 b && leb b 57) (b - 48) (cond (leb 65 b && leb b 70) (b - 55) 16)
 
 -- n, with the digits s after it
-unfoldable pub value_of : ℕ → List ℕ → HexNumber
-value_of n [] = Is n
-value_of n (b ∷ s) = cond (eqb (digit_of b) 16) Nothing (value_of (n * 16 + digit_of b) s)
+unfoldable pub value_of : ℕ → List ℕ → Option ℕ
+value_of n [] = Some n
+value_of n (b ∷ s) = cond (eqb (digit_of b) 16) None (value_of (n * 16 + digit_of b) s)
 
 -- what 16 digits say
-unfoldable pub hex_of : List ℕ → HexNumber
-hex_of s = cond (eqb (length s) 16) (value_of 0 s) Nothing
+unfoldable pub hex_of : List ℕ → Option ℕ
+hex_of s = cond (eqb (length s) 16) (value_of 0 s) None
 
 -- the digit of a number below 16
 abbrev pub glyph_of : ℕ → ℕ

@@ -1,4 +1,5 @@
 -- The steps of the loops over decimal digits, and what digits can say. Assumes nothing.
+use Rattle.std.specs.Prelude.{Some, None, Option, ℕ}
 use mathlib.Core.Path.{◌≡◌, refl, sym, ap, ◌∙◌}
 use mathlib.Core.Bool.{Bool, true, false, cond, ◌&&◌}
 use mathlib.Core.List.{List, [], ◌∷◌}
@@ -11,8 +12,6 @@ use borrow.Author.Tests.{eq-eqb, ne_eqb, le-leb, lt-leb, lt-ltb, le-ltb, eqb-fal
 use lib.Dec.{leb, ltb, eqb}
 use lib.ListN.{length, take, drop, get_or, length-drop}
 use lib.Seq.{drop-cons, drop-length, take_all}
-use Rattle.text.specs.declared.HexNumber.{HexNumber}
-use Rattle.text.specs.declared.HexNumber.TheVariants.{Is, Nothing}
 use Rattle.text.specs.Text.{place_of}
 use Rattle.text_decimals.specs.Decimals.{POINT, digit_in, digits_of, number_in, scaled, behind_of, joined, thousandths_of}
 
@@ -28,7 +27,7 @@ digit_above b h = simp (le-leb 48 b (omega arith), lt-leb b 57 h)
 
 -- ---- digits
 digits_at : (n : ℕ) (s : List ℕ) (i : ℕ) → i < length s
-    → digits_of n (drop i s) ≡ cond (eqb (digit_in (get_or s i 0)) 10) Nothing (digits_of (n * 10 + digit_in (get_or s i 0)) (drop (i + 1) s))
+    → digits_of n (drop i s) ≡ cond (eqb (digit_in (get_or s i 0)) 10) None (digits_of (n * 10 + digit_in (get_or s i 0)) (drop (i + 1) s))
 unfolding digits_of
 digits_at n s i h = rw (add-one i, drop-cons s i 0 h) refl
 
@@ -36,20 +35,20 @@ pub digits_step : (n d : ℕ) (s : List ℕ) (i : ℕ) → i < length s → d �
     → digits_of (n * 10 + d) (drop (i + 1) s) ≡ digits_of n (drop i s)
 digits_step n d s i h e k = sym (digits_at n s i h ∙ rw (← e) (simp (ne_eqb d 10 k)))
 
-pub digits_stop : (n d : ℕ) (s : List ℕ) (i : ℕ) → i < length s → d ≡ digit_in (get_or s i 0) → d ≡ 10 → digits_of n (drop i s) ≡ Nothing
-digits_stop n d s i h e k = digits_at n s i h ∙ rw (← e) (simp (eq-eqb d 10 k))
+pub digits_stop : (n : ℕ) (s : List ℕ) (i : ℕ) → i < length s → digit_in (get_or s i 0) ≡ 10 → digits_of n (drop i s) ≡ None
+digits_stop n s i h e = digits_at n s i h ∙ simp (eq-eqb _ 10 e)
 
-pub digits_done : (n : ℕ) (s : List ℕ) (i : ℕ) → i ≤ length s → length s ≤ i → digits_of n (drop i s) ≡ Is n
+pub digits_done : (n : ℕ) (s : List ℕ) (i : ℕ) → i ≤ length s → length s ≤ i → digits_of n (drop i s) ≡ Some n
 unfolding digits_of
 digits_done n s i h k =
     let p : i ≡ length s = omega arith in
     ap (λ (l : List ℕ). digits_of n l) (ap (λ (j : ℕ). drop j s) p ∙ drop-length s)
 
-pub number_short : (k : ℕ) (s : List ℕ) → length s < 1 → Nothing ≡ number_in k s
+pub number_short : (k : ℕ) (s : List ℕ) → length s < 1 → None ≡ number_in k s
 unfolding number_in
 number_short k s h = simp (lt-leb 1 (length s) h)
 
-pub number_long : (k : ℕ) (s : List ℕ) → 1 ≤ length s → k < length s → Nothing ≡ number_in k s
+pub number_long : (k : ℕ) (s : List ℕ) → 1 ≤ length s → k < length s → None ≡ number_in k s
 unfolding number_in
 number_long k s h l = simp (le-leb 1 (length s) h, lt-leb (length s) k l)
 
@@ -67,7 +66,7 @@ room10 n i h k =
     omega arith
 
 -- ---- k digits say a number below 10^k
-unread : {A : Type 0} {n : ℕ} → Nothing ≡ Is n → A
+unread : {A : Type 0} {n : ℕ} → None ≡ Some n → A
 unread e = let z : ◌≡◌ {A = ℕ} 0 1 = cc in absurd (omega arith)
 
 digit_less : (b : ℕ) → (digit_in b ≡ 10 → ⊥) → digit_in b < 10
@@ -78,24 +77,24 @@ digit_less b ne = go (leb 48 b) refl (leb b 57) refl
     go true e false f = absurd (ne (sym (digit_above b (leb-false b 57 f))))
     go false e q f = absurd (ne (sym (digit_below b (leb-false 48 b e))))
 
-digits_small : (s : List ℕ) (m n i : ℕ) → m < 10 ^ i → digits_of m s ≡ Is n → n < 10 ^ (i + length s)
+digits_small : (s : List ℕ) (m n i : ℕ) → m < 10 ^ i → digits_of m s ≡ Some n → n < 10 ^ (i + length s)
 unfolding digits_of
 digits_small [] m n i h e = let z : m ≡ n = cc in let w : i + 0 ≡ i = omega arith in rw (w, ← z) h
 digits_small (b ∷ s) m n i h e = go (eqb (digit_in b) 10) refl (digits_small s (m * 10 + digit_in b) n (i + 1))
   where
-    go : (t : Bool) → eqb (digit_in b) 10 ≡ t → (m * 10 + digit_in b < 10 ^ (i + 1) → digits_of (m * 10 + digit_in b) s ≡ Is n → n < 10 ^ (i + 1 + length s))
+    go : (t : Bool) → eqb (digit_in b) 10 ≡ t → (m * 10 + digit_in b < 10 ^ (i + 1) → digits_of (m * 10 + digit_in b) s ≡ Some n → n < 10 ^ (i + 1 + length s))
         → n < 10 ^ (i + suc (length s))
-    go true f ih = let w : Nothing ≡ Is n = rw f at e in unread w
+    go true f ih = let w : None ≡ Some n = rw f at e in unread w
     go false f ih =
-        let w : digits_of (m * 10 + digit_in b) s ≡ Is n = rw f at e in
+        let w : digits_of (m * 10 + digit_in b) s ≡ Some n = rw f at e in
         let l : i + suc (length s) ≡ i + 1 + length s = omega arith in
         rw l (ih (grow10 m i (digit_in b) h (digit_less b (eqb-false (digit_in b) 10 f))) w)
 
-pub number_small : (k : ℕ) (s : List ℕ) (n : ℕ) → number_in k s ≡ Is n → n < 10 ^ k
+pub number_small : (k : ℕ) (s : List ℕ) (n : ℕ) → number_in k s ≡ Some n → n < 10 ^ k
 unfolding number_in
 number_small k s n e = go (leb 1 (length s)) (leb (length s) k) refl e
   where
-    go : (p q : Bool) → leb (length s) k ≡ q → cond (p && q) (digits_of 0 s) Nothing ≡ Is n → n < 10 ^ k
+    go : (p q : Bool) → leb (length s) k ≡ q → cond (p && q) (digits_of 0 s) None ≡ Some n → n < 10 ^ k
     go true true f h =
         let z : 0 + length s ≡ length s = omega arith in
         let a : n < 10 ^ length s = rw z at (digits_small s 0 n 0 (omega arith) h) in
@@ -105,61 +104,61 @@ number_small k s n e = go (leb 1 (length s)) (leb (length s) k) refl e
     go false q f h = unread h
 
 -- ---- behind the point
-number_length : (k : ℕ) (s : List ℕ) (n : ℕ) → number_in k s ≡ Is n → length s ≤ k
+number_length : (k : ℕ) (s : List ℕ) (n : ℕ) → number_in k s ≡ Some n → length s ≤ k
 unfolding number_in
 number_length k s n e = go (leb 1 (length s)) (leb (length s) k) refl e
   where
-    go : (p q : Bool) → leb (length s) k ≡ q → cond (p && q) (digits_of 0 s) Nothing ≡ Is n → length s ≤ k
+    go : (p q : Bool) → leb (length s) k ≡ q → cond (p && q) (digits_of 0 s) None ≡ Some n → length s ≤ k
     go true true f h = leb-true (length s) k f
     go true false f h = unread h
     go false q f h = unread h
 
-number_some : (k : ℕ) (s : List ℕ) (n : ℕ) → number_in k s ≡ Is n → 1 ≤ length s
+number_some : (k : ℕ) (s : List ℕ) (n : ℕ) → number_in k s ≡ Some n → 1 ≤ length s
 unfolding number_in
 number_some k s n e = go (leb 1 (length s)) refl (leb (length s) k) e
   where
-    go : (p : Bool) → leb 1 (length s) ≡ p → (q : Bool) → cond (p && q) (digits_of 0 s) Nothing ≡ Is n → 1 ≤ length s
+    go : (p : Bool) → leb 1 (length s) ≡ p → (q : Bool) → cond (p && q) (digits_of 0 s) None ≡ Some n → 1 ≤ length s
     go true f q h = leb-true 1 (length s) f
     go false f q h = unread h
 
-pub behind_none : (s : List ℕ) {r : HexNumber} → r ≡ number_in 3 s → r ≡ Nothing → Nothing ≡ behind_of s
+pub behind_none : (s : List ℕ) {r : Option ℕ} → r ≡ number_in 3 s → r ≡ None → None ≡ behind_of s
 unfolding behind_of
 behind_none s e f = ap (scaled (10 ^ (3 - length s))) (sym f ∙ e)
 
-behind_is : (s : List ℕ) (f k : ℕ) {r : HexNumber} → r ≡ number_in 3 s → r ≡ Is f → 10 ^ (3 - length s) ≡ k → Is (f * k) ≡ behind_of s
+behind_is : (s : List ℕ) (f k : ℕ) {r : Option ℕ} → r ≡ number_in 3 s → r ≡ Some f → 10 ^ (3 - length s) ≡ k → Some (f * k) ≡ behind_of s
 unfolding behind_of
-behind_is s f k e g p = ap (λ (x : ℕ). Is (f * x)) (sym p) ∙ ap (scaled (10 ^ (3 - length s))) (sym g ∙ e)
+behind_is s f k e g p = ap (λ (x : ℕ). Some (f * x)) (sym p) ∙ ap (scaled (10 ^ (3 - length s))) (sym g ∙ e)
 
-pub behind_one : (s : List ℕ) (f : ℕ) {r : HexNumber} → r ≡ number_in 3 s → r ≡ Is f → length s ≡ 1 → Is (f * 100) ≡ behind_of s
+pub behind_one : (s : List ℕ) (f : ℕ) {r : Option ℕ} → r ≡ number_in 3 s → r ≡ Some f → length s ≡ 1 → Some (f * 100) ≡ behind_of s
 behind_one s f e g l = behind_is s f 100 e g (ap (λ (x : ℕ). 10 ^ (3 - x)) l)
 
-pub behind_two : (s : List ℕ) (f : ℕ) {r : HexNumber} → r ≡ number_in 3 s → r ≡ Is f → length s ≡ 2 → Is (f * 10) ≡ behind_of s
+pub behind_two : (s : List ℕ) (f : ℕ) {r : Option ℕ} → r ≡ number_in 3 s → r ≡ Some f → length s ≡ 2 → Some (f * 10) ≡ behind_of s
 behind_two s f e g l = behind_is s f 10 e g (ap (λ (x : ℕ). 10 ^ (3 - x)) l)
 
-pub behind_three : (s : List ℕ) (f : ℕ) {r : HexNumber} → r ≡ number_in 3 s → r ≡ Is f → (length s ≡ 1 → ⊥) → (length s ≡ 2 → ⊥) → Is f ≡ behind_of s
+pub behind_three : (s : List ℕ) (f : ℕ) {r : Option ℕ} → r ≡ number_in 3 s → r ≡ Some f → (length s ≡ 1 → ⊥) → (length s ≡ 2 → ⊥) → Some f ≡ behind_of s
 behind_three s f e g a b =
     let x : 1 ≤ length s = number_some 3 s f (sym e ∙ g) in
     let y : length s ≤ 3 = number_length 3 s f (sym e ∙ g) in
     let l : length s ≡ 3 = omega arith in
     let z : f ≡ f * 1 = sym (mul-one f) in
-    ap Is z ∙ behind_is s f 1 e g (ap (λ (x : ℕ). 10 ^ (3 - x)) l)
+    ap Some z ∙ behind_is s f 1 e g (ap (λ (x : ℕ). 10 ^ (3 - x)) l)
 
 -- ---- how large the thousandths get
-number_within : (k : ℕ) (s : List ℕ) (n : ℕ) → number_in k s ≡ Is n → n < 10 ^ length s
+number_within : (k : ℕ) (s : List ℕ) (n : ℕ) → number_in k s ≡ Some n → n < 10 ^ length s
 unfolding number_in
 number_within k s n e = go (leb 1 (length s)) (leb (length s) k) e
   where
-    go : (p q : Bool) → cond (p && q) (digits_of 0 s) Nothing ≡ Is n → n < 10 ^ length s
+    go : (p q : Bool) → cond (p && q) (digits_of 0 s) None ≡ Some n → n < 10 ^ length s
     go true true h = let z : 0 + length s ≡ length s = omega arith in rw z at (digits_small s 0 n 0 (omega arith) h)
     go true false h = unread h
     go false q h = unread h
 
-pub behind_small : (s : List ℕ) (f : ℕ) → behind_of s ≡ Is f → f < 1000
+pub behind_small : (s : List ℕ) (f : ℕ) → behind_of s ≡ Some f → f < 1000
 unfolding behind_of
 behind_small s f e = go (number_in 3 s) refl e
   where
-    go : (r : HexNumber) → number_in 3 s ≡ r → scaled (10 ^ (3 - length s)) r ≡ Is f → f < 1000
-    go (Is n) g h =
+    go : (r : Option ℕ) → number_in 3 s ≡ r → scaled (10 ^ (3 - length s)) r ≡ Some f → f < 1000
+    go (Some n) g h =
         let a : n < 10 ^ length s = number_within 3 s n g in
         let l : length s ≤ 3 = number_length 3 s n g in
         let b : n * 10 ^ (3 - length s) < 10 ^ length s * 10 ^ (3 - length s) = mul-lt-mul_of_pos_right a (pow_pos10 (3 - length s)) in
@@ -173,69 +172,69 @@ behind_small s f e = go (number_in 3 s) refl e
 
         fill : {x : ℕ} → x ≤ 3 → x + (3 - x) ≡ 3
         fill h = omega arith
-    go Nothing g h = unread h
+    go None g h = unread h
 
 -- ---- thousandths, case by case
 module _ (s : List ℕ) (p : ℕ) (is : p ≡ place_of POINT s) where
-  pub no_whole : {r : HexNumber} → p < length s → r ≡ number_in 9 (take (p - 0) s) → r ≡ Nothing → Nothing ≡ thousandths_of s
+  pub no_whole : {r : Option ℕ} → p < length s → r ≡ number_in 9 (take (p - 0) s) → r ≡ None → None ≡ thousandths_of s
   unfolding thousandths_of
   no_whole {r} h e f =
       let z : p - 0 ≡ p = omega arith in
-      let w : number_in 9 (take p s) ≡ Nothing = sym (ap (λ (x : ℕ). number_in 9 (take x s)) z) ∙ sym e ∙ f in
+      let w : number_in 9 (take p s) ≡ None = sym (ap (λ (x : ℕ). number_in 9 (take x s)) z) ∙ sym e ∙ f in
       rw (← is, lt-ltb p (length s) h, w) refl
 
-  pub no_rest : {r q : HexNumber} {w : ℕ} → p < length s → r ≡ number_in 9 (take (p - 0) s) → r ≡ Is w
-      → q ≡ behind_of (take (length s - (p + 1)) (drop (p + 1) s)) → q ≡ Nothing → Nothing ≡ thousandths_of s
+  pub no_rest : {r q : Option ℕ} {w : ℕ} → p < length s → r ≡ number_in 9 (take (p - 0) s) → r ≡ Some w
+      → q ≡ behind_of (take (length s - (p + 1)) (drop (p + 1) s)) → q ≡ None → None ≡ thousandths_of s
   unfolding thousandths_of
   no_rest {r} {q} {w} h e f g k =
       let z : p - 0 ≡ p = omega arith in
-      let a : number_in 9 (take p s) ≡ Is w = sym (ap (λ (x : ℕ). number_in 9 (take x s)) z) ∙ sym e ∙ f in
-      let b : behind_of (drop (suc p) s) ≡ Nothing =
+      let a : number_in 9 (take p s) ≡ Some w = sym (ap (λ (x : ℕ). number_in 9 (take x s)) z) ∙ sym e ∙ f in
+      let b : behind_of (drop (suc p) s) ≡ None =
       sym (ap behind_of (take_all (length s - (p + 1)) (drop (p + 1) s) (rw length-drop (omega arith)) ∙ ap (λ (x : ℕ). drop x s) (add-one p))) ∙ sym g
       ∙ k in
       rw (← is, lt-ltb p (length s) h, a, b) refl
 
-  pub with_point : {r q : HexNumber} {w f : ℕ} → p < length s → r ≡ number_in 9 (take (p - 0) s) → r ≡ Is w
-      → q ≡ behind_of (take (length s - (p + 1)) (drop (p + 1) s)) → q ≡ Is f → Is (w * 1000 + f) ≡ thousandths_of s
+  pub with_point : {r q : Option ℕ} {w f : ℕ} → p < length s → r ≡ number_in 9 (take (p - 0) s) → r ≡ Some w
+      → q ≡ behind_of (take (length s - (p + 1)) (drop (p + 1) s)) → q ≡ Some f → Some (w * 1000 + f) ≡ thousandths_of s
   unfolding thousandths_of
   with_point {r} {q} {w} {f} h e j g k =
       let z : p - 0 ≡ p = omega arith in
-      let a : number_in 9 (take p s) ≡ Is w = sym (ap (λ (x : ℕ). number_in 9 (take x s)) z) ∙ sym e ∙ j in
-      let b : behind_of (drop (suc p) s) ≡ Is f =
+      let a : number_in 9 (take p s) ≡ Some w = sym (ap (λ (x : ℕ). number_in 9 (take x s)) z) ∙ sym e ∙ j in
+      let b : behind_of (drop (suc p) s) ≡ Some f =
       sym (ap behind_of (take_all (length s - (p + 1)) (drop (p + 1) s) (rw length-drop (omega arith)) ∙ ap (λ (x : ℕ). drop x s) (add-one p))) ∙ sym g
       ∙ k in
       rw (← is, lt-ltb p (length s) h, a, b) refl
 
-  pub plain_none : {r : HexNumber} → length s ≤ p → r ≡ number_in 9 s → r ≡ Nothing → Nothing ≡ thousandths_of s
+  pub plain_none : {r : Option ℕ} → length s ≤ p → r ≡ number_in 9 s → r ≡ None → None ≡ thousandths_of s
   unfolding thousandths_of
   plain_none {r} h e f = rw (← is, le-ltb p (length s) h, sym e ∙ f) refl
 
-  pub plain : {r : HexNumber} {w : ℕ} → length s ≤ p → r ≡ number_in 9 s → r ≡ Is w → Is (w * 1000) ≡ thousandths_of s
+  pub plain : {r : Option ℕ} {w : ℕ} → length s ≤ p → r ≡ number_in 9 s → r ≡ Some w → Some (w * 1000) ≡ thousandths_of s
   unfolding thousandths_of
-  plain {r} {w} h e f = let z : w * 1000 ≡ w * 1000 + 0 = omega arith in ap Is z ∙ rw (← is, le-ltb p (length s) h, sym e ∙ f) refl
+  plain {r} {w} h e f = let z : w * 1000 ≡ w * 1000 + 0 = omega arith in ap Some z ∙ rw (← is, le-ltb p (length s) h, sym e ∙ f) refl
 
 -- nine digits and three: at most 999,999,999,999 thousandths
-pub thousandths_small : (s : List ℕ) (n : ℕ) → thousandths_of s ≡ Is n → n ≤ 999999999999
+pub thousandths_small : (s : List ℕ) (n : ℕ) → thousandths_of s ≡ Some n → n ≤ 999999999999
 unfolding thousandths_of
 thousandths_small s n e = go (ltb (place_of POINT s) (length s)) e
   where
-    both : (a b : HexNumber) → (x y : List ℕ) → number_in 9 x ≡ a → ((f : ℕ) → b ≡ Is f → f < 1000) → joined a b ≡ Is n → n ≤ 999999999999
-    both (Is w) (Is f) x y g k h =
+    both : (a b : Option ℕ) → (x y : List ℕ) → number_in 9 x ≡ a → ((f : ℕ) → b ≡ Some f → f < 1000) → joined a b ≡ Some n → n ≤ 999999999999
+    both (Some w) (Some f) x y g k h =
         let a : w < 10 ^ 9 = number_small 9 x w g in
         let b : f < 1000 = k f refl in
         let c : w * 1000 + f ≡ n = cc in
         omega arith
-    both (Is w) Nothing x y g k h = unread h
-    both Nothing b x y g k h = unread h
+    both (Some w) None x y g k h = unread h
+    both None b x y g k h = unread h
 
-    none : (f : ℕ) → Is 0 ≡ Is f → f < 1000
+    none : (f : ℕ) → Some 0 ≡ Some f → f < 1000
     none f h = let z : 0 ≡ f = cc in omega arith
 
     go : (t : Bool)
-        → cond t (joined (number_in 9 (take (place_of POINT s) s)) (behind_of (drop (suc (place_of POINT s)) s))) (joined (number_in 9 s) (Is 0)) ≡ Is n
+        → cond t (joined (number_in 9 (take (place_of POINT s) s)) (behind_of (drop (suc (place_of POINT s)) s))) (joined (number_in 9 s) (Some 0)) ≡ Some n
         → n ≤ 999999999999
     go true h =
         both (number_in 9 (take (place_of POINT s) s)) (behind_of (drop (suc (place_of POINT s)) s)) (take (place_of POINT s) s) (drop (suc (place_of
         POINT s)) s)
         refl (behind_small (drop (suc (place_of POINT s)) s)) h
-    go false h = both (number_in 9 s) (Is 0) s s refl none h
+    go false h = both (number_in 9 s) (Some 0) s s refl none h

@@ -1,4 +1,5 @@
 -- Decimals that were printed read back as the number. Assumes nothing.
+use Rattle.std.specs.Prelude.{Some}
 use mathlib.Core.Path.{◌≡◌, refl, sym, ap, ◌∙◌}
 use mathlib.Core.Bool.{Bool, true, false, cond}
 use mathlib.Core.List.{List, [], ◌∷◌, ◌++◌, append_assoc, append-nil}
@@ -9,7 +10,6 @@ use borrow.Author.Tests.{ltb-true, ltb-false, ne_eqb}
 use lib.Dec.{ltb}
 use lib.ListN.{length, length-append}
 use Rattle.text.specs.Text.{dec_text}
-use Rattle.text.specs.declared.HexNumber.TheVariants.{Is}
 use Rattle.text_decimals.specs.Decimals.{digit_in, digits_of, number_in}
 use Rattle.text_decimals.proofs.Digits.{digit_is, number_is}
 
@@ -63,7 +63,7 @@ dec_few (suc k) (suc j) n h = go (ltb n 10) (dec_few k j (n / 10) (less n j h))
     go false ih = simp length-append (omega arith)
 
 -- a number of at most j + 1 digits, printed with room for more, is read by those digits
-pub number_back : (k j n : ℕ) → j ≤ k → n < 10 ^ suc j → number_in (suc j) (dec_text k n) ≡ Is n
+pub number_back : (k j n : ℕ) → j ≤ k → n < 10 ^ suc j → number_in (suc j) (dec_text k n) ≡ Some n
 unfolding digits_of
 number_back k j n l h =
     let wide : 10 ^ suc j ≤ 10 ^ suc k = pow-le-pow_right {n = 10} (omega arith) {i = suc j} {j = suc k} (omega arith) in

@@ -1,8 +1,7 @@
 -- Significand and shift of a magnitude's pattern, and the units that they make. Assumes nothing.
 use mathlib.Core.Path.{◌≡◌, refl, sym, ap, ◌∙◌}
 use Prim.Native.Nat.{ℕ, ◌+◌, ◌*◌, ◌-◌, ◌/◌, ◌%◌, ◌≤◌, ◌<◌, ◌^◌}
-use native.Mathlib.Nat.{add-mul, mul_comm, mul_right_comm, pow-suc, pow-le-pow_right, mul-le-mul_right, div-add-mod'}
-use native.Mathlib.Numerals.{add-one}
+use native.Mathlib.Nat.{add-mul, mul_comm, mul_right_comm, pow-le-pow_right, mul-le-mul_right, div-add-mod'}
 use native.Mathlib.Omega.{arith}
 use borrow.Author.Tests.{lt-ltb, le-ltb}
 use lib.Ieee.Nearest.{closest}
@@ -35,27 +34,6 @@ times_le a b c d h k =
     let e : c * b ≡ b * c = mul_comm c b in
     let f : d * b ≡ b * d = mul_comm d b in
     omega arith
-
-power_more : (b i : ℕ) → b ^ i * b ≡ b ^ (i + 1)
-power_more b i = sym (ap (λ (x : ℕ). b ^ x) (add-one i) ∙ pow-suc b i)
-
-power_room : (b i k : ℕ) → 0 < b → i < k → b ^ i * b ≤ b ^ k
-power_room b i k B h =
-    let e : b ^ i * b ≡ b ^ (i + 1) = power_more b i in
-    let l : b ^ (i + 1) ≤ b ^ k = pow-le-pow_right {n = b} B {i = i + 1} {j = k} (omega arith) in
-    omega arith
-
-pub power_fits : (b i k p : ℕ) → 0 < b → i < k → p ≡ b ^ i → b ^ k < 2 ^ 64 → p * b < 2 ^ 64
-power_fits b i k p B h e l =
-    let r : b ^ i * b ≤ b ^ k = power_room b i k B h in
-    let f : p * b ≡ b ^ i * b = ap (λ (x : ℕ). x * b) e in
-    omega arith
-
-pub power_next : (b i p : ℕ) → p ≡ b ^ i → p * b ≡ b ^ (i + 1)
-power_next b i p e = ap (λ (x : ℕ). x * b) e ∙ power_more b i
-
-pub power_done : (b i k p : ℕ) → p ≡ b ^ i → i ≤ k → k ≤ i → p ≡ b ^ k
-power_done b i k p e h l = let z : i ≡ k = omega arith in e ∙ ap (λ (x : ℕ). b ^ x) z
 
 pub ten_power : (d : ℕ) → d ≤ 6 → 10 ^ d ≤ 10 ^ 6
 ten_power d h = pow-le-pow_right {n = 10} (omega arith) {i = d} {j = 6} h

@@ -1,29 +1,15 @@
 // A double's bit pattern as a decimal, rounded to d digits behind the point in whole numbers alone.
-#![tactic(auto)]
+#![tactic(auto, using(text::proofs::Pens::pens))]
 
 ghost use Rattle.std.specs.Prelude.{◌≡◌, ◌&&◌, ◌+◌, ◌*◌, ◌≤◌, ◌<◌, ◌^◌, ltb, length};
 ghost use Rattle.std.specs.Float.Ieee.Nearest.{closest};
-ghost use Rattle.text.specs.Text.{dec_text};
-ghost use Rattle.text.specs.Wrote.{Wrote};
+ghost use Rattle.text.specs.Pens.{HasRoom, Writes};
 ghost use Rattle.text_rounded.specs.Rounded.{minus_in, largest, significand_of, shift_of, units_of, fixed_text, sign_text, rounded_text};
+
+use text::Pen;
 
 // Room for the longest text, -1099511627776.000000.
 pub const WIDEST: usize = 21;
-
-// b to the power of k.
-fn power(b: u64, k: usize) -> u64
-    requires base { 0 < b }
-    requires fits { b ^ k < 2 ^ 64 }
-    ensures { result ≡ b ^ k }
-{
-    let mut p: u64 = 1;
-    let mut i = 0;
-    while i < k {
-        p = p * b;
-        i += 1;
-    }
-    p
-}
 
 // (high · 2048 + low) / (half · 4096) to the nearest whole number, ties to even.
 fn nearest(high: u64, low: u64, half: u64) -> u64
@@ -83,39 +69,27 @@ pub fn units(a: u64, d: usize) -> u64
     if s > 74 {
         return 0;
     }
-    let scale = power(10, d);
+    let scale = 10u64.pow(d as u32);
     let low = m % 2048 * scale;
     let high = m / 2048 * scale + low / 2048;
-    nearest(high, low % 2048, power(2, (s - 12) as usize))
-}
-
-// A whole number of at most k + 1 digits.
-pub fn put_whole(out: &mut [u8], at: usize, n: u64, k: usize) -> usize
-    requires digits { n < 10 ^ (k + 1) }
-    requires room { at + k < length out.old }
-    ensures text { Wrote out.old at (dec_text k n) out.new result }
-    ensures short { result ≤ at + k + 1 }
-{
-    if n < 10 {
-        return text::put_byte(out, at, 48 + n as u8);
-    }
-    let r = put_whole(&mut *out, at, n / 10, k - 1);
-    text::put_byte(out, r, 48 + (n % 10) as u8)
+    nearest(high, low % 2048, 2u64.pow((s - 12) as u32))
 }
 
 // n units of 10^-d, with d digits behind the point.
-pub fn put_fixed(out: &mut [u8], at: usize, n: u64, d: usize) -> usize
+// It calls itself: the digits are written from the highest one, and no place is counted.
+#[tactic(auto, using(text::proofs::Pens::pens, crate::proofs::Writing::by_digits))]
+pub fn put_fixed(pen: &mut Pen, n: u64, d: usize)
     requires digits { n < 10 ^ (d + 13) }
-    requires room { at + (d + 14) ≤ length out.old }
-    ensures text { Wrote out.old at (fixed_text d n) out.new result }
-    ensures short { result ≤ at + (d + 14) }
+    requires room { HasRoom pen.old (d + 14) }
+    ensures { Writes pen.old (fixed_text d n) (d + 14) pen.new }
 {
     if d == 0 {
-        let r = put_whole(&mut *out, at, n, 12);
-        return text::put_byte(out, r, b'.');
+        pen.decimal(n, 12);
+        pen.byte(b'.');
+    } else {
+        put_fixed(pen, n / 10, d - 1);
+        pen.byte(48 + (n % 10) as u8);
     }
-    let r = put_fixed(&mut *out, at, n / 10, d - 1);
-    text::put_byte(out, r, 48 + (n % 10) as u8)
 }
 
 // Whether a double's sign bit is set.
@@ -129,43 +103,39 @@ fn is_minus(n: u64) -> bool
 fn is_below_zero(n: u64, units: u64) -> bool
     ensures { result ≡ (minus_in n && ltb 0 units) }
 {
-    if units == 0 {
-        return false;
-    }
-    is_minus(n)
+    units > 0 && is_minus(n)
 }
 
 // A minus sign, or nothing.
-fn put_sign(out: &mut [u8], at: usize, minus: bool) -> usize
-    requires { at + 1 ≤ length out.old }
-    ensures text { Wrote out.old at (sign_text minus) out.new result }
-    ensures short { result ≤ at + 1 }
+fn put_sign(pen: &mut Pen, minus: bool)
+    requires { HasRoom pen.old 1 }
+    ensures { Writes pen.old (sign_text minus) 1 pen.new }
 {
     if minus {
-        return text::put_byte(out, at, b'-');
+        pen.byte(b'-');
     }
-    at
 }
 
 // The double of the pattern n, with d digits behind the point; a word for one that is no number, or above 2^40 in magnitude.
-pub fn put_rounded(out: &mut [u8], at: usize, n: u64, d: usize) -> usize
+#[tactic(auto, using(text::proofs::Pens::pens, crate::proofs::Writing::the_cases, crate::proofs::Parts::units_short))]
+pub fn put_rounded(pen: &mut Pen, n: u64, d: usize)
     requires digits { d ≤ 6 }
-    requires room { at + 21 ≤ length out.old }
-    ensures text { Wrote out.old at (rounded_text d n) out.new result }
-    ensures short { result ≤ at + 21 }
+    requires room { HasRoom pen.old 21 }
+    ensures { Writes pen.old (rounded_text d n) 21 pen.new }
 {
     let a = n % 9223372036854775808;
     if a > 9218868437227405312 {
-        return text::put_word(out, at, b"nan");
-    }
-    if a > 4787326403894837248 {
-        let r = put_sign(&mut *out, at, is_minus(n));
+        pen.word(b"nan");
+    } else if a > 4787326403894837248 {
+        put_sign(pen, is_minus(n));
         if a == 9218868437227405312 {
-            return text::put_word(out, r, b"inf");
+            pen.word(b"inf");
+        } else {
+            pen.word(b"large");
         }
-        return text::put_word(out, r, b"large");
+    } else {
+        let u = units(a, d);
+        put_sign(pen, is_below_zero(n, u));
+        put_fixed(pen, u, d);
     }
-    let u = units(a, d);
-    let r = put_sign(&mut *out, at, is_below_zero(n, u));
-    put_fixed(out, r, u, d)
 }

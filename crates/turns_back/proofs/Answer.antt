@@ -1,5 +1,9 @@
 -- What an answer says of the curve: one that keeps its direction is never on the wrong side at a later place; one that turns in a segment is,
 -- at some place in it. Assumes nothing.
+use Rattle.turns_back.specs.declared.Turning.{Turning}
+use Rattle.turns_back.specs.declared.Turning.TheVariants.{Never, At}
+use Rattle.error.specs.declared.Refusal.{Refusal}
+use Rattle.std.specs.Prelude.{Result, Ok, Err}
 use mathlib.Core.Path.{◌≡◌, refl, sym, ap, ◌∙◌, subst}
 use mathlib.Core.Logic.{inl, inr, ⊎_elim}
 use mathlib.Core.Bool.{Bool, true, false, cond, ◌&&◌}
@@ -13,16 +17,13 @@ use lib.Dec.{T, ltb}
 use lib.ListN.{length, drop, get_or, get_or-map}
 use lib.Seq.{get_or-drop}
 use lib.Signed.{◌≤ℤ◌, ◌<ℤ◌}
-use Rattle.error.specs.declared.Verdict.{Verdict}
-use Rattle.error.specs.declared.Verdict.TheVariants.{Passed, Failed}
-use Rattle.error.specs.Refusals.{first}
+use Rattle.error.specs.Refusals.{first, Verdict}
 use Rattle.error.proofs.First.{never}
 use Rattle.basis.specs.declared.Basis.{Basis}
 use Rattle.basis.specs.Basis.{step_of, segments_of, whole_of}
 use Rattle.turns_back.specs.Curve.{value_at, cubic_never_falls, coefficient, curve_at, starts_no_lower, segment_never_falls, falls_from, first_fall}
 use Rattle.whole.specs.Held.{turned_all}
 use Rattle.turns_back.specs.Call.{turning_uses, turning, answered, turning_of, turns_back_by_of}
-use Rattle.turns_back.specs.declared.Turning.TheVariants.{Never, At}
 use Rattle.whole.proofs.Differences.{up, down, Is, itself, opposite, equal, times, le, of_le, lt, not_le, of_lt}
 use Rattle.turns_back.proofs.Everywhere.{NotAfter, never_lower}
 use Rattle.turns_back.proofs.Fall.{Down, falls}
@@ -63,21 +64,21 @@ module _ (b : Basis) (z : List ℤ) where
       go false e h f = e
 
 -- ---- the answer
-told : (v : Verdict) (s k : ℕ) → answered v (turning s k) ≡ Never → k ≤ s
-told Passed s k e = go (ltb s k) refl e
+told : (v : Verdict) (s k : ℕ) → answered v (turning s k) ≡ Ok Never → k ≤ s
+told (Ok _) s k e = go (ltb s k) refl e
   where
-    go : (t : Bool) → ltb s k ≡ t → cond t (At s) Never ≡ Never → k ≤ s
+    go : (t : Bool) → ltb s k ≡ t → ◌≡◌ {A = Result Turning Refusal} (Ok (cond t (At s) Never)) (Ok Never) → k ≤ s
     go true p q = never (cc)
     go false p q = ltb-false s k p
-told (Failed r) s k e = never (cc)
+told (Err r) s k e = never (cc)
 
-told_down : (v : Verdict) (s k r : ℕ) → answered v (turning s k) ≡ At r → (s ≡ r) × (s < k)
-told_down Passed s k r e = go (ltb s k) refl e
+told_down : (v : Verdict) (s k r : ℕ) → answered v (turning s k) ≡ Ok (At r) → (s ≡ r) × (s < k)
+told_down (Ok _) s k r e = go (ltb s k) refl e
   where
-    go : (t : Bool) → ltb s k ≡ t → cond t (At s) Never ≡ At r → (s ≡ r) × (s < k)
+    go : (t : Bool) → ltb s k ≡ t → ◌≡◌ {A = Result Turning Refusal} (Ok (cond t (At s) Never)) (Ok (At r)) → (s ≡ r) × (s < k)
     go true p q = (cc, ltb-true s k p)
     go false p q = never (cc)
-told_down (Failed r') s k r e = never (cc)
+told_down (Err r') s k r e = never (cc)
 
 -- ---- a falling table's curve, from that of the numbers with their signs changed
 module _ (b : Basis) (z : List ℤ) (s n j : ℕ) where
@@ -152,7 +153,7 @@ up_to b y i h =
     subst (λ (v : ℕ). T (segment_never_falls b y v)) e (all_before b y (segments_of b (length y)) 0 i (omega (arith, h)))
 
 -- ---- it keeps its direction: of two places the later is never on the wrong side of the earlier
-pub in_order_everywhere : (b : Basis) (t : Bool) (z : List ℤ) → turns_back_by_of b t z ≡ Never → (s n j s' n' j' : ℕ) → s' < segments_of b (length z)
+pub in_order_everywhere : (b : Basis) (t : Bool) (z : List ℤ) → turns_back_by_of b t z ≡ Ok Never → (s n j s' n' j' : ℕ) → s' < segments_of b (length z)
     → NotAfter s n j s' n' j'
     → before t (curve_at b z s n j *ℤ pos (n' * n' * n')) (curve_at b z s' n' j' *ℤ pos (n * n * n))
 unfolding turns_back_by_of turning_of first_fall
@@ -163,7 +164,7 @@ in_order_everywhere b t z e s n j s' n' j' l p =
     (never_lower b (turned_all t z) k (λ i m. up_to b (turned_all t z) i (omega (arith, h, m))) s n j s' n' j' l p)
 
 -- ---- it turns in segment r: in the segments before it, it does not
-pub in_order_before : (b : Basis) (t : Bool) (z : List ℤ) (r : ℕ) → turns_back_by_of b t z ≡ At r → (s n j s' n' j' : ℕ) → s' < r → NotAfter s n j s' n' j'
+pub in_order_before : (b : Basis) (t : Bool) (z : List ℤ) (r : ℕ) → turns_back_by_of b t z ≡ Ok (At r) → (s n j s' n' j' : ℕ) → s' < r → NotAfter s n j s' n' j'
     → before t (curve_at b z s n j *ℤ pos (n' * n' * n')) (curve_at b z s' n' j' *ℤ pos (n * n * n))
 unfolding turns_back_by_of turning_of
 in_order_before b t z r e s n j s' n' j' l p =
@@ -246,7 +247,7 @@ lower_in b z r e = go (starts_no_lower b z r) refl e
     go false p q = over_seam b z r p
 
 -- the segment that is told does not pass the test
-pub falls_at : (b : Basis) (t : Bool) (z : List ℤ) (r : ℕ) → turns_back_by_of b t z ≡ At r → segment_never_falls b (turned_all t z) r ≡ false
+pub falls_at : (b : Basis) (t : Bool) (z : List ℤ) (r : ℕ) → turns_back_by_of b t z ≡ Ok (At r) → segment_never_falls b (turned_all t z) r ≡ false
 unfolding turns_back_by_of turning_of first_fall
 falls_at b t z r e =
     let k = segments_of b (length z) in
@@ -261,7 +262,7 @@ falls_at b t z r e =
         let f = one_falls b y k 0 h' in
         subst (λ (v : ℕ). segment_never_falls b y v ≡ false) (ap (λ (m : ℕ). falls_from b y 0 m) q ∙ p) f
 
-pub turns_somewhere : (b : Basis) (t : Bool) (z : List ℤ) (r : ℕ) → turns_back_by_of b t z ≡ At r → Against b t z r
+pub turns_somewhere : (b : Basis) (t : Bool) (z : List ℤ) (r : ℕ) → turns_back_by_of b t z ≡ Ok (At r) → Against b t z r
 unfolding turns_back_by_of turning_of
 turns_somewhere b t z r e =
     let h = told_down (first (turning_uses b z)) (first_fall b (turned_all t z)) (segments_of b (length z)) r e in

@@ -1,4 +1,8 @@
 -- The curve's own ends: the segments that hold them, and how two numbers that are raised alike compare. Assumes nothing.
+use Rattle.turns_back.specs.declared.Turning.{Turning}
+use Rattle.error.specs.declared.Refusal.{Refusal}
+use Rattle.turns_back.specs.declared.Turning.TheVariants.{Flat}
+use Rattle.std.specs.Prelude.{Ok, Result}
 use mathlib.Core.Path.{◌≡◌, refl, sym, ap, ◌∙◌, subst}
 use mathlib.Core.Bool.{Bool, true, false, cond}
 use mathlib.Core.List.{List, []}
@@ -18,8 +22,6 @@ use Rattle.turns_back.specs.Call.{turning_of, start_of, end_of, way_of, by_way, 
 use Rattle.turns_back.specs.Four.{four_at, FourFrom}
 use Rattle.turns_back.specs.declared.Way.{Way}
 use Rattle.turns_back.specs.declared.Way.TheVariants.{Rising, Falling, Level}
-use Rattle.turns_back.specs.declared.Turning.{Turning}
-use Rattle.turns_back.specs.declared.Turning.TheVariants.{Flat}
 use Rattle.turns_back.proofs.Slopes.{four}
 use Rattle.turns_back.proofs.Seams.{true_of, not_so}
 use Rattle.turns_back.proofs.Verdicts.{four_there, starts}

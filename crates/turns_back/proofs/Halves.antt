@@ -1,11 +1,8 @@
--- A product of two numbers below 2^47, by halves of 24 bits, and the comparison of two such products. Assumes nothing.
-use mathlib.Core.Path.{◌≡◌, refl, sym, ap, ◌∙◌}
-use mathlib.Core.Bool.{Bool, true, false}
+-- A product of two numbers below 2^47, by halves of 24 bits. Assumes nothing.
+use mathlib.Core.Path.{◌≡◌, sym, ap, ◌∙◌}
 use Prim.Native.Nat.{ℕ, ◌+◌, ◌*◌, ◌/◌, ◌%◌, ◌≤◌, ◌<◌}
 use native.Mathlib.Nat.{mul-le-mul}
 use native.Mathlib.Omega.{arith}
-use lib.Dec.{leb}
-use borrow.Author.Tests.{leb-true, leb-false, le-leb, lt-leb}
 use Rattle.turns_back.specs.Product.{Wide}
 
 -- ---- the four products of the halves
@@ -53,18 +50,3 @@ wide x y =
           ∙ ap (λ (v : ℕ). x * v) ey;
       low = small_rest (xh * yl + xl * yh + xl * yl / 16777216) (xl * yl);
     }
-
--- ---- two products, by their parts
-module _ (b a c st sr pt pr : ℕ) (s : Wide b b st sr) (p : Wide a c pt pr) where
-  pub less : st < pt → true ≡ leb (b * b) (a * c)
-  less h = sym (le-leb (b * b) (a * c) (omega (arith, s.is, s.low, p.is)))
-
-  pub more : pt < st → false ≡ leb (b * b) (a * c)
-  more h = sym (lt-leb (b * b) (a * c) (omega (arith, s.is, p.low, p.is)))
-
-  pub level : pt ≤ st → st ≤ pt → leb sr pr ≡ leb (b * b) (a * c)
-  level h k = go (leb sr pr) refl
-    where
-      go : (t : Bool) → leb sr pr ≡ t → t ≡ leb (b * b) (a * c)
-      go true e = let l = leb-true sr pr e in sym (le-leb (b * b) (a * c) (omega (arith, s.is, p.is)))
-      go false e = let l = leb-false sr pr e in sym (lt-leb (b * b) (a * c) (omega (arith, s.is, p.is)))

@@ -1,4 +1,6 @@
 -- Knots in a direction, and what the call answers where every segment passes the test. Assumes nothing.
+use Rattle.turns_back.specs.declared.Turning.TheVariants.{Never}
+use Rattle.std.specs.Prelude.{Ok}
 use mathlib.Core.Path.{◌≡◌, refl, sym, ap, ◌∙◌, subst}
 use mathlib.Core.Bool.{Bool, true, false, cond}
 use mathlib.Core.List.{List}
@@ -8,7 +10,6 @@ use lib.IntN.{ℤ, pos}
 use lib.Dec.{T}
 use lib.ListN.{length, get_or, get_or-map}
 use lib.Signed.{◌≤ℤ◌}
-use Rattle.error.specs.declared.Verdict.TheVariants.{Passed}
 use Rattle.error.specs.Refusals.{first}
 use Rattle.basis.specs.declared.Basis.{Basis}
 use Rattle.basis.specs.Basis.{segments_of}
@@ -17,7 +18,6 @@ use Rattle.whole.proofs.Differences.{itself, opposite, le, of_le}
 use Rattle.whole.proofs.Held.{turned_long}
 use Rattle.turns_back.specs.Curve.{segment_never_falls, falls_from, first_fall}
 use Rattle.turns_back.specs.Call.{turning_uses, turning_of, turns_back_by_of}
-use Rattle.turns_back.specs.declared.Turning.TheVariants.{Never}
 use Rattle.turns_back.proofs.Verdicts.{climbs, given}
 use Rattle.turns_back.proofs.Answer.{before}
 
@@ -60,8 +60,8 @@ all_pass b z (suc k) s f =
     go true p e = omega (arith, e)
     go false p e = absurd p
 
-pub none_turns : (b : Basis) (t : Bool) (z : List ℤ) → first (turning_uses b z) ≡ Passed
-    → ((i : ℕ) → i < segments_of b (length z) → T (segment_never_falls b (turned_all t z) i)) → turns_back_by_of b t z ≡ Never
+pub none_turns : (b : Basis) (t : Bool) (z : List ℤ) → first (turning_uses b z) ≡ Ok tt
+    → ((i : ℕ) → i < segments_of b (length z) → T (segment_never_falls b (turned_all t z) i)) → turns_back_by_of b t z ≡ Ok Never
 unfolding first_fall turns_back_by_of
 none_turns b t z v f =
     let k = segments_of b (length z) in

@@ -1,4 +1,8 @@
 -- The call by the curve's own ends: it answers what the call by their direction does, and `Flat` just where they are equal. Assumes nothing.
+use Rattle.turns_back.specs.declared.Turning.{Turning}
+use Rattle.error.specs.declared.Refusal.{Refusal}
+use Rattle.turns_back.specs.declared.Turning.TheVariants.{Flat, Never, At}
+use Rattle.std.specs.Prelude.{Ok, Err, Result}
 use mathlib.Core.Path.{◌≡◌, refl, sym, ap, ◌∙◌, subst}
 use mathlib.Core.Bool.{Bool, true, false, cond, not}
 use mathlib.Core.List.{List}
@@ -8,15 +12,11 @@ use lib.IntN.{ℤ}
 use lib.Dec.{T, ltb}
 use lib.ListN.{length}
 use lib.Signed.{◌<ℤ◌, lt_z, lt_z_yes, lt_z_no}
-use Rattle.error.specs.declared.Verdict.{Verdict}
-use Rattle.error.specs.declared.Verdict.TheVariants.{Passed, Failed}
-use Rattle.error.specs.Refusals.{first}
+use Rattle.error.specs.Refusals.{first, Verdict}
 use Rattle.error.proofs.First.{never}
 use Rattle.basis.specs.declared.Basis.{Basis}
 use Rattle.basis.specs.Basis.{segments_of}
 use Rattle.whole.proofs.Differences.{itself, of_le, of_lt, alike}
-use Rattle.turns_back.specs.declared.Turning.{Turning}
-use Rattle.turns_back.specs.declared.Turning.TheVariants.{Flat, Never, At}
 use Rattle.turns_back.specs.Curve.{first_fall}
 use Rattle.turns_back.specs.Call.{turning_uses, turning, turning_of, start_of, end_of, by_ends, answered, turns_back_by_of, turns_back_of}
 use Rattle.whole.specs.Held.{turned_all}
@@ -52,25 +52,25 @@ module _ (b : Basis) (z : List ℤ) where
       none : (x y : ℤ) → x ≡ y → lt_z x y ≡ false
       none x y q = not_so (lt_z x y) (λ t. let l = of_lt (itself x) (itself x) (subst (λ (v : ℤ). x <ℤ v) (sym q) (lt_z_yes t)) in absurd (omega (arith, l)))
 
-  pub flat_where : start_of b z ≡ end_of b z → first (turning_uses b z) ≡ Passed → turns_back_of b z ≡ Flat
+  pub flat_where : start_of b z ≡ end_of b z → first (turning_uses b z) ≡ Ok tt → turns_back_of b z ≡ Ok Flat
   unfolding turns_back_of
-  flat_where p h = ap (λ (v : Verdict). answered v (by_ends s e b z)) h ∙ level p
+  flat_where p h = ap (λ (v : Verdict). answered v (by_ends s e b z)) h ∙ ap Ok (level p)
 
   -- ---- which of the three it was
-  no_flat : (v : Verdict) (i k : ℕ) → answered v (turning i k) ≡ Flat → Prim.⊥
-  no_flat Passed i k q = go (ltb i k) q
+  no_flat : (v : Verdict) (i k : ℕ) → answered v (turning i k) ≡ Ok Flat → Prim.⊥
+  no_flat (Ok _) i k q = go (ltb i k) q
     where
-      go : (t : Bool) → cond t (At i) Never ≡ Flat → Prim.⊥
+      go : (t : Bool) → ◌≡◌ {A = Result Turning Refusal} (Ok (cond t (At i) Never)) (Ok Flat) → Prim.⊥
       go true q = never (cc)
       go false q = never (cc)
-  no_flat (Failed r) i k q = never (cc)
+  no_flat (Err r) i k q = never (cc)
 
   -- by a direction it is never flat
-  pub by_never_flat : (t : Bool) → turns_back_by_of b t z ≡ Flat → Prim.⊥
+  pub by_never_flat : (t : Bool) → turns_back_by_of b t z ≡ Ok Flat → Prim.⊥
   unfolding turns_back_by_of turning_of
   by_never_flat t q = no_flat (first (turning_uses b z)) (first_fall b (turned_all t z)) (segments_of b (length z)) q
 
-  pub flat_only : turns_back_of b z ≡ Flat → start_of b z ≡ end_of b z
+  pub flat_only : turns_back_of b z ≡ Ok Flat → start_of b z ≡ end_of b z
   flat_only q = go (lt_z s e) refl (lt_z e s) refl
     where
       go : (t : Bool) → lt_z s e ≡ t → (u : Bool) → lt_z e s ≡ u → s ≡ e
@@ -82,12 +82,12 @@ module _ (b : Basis) (z : List ℤ) where
           alike (itself s) (itself e) (omega (arith, l, k))
 
   -- ---- an answer of the curve itself is that by the direction in which its ends lie
-  pub record Own (r : Turning) : Type 0 where
+  pub record Own (r : Result Turning Refusal) : Type 0 where
     pub up : Bool
     pub ends : after up (end_of b z) (start_of b z)
     pub same : turns_back_by_of b up z ≡ r
 
-  own : (r : Turning) → (r ≡ Flat → Prim.⊥) → first (turning_uses b z) ≡ Passed → turns_back_of b z ≡ r → Own r
+  own : (r : Result Turning Refusal) → (r ≡ Ok Flat → Prim.⊥) → first (turning_uses b z) ≡ Ok tt → turns_back_of b z ≡ r → Own r
   own r n v q = go (lt_z s e) refl (lt_z e s) refl
     where
       go : (t : Bool) → lt_z s e ≡ t → (u : Bool) → lt_z e s ≡ u → Own r
@@ -98,18 +98,18 @@ module _ (b : Basis) (z : List ℤ) where
           let k = of_le (itself s) (itself e) (lt_z_no (subst (λ (x : Bool). T (not x)) (sym w) tt)) in
           absurd (n (sym q ∙ flat_where (alike (itself s) (itself e) (omega (arith, l, k))) v))
 
-  answers : (v : Verdict) (t : Turning) → answered v t ≡ Never → v ≡ Passed
-  answers Passed t q = refl
-  answers (Failed r) t q = never (cc)
+  answers : (v : Verdict) (t : Turning) → answered v t ≡ Ok Never → v ≡ Ok tt
+  answers (Ok _) t q = refl
+  answers (Err r) t q = never (cc)
 
-  answers_at : (v : Verdict) (t : Turning) (r : ℕ) → answered v t ≡ At r → v ≡ Passed
-  answers_at Passed t r q = refl
-  answers_at (Failed r') t r q = never (cc)
+  answers_at : (v : Verdict) (t : Turning) (r : ℕ) → answered v t ≡ Ok (At r) → v ≡ Ok tt
+  answers_at (Ok _) t r q = refl
+  answers_at (Err r') t r q = never (cc)
 
-  pub own_never : turns_back_of b z ≡ Never → Own Never
+  pub own_never : turns_back_of b z ≡ Ok Never → Own (Ok Never)
   unfolding turns_back_of
-  own_never q = own Never (λ f. never (cc)) (answers (first (turning_uses b z)) (by_ends s e b z) q) q
+  own_never q = own (Ok Never) (λ f. never (cc)) (answers (first (turning_uses b z)) (by_ends s e b z) q) q
 
-  pub own_at : (r : ℕ) → turns_back_of b z ≡ At r → Own (At r)
+  pub own_at : (r : ℕ) → turns_back_of b z ≡ Ok (At r) → Own (Ok (At r))
   unfolding turns_back_of
-  own_at r q = own (At r) (λ f. never (cc)) (answers_at (first (turning_uses b z)) (by_ends s e b z) r q) q
+  own_at r q = own (Ok (At r)) (λ f. never (cc)) (answers_at (first (turning_uses b z)) (by_ends s e b z) r q) q

@@ -185,6 +185,11 @@ power_later t ks (suc s) a c d e f h ia ic id ie if' =
     read : {m n : ℕ} → m ≡ n → turned t (held (get_or ks m (pos 0))) ≡ get_or (turned_all t (held_all ks)) n (pos 0)
     read {m} {n} p = ap (λ (k : ℕ). turned t (held (get_or ks k (pos 0)))) p ∙ sym (turned_knot t ks n)
 
--- in the arm of a basis
-pub in_arm : (z : List ℤ) (s : ℕ) (b c : Basis) {t : Bool} → b ≡ c → t ≡ starts_no_lower c z s → t ≡ starts_no_lower b z s
-in_arm z s b c e h = h ∙ ap (λ (d : Basis). starts_no_lower d z s) (sym e)
+-- of every basis but Power
+pub others_start : (b : Basis) (z : List ℤ) (s : ℕ) → (b ≡ Power → ⊥) → true ≡ starts_no_lower b z s
+others_start Bspline z s n = bspline_starts z s
+others_start Bezier z s n = bezier_starts z s
+others_start CatmullRom z s n = catmull_rom_starts z s
+others_start Hermite z s n = hermite_starts z s
+others_start Linear z s n = linear_starts z s
+others_start Power z s n = absurd (n refl)

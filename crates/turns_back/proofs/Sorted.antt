@@ -1,4 +1,6 @@
 -- Of B-spline, Bezier and Linear knots in order are enough: the curve never falls. Assumes nothing.
+use Rattle.turns_back.specs.declared.Turning.TheVariants.{Never}
+use Rattle.std.specs.Prelude.{Ok}
 use mathlib.Core.Path.{◌≡◌, subst}
 use mathlib.Core.Bool.{Bool, true, false}
 use mathlib.Core.List.{List, []}
@@ -11,7 +13,6 @@ use lib.ListN.{length, drop, get_or}
 use lib.Seq.{get_or-drop}
 use lib.Signed.{non_neg, ◌≤ℤ◌}
 use lib.Ieee.Fits.{and_i}
-use Rattle.error.specs.declared.Verdict.TheVariants.{Passed}
 use Rattle.error.specs.Refusals.{first}
 use Rattle.basis.specs.declared.Basis.{Basis}
 use Rattle.basis.specs.declared.Basis.TheVariants.{Bspline, Bezier, CatmullRom, Hermite, Linear, Power}
@@ -21,7 +22,6 @@ use Rattle.turns_back.specs.Curve.{never_falls, cubic_never_falls, coefficient, 
 use Rattle.whole.specs.Held.{turned_all}
 use Rattle.whole.proofs.Held.{turned_long}
 use Rattle.turns_back.specs.Call.{turning_uses, turns_back_by_of}
-use Rattle.turns_back.specs.declared.Turning.TheVariants.{Never}
 use Rattle.turns_back.proofs.Verdicts.{passed, starts}
 use Rattle.turns_back.proofs.InOrder.{InOrder, turn_pair, none_turns}
 use Rattle.whole.proofs.Differences.{up, down, Is, itself, plus, times, of_le}
@@ -113,8 +113,8 @@ sorted_rises b t z o s h =
     (subst (λ (x : Bool). T x) (starts_above b t z s) tt) (four_rise y (next 0 (omega arith)) (next 1 (omega arith)) (next 2 (omega arith)) b t)
 
 -- over knots in order they never turn back
-pub sorted_never_turns : (b : Basis) → T (keeps_order b) → (t : Bool) (z : List ℤ) → InOrder t z → first (turning_uses b z) ≡ Passed
-    → turns_back_by_of b t z ≡ Never
+pub sorted_never_turns : (b : Basis) → T (keeps_order b) → (t : Bool) (z : List ℤ) → InOrder t z → first (turning_uses b z) ≡ Ok tt
+    → turns_back_by_of b t z ≡ Ok Never
 sorted_never_turns b k t z o v =
     none_turns b t z v
     (λ s l. sorted_rises b k (turned_all t z) (λ i m. turn_pair t z i (suc i) (o.each i (omega (arith, m, turned_long t z)))) s

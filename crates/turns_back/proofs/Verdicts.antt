@@ -1,4 +1,7 @@
 -- The call, by the tests as the code makes them: refusals, the knots of a segment, the first segment that falls. Assumes nothing.
+use Rattle.turns_back.specs.declared.Turning.{Turning}
+use Rattle.turns_back.specs.declared.Turning.TheVariants.{Never, At}
+use Rattle.std.specs.Prelude.{Ok, Err, Result}
 use mathlib.Core.Path.{◌≡◌, refl, sym, ap, ◌∙◌}
 use mathlib.Core.Bool.{Bool, true, false, cond, ◌&&◌}
 use mathlib.Core.List.{List, []}
@@ -11,9 +14,7 @@ use lib.Seq.{get_or-drop}
 use borrow.Author.Tests.{ltb-false, lt-ltb, le-ltb}
 use Rattle.error.specs.declared.Refusal.{Refusal}
 use Rattle.error.specs.declared.Refusal.TheVariants.{BadKnot}
-use Rattle.error.specs.declared.Verdict.{Verdict}
-use Rattle.error.specs.declared.Verdict.TheVariants.{Passed, Failed}
-use Rattle.error.specs.Refusals.{first}
+use Rattle.error.specs.Refusals.{first, Verdict}
 use Rattle.error.proofs.First.{stops, goes_on, clear}
 use Rattle.basis.specs.declared.Basis.{Basis}
 use Rattle.basis.specs.Basis.{step_of, segments_of, whole_of}
@@ -24,21 +25,19 @@ use Rattle.turns_back.specs.Curve.{coefficient, cubic_never_falls, starts_no_low
 use Rattle.whole.specs.Held.{turned_all, first_large, Small}
 use Rattle.turns_back.specs.Call.{most, turning_uses, turning, turning_of, answered}
 use Rattle.turns_back.specs.Four.{four_never_fall}
-use Rattle.turns_back.specs.declared.Turning.{Turning}
-use Rattle.turns_back.specs.declared.Turning.TheVariants.{Refused, Never, At}
 use Rattle.turns_back.proofs.Slopes.{four}
 use Rattle.whole.proofs.Held.{all_small}
 
 -- ---- refusals
 module _ (b : Basis) (z : List ℤ) {l : Verdict} (e : l ≡ first (curve_length b (length z))) where
-  pub short : {r : Refusal} → l ≡ Failed r → l ≡ first (turning_uses b z)
+  pub short : {r : Refusal} → l ≡ Err r → l ≡ first (turning_uses b z)
   short k = stops (turning_uses b z) e k
 
-  pub too_large : l ≡ Passed → (i : ℕ) → i ≡ first_large most z → i < length z → Failed (BadKnot i) ≡ first (turning_uses b z)
+  pub too_large : l ≡ Ok tt → (i : ℕ) → i ≡ first_large most z → i < length z → Err (BadKnot i) ≡ first (turning_uses b z)
   too_large k i p h =
-      goes_on (turning_uses b z) e k (simp (lt-ltb (first_large most z) (length z) (omega (arith, p, h))) (ap (λ (n : ℕ). Failed (BadKnot n)) p))
+      goes_on (turning_uses b z) e k (simp (lt-ltb (first_large most z) (length z) (omega (arith, p, h))) (ap (λ (n : ℕ). Err (BadKnot n)) p))
 
-  pub passes : l ≡ Passed → length z ≤ first_large most z → Passed ≡ first (turning_uses b z)
+  pub passes : l ≡ Ok tt → length z ≤ first_large most z → Ok tt ≡ first (turning_uses b z)
   passes k h = goes_on (turning_uses b z) e k (simp (le-ltb (first_large most z) (length z) h))
 
 pub record Passing (z : List ℤ) : Type 0 where
@@ -46,7 +45,7 @@ pub record Passing (z : List ℤ) : Type 0 where
   pub few : length z ≤ 4096
   pub small : Small most z
 
-pub passed : (b : Basis) (z : List ℤ) → first (turning_uses b z) ≡ Passed → Passing z
+pub passed : (b : Basis) (z : List ℤ) → first (turning_uses b z) ≡ Ok tt → Passing z
 passed b z e =
     let c = clear (turning_uses b z) e in
     record {
@@ -133,8 +132,8 @@ module _ (b : Basis) (t : Bool) (z : List ℤ) (s : ℕ) (p : s ≡ first_fall b
   climbs l = sym (ap (λ (n : ℕ). turning n k) (sym p) ∙ ap (λ (c : Bool). cond c (At s) Never) (le-ltb s k l))
 
 -- after the verdict
-pub refused : {v w : Verdict} {r : Refusal} (t : Turning) → v ≡ w → v ≡ Failed r → Refused r ≡ answered w t
+pub refused : {v w : Verdict} {r : Refusal} (t : Turning) → v ≡ w → v ≡ Err r → Err r ≡ answered w t
 refused t e h = sym (ap (λ (w : Verdict). answered w t) (sym e ∙ h))
 
-pub given : {v w : Verdict} {r : Turning} (t : Turning) → v ≡ w → v ≡ Passed → r ≡ t → r ≡ answered w t
-given t e h q = q ∙ sym (ap (λ (w : Verdict). answered w t) (sym e ∙ h))
+pub given : {v w : Verdict} {r : Turning} (t : Turning) → v ≡ w → v ≡ Ok tt → r ≡ t → Ok r ≡ answered w t
+given t e h q = ap Ok q ∙ sym (ap (λ (w : Verdict). answered w t) (sym e ∙ h))

@@ -1,10 +1,11 @@
 -- The two calls: the refusals, then the first segment that goes against the direction. Definitions only.
-use Rattle.std.specs.Prelude.{Bool, true, false, cond, List, [], ◌∷◌, ◌++◌, ℕ, ◌-◌, ltb, ℤ, length}
+use Rattle.turns_back.specs.declared.Turning.{Turning}
+use Rattle.error.specs.declared.Refusal.{Refusal}
+use Rattle.turns_back.specs.declared.Turning.TheVariants.{Flat, Never, At}
+use Rattle.std.specs.Prelude.{Bool, true, false, cond, List, [], ◌∷◌, ◌++◌, ℕ, ◌-◌, ltb, ℤ, length, Ok, Err, Result}
 use Rattle.std.specs.Int.Signed.{lt_z}
 use Rattle.error.specs.declared.Refusal.TheVariants.{BadKnot}
-use Rattle.error.specs.declared.Verdict.{Verdict}
-use Rattle.error.specs.declared.Verdict.TheVariants.{Passed, Failed}
-use Rattle.error.specs.Refusals.{Uses, first}
+use Rattle.error.specs.Refusals.{Uses, first, Verdict}
 use Rattle.basis.specs.declared.Basis.{Basis}
 use Rattle.basis.specs.Basis.{segments_of}
 use Rattle.checks.specs.Checks.{curve_length}
@@ -12,8 +13,6 @@ use Rattle.whole.specs.Held.{turned_all, first_large}
 use Rattle.turns_back.specs.Curve.{curve_at, first_fall}
 use Rattle.turns_back.specs.declared.Way.{Way}
 use Rattle.turns_back.specs.declared.Way.TheVariants.{Rising, Falling, Level}
-use Rattle.turns_back.specs.declared.Turning.{Turning}
-use Rattle.turns_back.specs.declared.Turning.TheVariants.{Refused, Flat, Never, At}
 
 -- the greatest magnitude of a knot
 abbrev pub most : ℕ
@@ -52,16 +51,16 @@ by_way Level b z = Flat
 abbrev pub by_ends : ℤ → ℤ → Basis → List ℤ → Turning
 by_ends s e b z = cond (lt_z s e) (turning_of b true z) (cond (lt_z e s) (turning_of b false z) Flat)
 
-abbrev pub answered : Verdict → Turning → Turning
-answered Passed t = t
-answered (Failed r) t = Refused r
+abbrev pub answered : Verdict → Turning → Result Turning Refusal
+answered (Ok _) t = Ok t
+answered (Err r) t = Err r
 
 -- the call with a direction given
-unfoldable pub turns_back_by_of : Basis → Bool → List ℤ → Turning
+unfoldable pub turns_back_by_of : Basis → Bool → List ℤ → Result Turning Refusal
 unfolding first_large turning_of
 turns_back_by_of b up z = answered (first (turning_uses b z)) (turning_of b up z)
 
 -- the call with the direction of the curve's own ends
-unfoldable pub turns_back_of : Basis → List ℤ → Turning
+unfoldable pub turns_back_of : Basis → List ℤ → Result Turning Refusal
 unfolding first_large turning_of start_of end_of
 turns_back_of b z = answered (first (turning_uses b z)) (by_ends (start_of b z) (end_of b z) b z)

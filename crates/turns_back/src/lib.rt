@@ -4,6 +4,7 @@
 ghost use Rattle.std.specs.Prelude.{◌≡◌, [], ◌∷◌, ◌+◌, ◌-◌, ◌*◌, ◌≤◌, ◌<◌, leb, nat_abs, length, drop};
 ghost use Rattle.std.proofs.Math.IntN.{sub_ℕ};
 ghost use Rattle.error.specs.Refusals.{first};
+ghost use Rattle.error.specs.Found.{Found};
 ghost use Rattle.basis.specs.declared.Basis.TheVariants.{Power};
 ghost use Rattle.basis.specs.Basis.{most_knots, step_of, segments_of};
 ghost use Rattle.whole.specs.Held.{held_all, turned, turned_all, Small};
@@ -13,11 +14,10 @@ ghost use Rattle.turns_back.specs.Call.{most, turning_uses, turning_of, start_of
 ghost use Rattle.turns_back.specs.Four.{four_never_fall, four_at, FourFrom};
 
 use basis::Basis;
-use error::{Refusal, Verdict};
+use error::Refusal;
 
 #[derive(Clone, Copy)]
 pub enum Turning {
-    Refused(Refusal),
     Flat,
     Never,
     At(u16),
@@ -31,8 +31,8 @@ pub enum Way {
     Level,
 }
 
-// A product in two parts: the higher in 2^48s.
-#[derive(Clone, Copy)]
+// A product in two parts, the higher in 2^48s: it decides an order.
+#[derive(Clone, Copy, PartialEq, Eq, PartialOrd, Ord)]
 struct Parts {
     top: u64,
     rest: u64,
@@ -52,10 +52,7 @@ fn product(x: u64, y: u64) -> Parts
     let mid = xh * yl + xl * yh + low / 16777216;
     let top = xh * yh + mid / 16777216;
     let rest = mid % 16777216 * 16777216 + low % 16777216;
-    Parts {
-        top: top,
-        rest: rest,
-    }
+    Parts { top, rest }
 }
 
 // Whether b² is at most a × c.
@@ -65,15 +62,7 @@ fn is_square_within(b: u64, a: u64, c: u64) -> bool
     requires c { c < 140737488355328 }
     ensures { result ≡ leb (b * b) (a * c) }
 {
-    let s = product(b, b);
-    let p = product(a, c);
-    if s.top < p.top {
-        return true;
-    }
-    if p.top < s.top {
-        return false;
-    }
-    s.rest <= p.rest
+    product(b, b) <= product(a, c)
 }
 
 // The three slopes p0 − n0, p1 − n1 and p2 − n2: whether the quadratic that they make is never negative.
@@ -144,12 +133,8 @@ pub fn is_start_no_lower(b: Basis, up: bool, knots: &[i64], s: usize) -> bool
     ensures { result ≡ starts_no_lower b (turned_all up (held_all knots.now)) s }
 {
     match b {
-        Basis::Bspline => true,
-        Basis::Bezier => true,
-        Basis::CatmullRom => true,
-        Basis::Hermite => true,
-        Basis::Linear => true,
         Basis::Power => is_power_start_no_lower(up, knots, s),
+        _ => true,
     }
 }
 
@@ -192,12 +177,7 @@ fn four_from(up: bool, knots: &[i64], at: usize) -> Four
     let k1 = raised(up, knots[at + 1]);
     let k2 = raised(up, knots[at + 2]);
     let k3 = raised(up, knots[at + 3]);
-    Four {
-        k0: k0,
-        k1: k1,
-        k2: k2,
-        k3: k3,
-    }
+    Four { k0, k1, k2, k3 }
 }
 
 // One segment of a curve, whose knots start at a place.
@@ -224,38 +204,31 @@ fn is_segment_never_falling(b: Basis, up: bool, knots: &[i64], s: usize) -> bool
     is_never_falling_at(b, up, knots, s * basis::step(b))
 }
 
-// The first segment that falls; the number of segments where none does.
-fn first_fall(b: Basis, up: bool, knots: &[i64]) -> usize
+// The first segment that falls, if one does.
+fn first_fall(b: Basis, up: bool, knots: &[i64]) -> Option<usize>
     requires enough { 4 ≤ length knots.now }
     requires few { length knots.now ≤ most_knots }
     requires small { Small most (held_all knots.now) }
-    ensures first { result ≡ first_fall b (turned_all up (held_all knots.now)) }
-    ensures within { result ≤ segments_of b (length knots.now) }
+    ensures { Found (segments_of b (length knots.now)) (first_fall b (turned_all up (held_all knots.now))) result }
 {
     let n = basis::segments(b, knots.len());
-    let mut s = 0;
-    while s < n {
+    for s in 0..n {
         if !is_segment_never_falling(b, up, knots, s) {
-            return s;
+            return Some(s);
         }
-        s += 1;
     }
-    s
+    None
 }
 
 // Refusals 1, 2, 3 and 4.
-fn verdict(b: Basis, knots: &[i64]) -> Verdict
+fn verdict(b: Basis, knots: &[i64]) -> Result<(), Refusal>
     ensures { result ≡ first (turning_uses b (held_all knots.now)) }
 {
-    let l = checks::curve_length(b, knots.len());
-    let Verdict::Passed = l else {
-        return l;
-    };
-    let i = whole::first_large(1000000000000, knots);
-    if i < knots.len() {
-        return Verdict::Failed(Refusal::BadKnot(i as u16));
+    checks::curve_length(b, knots.len())?;
+    if let Some(i) = whole::first_large(1000000000000, knots) {
+        return Err(Refusal::BadKnot(i as u16));
     }
-    Verdict::Passed
+    Ok(())
 }
 
 // Where it turns back: the first segment that falls, or, where `up` is not said, that rises.
@@ -265,22 +238,18 @@ fn in_direction(b: Basis, up: bool, knots: &[i64]) -> Turning
     requires small { Small most (held_all knots.now) }
     ensures { result ≡ turning_of b up (held_all knots.now) }
 {
-    let s = first_fall(b, up, knots);
-    if s < basis::segments(b, knots.len()) {
-        return Turning::At(s as u16);
+    match first_fall(b, up, knots) {
+        Some(s) => Turning::At(s as u16),
+        None => Turning::Never,
     }
-    Turning::Never
 }
 
 // Whether the curve goes against a direction: rising, whether it falls anywhere; else, whether it rises.
-pub fn turns_back_by(b: Basis, up: bool, knots: &[i64]) -> Turning
+pub fn turns_back_by(b: Basis, up: bool, knots: &[i64]) -> Result<Turning, Refusal>
     ensures { result ≡ turns_back_by_of b up (held_all knots.now) }
 {
-    let v = verdict(b, knots);
-    match v {
-        Verdict::Failed(r) => Turning::Refused(r),
-        Verdict::Passed => in_direction(b, up, knots),
-    }
+    verdict(b, knots)?;
+    Ok(in_direction(b, up, knots))
 }
 
 // The start of a segment over four knots, each raised by 10^12: times the basis's divisor, and raised by 6 × 10^12.
@@ -365,12 +334,9 @@ fn by_ends(b: Basis, knots: &[i64]) -> Turning
 }
 
 // Whether the curve goes against the direction from its own start to its own end: exactly, whatever way its knots go.
-pub fn turns_back(b: Basis, knots: &[i64]) -> Turning
+pub fn turns_back(b: Basis, knots: &[i64]) -> Result<Turning, Refusal>
     ensures { result ≡ turns_back_of b (held_all knots.now) }
 {
-    let v = verdict(b, knots);
-    match v {
-        Verdict::Failed(r) => Turning::Refused(r),
-        Verdict::Passed => by_ends(b, knots),
-    }
+    verdict(b, knots)?;
+    Ok(by_ends(b, knots))
 }

@@ -1,4 +1,9 @@
 -- The answers, by the tests as the code makes them. The count has room for one more, since the inversion's is bounded. Assumes nothing.
+use Rattle.uneven.specs.declared.DepthMiss.{DepthMiss}
+use Rattle.uneven.specs.declared.Depth.{Depth}
+use Rattle.inverse_segment.specs.Inversion.{Inversion}
+use Rattle.inverse_segment.specs.declared.Miss.TheVariants.{Refused, OffCurve}
+use Rattle.std.specs.Prelude.{Ok, Err, Result}
 use mathlib.Core.Path.{◌≡◌, refl, sym, ap, ◌∙◌}
 use mathlib.Core.Bool.{Bool, true, false, not}
 use mathlib.Core.List.{List}
@@ -7,23 +12,17 @@ use native.Mathlib.Omega.{arith}
 use lib.Dec.{ltb, eqb}
 use lib.ListN.{length}
 use lib.Ieee.{Float, is_nan}
-use Rattle.error.specs.declared.Verdict.{Verdict}
-use Rattle.error.specs.declared.Verdict.TheVariants.{Passed, Failed}
-use Rattle.error.specs.Refusals.{first}
+use Rattle.error.specs.Refusals.{first, Verdict}
 use Rattle.basis.specs.declared.Basis.{Basis}
 use Rattle.basis.specs.Basis.{regular, segments_of}
 use Rattle.checks.specs.Checks.{all_in_range}
-use Rattle.spline.specs.declared.Evaluation.{Evaluation}
-use Rattle.spline.specs.Evaluation.{spline_of}
-use Rattle.inverse_segment.specs.declared.Inversion.{Inversion}
-use Rattle.inverse_segment.specs.declared.Inversion.TheVariants.{Refused as NotInverted, OffCurve as Off, At as Found}
+use Rattle.spline.specs.Evaluation.{spline_of, Evaluation}
 use Rattle.inverse_segment.specs.Answer.{count_told}
 use Rattle.inverse_segment.specs.declared.Method.TheVariants.{AsCrate}
 use Rattle.inverse_order.specs.declared.EndsBy.TheVariants.{Knots}
 use Rattle.inverse.specs.Inverse.{inverse_of}
 use Rattle.inverse.proofs.Most.{bound_small}
 use Rattle.inverse.proofs.Promises.{inverse_bounded}
-use Rattle.uneven.specs.declared.DepthAnswer.{DepthAnswer}
 use Rattle.uneven.specs.Uneven.{depth_uses, sounded, depth_of}
 use Rattle.uneven.specs.Contract.{asked_at, verdict_of}
 use Rattle.uneven.proofs.Call.{asked_number}
@@ -55,12 +54,12 @@ room b y ks limit ε {a} l e =
 -- ---- the answer
 -- what is looked at is the evaluation at the place alone
 at_place : (v : Verdict) (a : Inversion) (f : Float → Evaluation) → sounded v a (λ _. f (asked_at a)) ≡ sounded v a f
-at_place Passed (NotInverted r) f = refl
-at_place Passed (Off n) f = refl
-at_place Passed (Found p) f = refl
-at_place (Failed q) (NotInverted r) f = refl
-at_place (Failed q) (Off n) f = refl
-at_place (Failed q) (Found p) f = refl
+at_place (Ok _) (Err (Refused r)) f = refl
+at_place (Ok _) (Err (OffCurve n)) f = refl
+at_place (Ok _) (Ok p) f = refl
+at_place (Err q) (Err (Refused r)) f = refl
+at_place (Err q) (Err (OffCurve n)) f = refl
+at_place (Err q) (Ok p) f = refl
 
 module _ (tb db : Basis) (ts ds : List Float) (y : Float) (limit : ℕ) (ε : Float) {a : Inversion} {e : Evaluation} {k j : ℕ} {v w : Verdict}
     (inverted : a ≡ inverse_of tb y ts true limit ε) (evaluated : e ≡ spline_of db (asked_at a) ds) (times : k ≡ segments_of tb (length ts))
@@ -71,7 +70,7 @@ module _ (tb db : Basis) (ts ds : List Float) (y : Float) (limit : ℕ) (ε : Fl
       ∙ ap (λ (n : ℕ). verdict_of (spline_of db (asked_at a) ds) (eqb (segments_of tb (length ts)) n)) depths
       ∙ depths_verdict tb (length ts) db ds (asked_at a) (asked_number tb ts y limit ε a inverted)
 
-  pub answered : {r : DepthAnswer} → r ≡ sounded w a (λ _. e) → r ≡ depth_of tb ts db ds y limit ε
+  pub answered : {r : Result Depth DepthMiss} → r ≡ sounded w a (λ _. e) → r ≡ depth_of tb ts db ds y limit ε
   unfolding depth_of
   answered h =
       h

@@ -1,20 +1,17 @@
 -- The depths' refusals as the code has them: from their evaluation, and whether both tables have as many segments. Definitions only.
-use Rattle.std.specs.Prelude.{Bool, cond, Float}
+use Rattle.inverse_segment.specs.Inversion.{Inversion}
+use Rattle.inverse_segment.specs.declared.Miss.TheVariants.{Refused, OffCurve}
+use Rattle.spline.specs.Evaluation.{Evaluation}
+use Rattle.error.specs.Refusals.{Verdict}
+use Rattle.std.specs.Prelude.{Bool, cond, Float, Ok, Err}
 use Rattle.error.specs.declared.Refusal.TheVariants.{UnequalSegments}
-use Rattle.error.specs.declared.Verdict.{Verdict}
-use Rattle.error.specs.declared.Verdict.TheVariants.{Passed, Failed}
 use Rattle.doubles.specs.Numbers.{nought}
-use Rattle.spline.specs.declared.Evaluation.{Evaluation}
-use Rattle.spline.specs.declared.Evaluation.TheVariants.{Value, Refused}
-use Rattle.inverse_segment.specs.declared.Inversion.{Inversion}
-use Rattle.inverse_segment.specs.declared.Inversion.TheVariants.{Refused as NotInverted, OffCurve, At}
 
 -- where the depths are evaluated
 abbrev pub asked_at : Inversion → Float
-asked_at (NotInverted r) = nought
-asked_at (OffCurve n) = nought
-asked_at (At p) = p.parameter
+asked_at (Err m) = nought
+asked_at (Ok p) = p.parameter
 
 abbrev pub verdict_of : Evaluation → Bool → Verdict
-verdict_of (Refused r) equal = Failed r
-verdict_of (Value d) equal = cond equal Passed (Failed UnequalSegments)
+verdict_of (Err r) equal = Err r
+verdict_of (Ok d) equal = cond equal (Ok tt) (Err UnequalSegments)

@@ -7,9 +7,8 @@ ghost use Rattle.uneven.specs.Uneven.{depth_at, suited, unsuited, depth_of};
 ghost use Rattle.uneven.specs.Contract.{asked_at, verdict_of};
 
 use basis::Basis;
-use error::{Refusal, Verdict};
-use inverse_segment::{Inversion, Place};
-use spline::Evaluation;
+use error::Refusal;
+use inverse_segment::{Miss, Place};
 
 // Which of the two tables a refusal is about.
 #[derive(Clone, Copy)]
@@ -26,75 +25,73 @@ pub struct Depth {
     pub count: u32,
 }
 
-// Refused by a row of a table, the target not on the curve of the times after so many evaluations, or a depth.
+// Why there is no depth: a row of the table refuses one of the tables, and which; or the time is not on the curve, after so many evaluations.
 #[derive(Clone, Copy)]
-pub enum DepthAnswer {
+pub enum DepthMiss {
     Refused(WhichTable, Refusal),
     OffCurve(usize),
-    At(Depth),
 }
 
 // Where the depths are evaluated: at the parameter of the place, and at 0 where there is none, for what they are refused with.
-fn asked_at(a: Inversion) -> f64
+fn asked_at(a: Result<Place, Miss>) -> f64
     ensures { result ≡ asked_at a }
 {
     match a {
-        Inversion::Refused(_) => 0.0,
-        Inversion::OffCurve(_) => 0.0,
-        Inversion::At(p) => p.parameter,
+        Ok(p) => p.parameter,
+        Err(_) => 0.0,
     }
 }
 
 // The rows of the depths: those of their evaluation, then 18.
-fn depths_verdict(e: Evaluation, equal: bool) -> Verdict
+fn depths_verdict(e: Result<f64, Refusal>, equal: bool) -> Result<(), Refusal>
     ensures { result ≡ verdict_of e equal }
 {
     match e {
-        Evaluation::Refused(r) => Verdict::Failed(r),
-        Evaluation::Value(_) => {
+        Err(r) => Err(r),
+        Ok(_) => {
             if equal {
-                return Verdict::Passed;
+                return Ok(());
             }
-            Verdict::Failed(Refusal::UnequalSegments)
+            Err(Refusal::UnequalSegments)
         }
     }
 }
 
 // The depth at a place, and one evaluation more.
-fn depth_of(p: Place, e: Evaluation) -> DepthAnswer
+fn depth_of(p: Place, e: Result<f64, Refusal>) -> Result<Depth, DepthMiss>
     requires { p.count < 4294967295 }
     ensures { result ≡ depth_at p e }
 {
     match e {
-        Evaluation::Value(d) => DepthAnswer::At(Depth {
+        Ok(d) => Ok(Depth {
             depth: d,
             place: p,
             count: p.count + 1,
         }),
-        Evaluation::Refused(r) => DepthAnswer::Refused(WhichTable::Depths, r),
+        Err(r) => Err(DepthMiss::Refused(WhichTable::Depths, r)),
     }
 }
 
 // Where no row of the depths applies.
-fn suited(a: Inversion, e: Evaluation) -> DepthAnswer
+fn suited(a: Result<Place, Miss>, e: Result<f64, Refusal>) -> Result<Depth, DepthMiss>
     requires { count_told a < 4294967295 }
     ensures { result ≡ suited a (λ _. e) }
 {
     match a {
-        Inversion::Refused(r) => DepthAnswer::Refused(WhichTable::Times, r),
-        Inversion::OffCurve(n) => DepthAnswer::OffCurve(n),
-        Inversion::At(p) => depth_of(p, e),
+        Err(Miss::Refused(r)) => Err(DepthMiss::Refused(WhichTable::Times, r)),
+        Err(Miss::OffCurve(n)) => Err(DepthMiss::OffCurve(n)),
+        Ok(p) => depth_of(p, e),
     }
 }
 
 // The reply where the depths are refused with r: a refusal of the times comes before r, but 11 comes after it.
-fn unsuited(a: Inversion, r: Refusal) -> DepthAnswer
+fn unsuited(a: Result<Place, Miss>, r: Refusal) -> Result<Depth, DepthMiss>
     ensures { result ≡ unsuited a r }
 {
     match a {
-        Inversion::Refused(q) => DepthAnswer::Refused(WhichTable::Times, q),
-        Inversion::OffCurve(_) => DepthAnswer::Refused(WhichTable::Depths, r),
-        Inversion::At(_) => DepthAnswer::Refused(WhichTable::Depths, r),
+        Err(Miss::Refused(q)) => Err(DepthMiss::Refused(WhichTable::Times, q)),
+        Err(Miss::OffCurve(_)) => Err(DepthMiss::Refused(WhichTable::Depths, r)),
+        Ok(_) => Err(DepthMiss::Refused(WhichTable::Depths, r)),
     }
 }
 
@@ -107,7 +104,7 @@ pub fn depth_at(
     y: f64,
     limit: u16,
     precision: f64,
-) -> DepthAnswer
+) -> Result<Depth, DepthMiss>
     ensures { result ≡ depth_of tb times.now db depths.now y limit precision }
 {
     let a = inverse::spline_inverse_with(tb, y, times, true, limit, precision);
@@ -115,7 +112,7 @@ pub fn depth_at(
     let equal = inverse::segments(tb, times.len()) == inverse::segments(db, depths.len());
     let v = depths_verdict(e, equal);
     match v {
-        Verdict::Failed(r) => unsuited(a, r),
-        Verdict::Passed => suited(a, e),
+        Err(r) => unsuited(a, r),
+        Ok(()) => suited(a, e),
     }
 }

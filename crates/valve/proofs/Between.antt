@@ -1,6 +1,7 @@
 -- The sum lies between the least and the greatest knot, times what the weights come to: each term is at least the least knot's share and at most the
 -- greatest's,
 -- and the shares add up to the whole. Assumes nothing.
+use Rattle.std.specs.Prelude.{Ok}
 use mathlib.Core.Path.{◌≡◌, refl, sym, ap, ◌∙◌, subst}
 use mathlib.Core.List.{List}
 use mathlib.Core.Bool.{Bool, true, false, cond}
@@ -12,7 +13,6 @@ use lib.Dec.{T, ltb, le→leb, leb→le, lit<}
 use borrow.Author.Tests.{ltb-true, ltb-false}
 use lib.Signed.{le_z, le_z_yes, ◌≤ℤ◌}
 use Rattle.error.specs.Refusals.{first}
-use Rattle.valve.specs.declared.Mixture.TheVariants.{Mixed}
 use Rattle.valve.specs.Mix.{weight_of, whole, knot_of, term_of, mix_of, mix_uses, mixture_of}
 use Rattle.valve.proofs.Refusals.{passed, told}
 use Rattle.valve.proofs.Rule.{sum_is}
@@ -131,7 +131,7 @@ pub record Between (ks : List ℤ) (s : ℤ) : Type 0 where
   pub low : (lo : ℤ) → ((i : ℕ) → i < 4 → lo ≤ℤ knot_of ks i) → (lo *ℤ pos whole) ≤ℤ s
   pub high : (hi : ℤ) → ((i : ℕ) → i < 4 → knot_of ks i ≤ℤ hi) → s ≤ℤ (hi *ℤ pos whole)
 
-pub mixed_between : (j : ℕ) (ks : List ℤ) (s : ℤ) → mixture_of j ks ≡ Mixed s → Between ks s
+pub mixed_between : (j : ℕ) (ks : List ℤ) (s : ℤ) → mixture_of j ks ≡ Ok s → Between ks s
 unfolding mixture_of
 mixed_between j ks s e =
     let t = told (first (mix_uses j ks)) e in

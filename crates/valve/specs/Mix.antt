@@ -1,13 +1,10 @@
 -- Four whole knots mixed by whole weights: the weights, the refusals, the sum. Definitions only.
-use Rattle.std.specs.Prelude.{Bool, cond, List, [], ◌∷◌, ℕ, ◌+◌, ◌-◌, ◌*◌, ◌^◌, leb, ltb, ℤ, pos, nat_abs, ◌+ℤ◌, ◌*ℤ◌, length, get_or}
+use Rattle.error.specs.declared.Refusal.{Refusal}
+use Rattle.std.specs.Prelude.{Bool, cond, List, [], ◌∷◌, ℕ, ◌+◌, ◌-◌, ◌*◌, ◌^◌, leb, ltb, ℤ, pos, nat_abs, ◌+ℤ◌, ◌*ℤ◌, length, get_or, Ok, Err, Result}
 use Rattle.std.specs.Int.{w64}
 use Rattle.std.proofs.Common.{to_z, of_z}
 use Rattle.error.specs.declared.Refusal.TheVariants.{TooFew, BadPattern, BadStep, BadKnot}
-use Rattle.error.specs.declared.Verdict.{Verdict}
-use Rattle.error.specs.declared.Verdict.TheVariants.{Passed, Failed}
-use Rattle.error.specs.Refusals.{Uses, first, reply_of}
-use Rattle.valve.specs.declared.Mixture.{Mixture}
-use Rattle.valve.specs.declared.Mixture.TheVariants.{Refused, Mixed}
+use Rattle.error.specs.Refusals.{Uses, first, reply_of, Verdict}
 
 -- the B-spline's four weights at j/256, times 6 × 256³
 abbrev pub weights_of : ℕ → List ℕ
@@ -53,19 +50,19 @@ mix_uses j ks =
     (TooFew, ltb (length ks) 4) ∷ (BadPattern, ltb 4 (length ks)) ∷ (BadStep, ltb 256 j)
     ∷ (BadKnot (first_large ks), ltb (first_large ks) 4) ∷ []
 
-abbrev pub mixture : Verdict → ℤ → Mixture
-mixture Passed z = Mixed z
-mixture (Failed r) z = Refused r
+abbrev pub mixture : Verdict → ℤ → Result ℤ Refusal
+mixture (Ok _) z = Ok z
+mixture (Err r) z = Err r
 
 -- the call
-unfoldable pub mixture_of : ℕ → List ℤ → Mixture
+unfoldable pub mixture_of : ℕ → List ℤ → Result ℤ Refusal
 mixture_of j ks = mixture (first (mix_uses j ks)) (mix_of ks j)
 
 -- what a caller from C sees: 0 and the sum, or the refusal's reply and what stood there
-abbrev pub mixture_reply : Mixture → ℕ
-mixture_reply (Mixed z) = 0
-mixture_reply (Refused r) = reply_of r
+abbrev pub mixture_reply : Result ℤ Refusal → ℕ
+mixture_reply (Ok z) = 0
+mixture_reply (Err r) = reply_of r
 
-abbrev pub sum_left : Mixture → ℤ → ℤ
-sum_left (Mixed z) old = z
-sum_left (Refused r) old = old
+abbrev pub sum_left : Result ℤ Refusal → ℤ → ℤ
+sum_left (Ok z) old = z
+sum_left (Err r) old = old

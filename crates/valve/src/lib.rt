@@ -4,21 +4,16 @@
 ghost use Rattle.std.specs.Prelude.{◌≡◌, ◌≤◌, length, pos, nat_abs, ◌+ℤ◌, ◌*ℤ◌};
 ghost use Rattle.std.specs.Int.{w64};
 ghost use Rattle.std.proofs.Common.{SFits};
+ghost use Rattle.error.specs.Found.{Found};
 ghost use Rattle.error.specs.Refusals.{first};
 ghost use Rattle.valve.specs.Mix.{small, first_large, mix_uses, mixture_of, mixture_reply, sum_left};
 ghost use Rattle.valve.specs.Contract.{SmallKnots, Few, weighted_of};
 
-use error::{Refusal, Verdict};
+use error::Refusal;
 use weights::Four;
 
 pub mod arms;
 pub mod weights;
-
-#[derive(Clone, Copy)]
-pub enum Mixture {
-    Refused(Refusal),
-    Mixed(i64),
-}
 
 // A weight as a wide number.
 fn wide(w: u32) -> i64
@@ -72,59 +67,42 @@ fn weighted_sum(w: Four, knots: &[i64]) -> i64
 fn is_small(k: i64) -> bool
     ensures { result ≡ small k }
 {
-    if -1000000 <= k { k <= 1000000 } else { false }
+    -1000000 <= k && k <= 1000000
 }
 
-// The first knot that is too large; 4 if there is none.
-fn first_large(knots: &[i64]) -> usize
-    requires { 4 ≤ length knots.now }
-    ensures answer { result ≡ first_large knots.now }
-    ensures most { result ≤ 4 }
+// The first of four knots that is too large, if one is.
+fn first_large(knots: &[i64]) -> Option<usize>
+    requires { length knots.now ≡ 4 }
+    ensures { Found 4 (first_large knots.now) result }
 {
-    if is_small(knots[0]) {
-        if is_small(knots[1]) {
-            if is_small(knots[2]) {
-                if is_small(knots[3]) {
-                    return 4;
-                }
-                return 3;
-            }
-            return 2;
-        }
-        return 1;
-    }
-    0
+    knots.iter().position(|k| !is_small(*k))
 }
 
 // The refusals, apart from the mixing.
-fn verdict(step: u16, knots: &[i64]) -> Verdict
+fn verdict(step: u16, knots: &[i64]) -> Result<(), Refusal>
     ensures { result ≡ first (mix_uses step knots.now) }
 {
     if knots.len() < 4 {
-        return Verdict::Failed(Refusal::TooFew);
+        return Err(Refusal::TooFew);
     }
     if 4 < knots.len() {
-        return Verdict::Failed(Refusal::BadPattern);
+        return Err(Refusal::BadPattern);
     }
     if 256 < step {
-        return Verdict::Failed(Refusal::BadStep);
+        return Err(Refusal::BadStep);
     }
-    let i = first_large(knots);
-    if i < 4 {
-        return Verdict::Failed(Refusal::BadKnot(i as u16));
+    if let Some(i) = first_large(knots) {
+        return Err(Refusal::BadKnot(i as u16));
     }
-    Verdict::Passed
+    Ok(())
 }
 
 // Four knots mixed at a step from 0 to 256.
-pub fn mix(step: u16, knots: &[i64]) -> Mixture
+pub fn mix(step: u16, knots: &[i64]) -> Result<i64, Refusal>
     ensures { result ≡ mixture_of step knots.now }
 {
-    let v = verdict(step, knots);
-    match v {
-        Verdict::Failed(r) => Mixture::Refused(r),
-        Verdict::Passed => Mixture::Mixed(weighted_sum(weights::row(step as usize), knots)),
-    }
+    verdict(step, knots)?;
+    Ok(weighted_sum(weights::row(step as usize), knots))
 }
 
 // What C and Rust call: as `mix`, by the arms. A sum is written and answered by 0; a refusal writes nothing.
@@ -135,8 +113,8 @@ pub extern "C" fn simmerstoat_valve(step: u16, knots: &[i64], sum: &mut i64) -> 
 {
     let v = verdict(step, knots);
     match v {
-        Verdict::Failed(r) => error::reply(r),
-        Verdict::Passed => {
+        Err(r) => error::reply(r),
+        Ok(()) => {
             *sum = weighted_sum(arms::row(step), knots);
             0
         }

@@ -2,23 +2,25 @@
 use mathlib.Core.Path.{◌≡◌, refl, sym, ap, ◌∙◌, subst}
 use mathlib.Core.Bool.{Bool, true, false, cond}
 use mathlib.Core.List.{List, [], ◌∷◌}
-use Prim.Native.Nat.{ℕ, zero, suc, ◌+◌, ◌-◌, ◌*◌, ◌^◌, ◌≤◌, ◌<◌}
+use Prim.Native.Nat.{ℕ, zero, suc, ◌^◌, ◌≤◌, ◌<◌}
 use native.Mathlib.Nat.{le_of_eq, lt_of_le_of_lt}
 use native.Mathlib.Omega.{arith}
 use native.Mathlib.Numerals.{add-one}
-use lib.Dec.{T, leb}
-use lib.IntN.{ℤ, pos, negsuc, nat_abs, sub_ℕ, ◌-ℤ◌}
-use lib.Signed.{mag, le_z, non_neg}
-use lib.ListN.{length, drop, get_or, length-map, get_or-map, drop_of_length-le}
-use lib.Seq.{drop-cons}
+use lib.Dec.{leb}
+use lib.IntN.{ℤ, pos, negsuc, nat_abs}
+use lib.Signed.{mag}
+use lib.ListN.{length, get_or, length-map, get_or-map}
 use mir.Syntax.{w64}
-use mir.Val.{Fits, SFits}
+use mir.Val.{SFits}
 use mir.Facts.{to_z-of_z}
 use borrow.Author.Rules.{sfits_of}
-use borrow.Author.Tests.{leb-true, leb-false, le-leb}
+use borrow.Author.Tests.{leb-true, le-leb}
 use Rattle.error.proofs.First.{never}
+use Rattle.std.proofs.Common.{Option, MatchOption, HoldsAt}
+use Rattle.std.specs.List.{AllWithin}
+use Rattle.error.specs.Found.{Found}
+use Rattle.error.proofs.Found.{found_first}
 use Rattle.whole.specs.Held.{held, held_all, turned, turned_all, small, first_large, Small}
-use Rattle.whole.proofs.Differences.{up, down, Is, itself, is_sub, negated, less, alike}
 
 -- ---- held
 mag_le : (z : ℤ) → mag z ≤ nat_abs z
@@ -70,25 +72,14 @@ pub small_le : (most : ℕ) (z : ℤ) → small most z ≡ true → nat_abs z �
 unfolding small
 small_le most z e = leb-true (nat_abs z) most e
 
-module _ (most : ℕ) (z : List ℤ) (i : ℕ) where
-  pub passed_over : i < length z → i + first_large most (drop i z) ≡ first_large most z → true ≡ small most (get_or z i (pos 0))
-      → (i + 1) + first_large most (drop (i + 1) z) ≡ first_large most z
-  unfolding first_large
-  passed_over h v e =
-      let d : first_large most (drop i z) ≡ suc (first_large most (drop (i + 1) z)) = rw (add-one, drop-cons z i (pos 0) h) (simp (sym e)) in
-      omega (arith, v, d)
-
-  pub stopped_at : i < length z → i + first_large most (drop i z) ≡ first_large most z → false ≡ small most (get_or z i (pos 0)) → i ≡ first_large most z
-  unfolding first_large
-  stopped_at h v e =
-      let d : first_large most (drop i z) ≡ 0 = rw (drop-cons z i (pos 0) h) (simp (sym e)) in
-      omega (arith, v, d)
-
-  pub none_large : i ≡ length z → i + first_large most (drop i z) ≡ first_large most z → i ≡ first_large most z
-  unfolding first_large
-  none_large h v =
-      let q : first_large most (drop i z) ≡ 0 = rw (drop_of_length-le z {i = i} (le_of_eq (sym h))) in
-      omega (arith, v, q)
+-- what `position` finds among the numbers as they are lent
+pub first_found : (most : ℕ) (ks : List ℤ) (r : Option ℕ)
+    → MatchOption r (AllWithin (λ z. small most (held z) ≡ true) ks 0 (length ks))
+    (λ i. (i < length ks) × HoldsAt (λ z. small most (held z) ≡ false) ks i × AllWithin (λ z. small most (held z) ≡ true) ks 0 i)
+    → Found (length ks) (first_large most (held_all ks)) r
+unfolding first_large
+first_found most ks r h = found_first (λ zs. first_large most (held_all zs)) (λ z. small most (held z) ≡ false) (λ z. small most (held z) ≡ true)
+    refl (λ z zs e. simp e) (λ z zs e. rw e (sym (add-one _))) ks r h
 
 -- where it is their count, all are small
 pub all_small : (most : ℕ) (z : List ℤ) → length z ≤ first_large most z → Small most z
@@ -116,86 +107,5 @@ small_all most (x ∷ z) f = go (leb (nat_abs x) most) (le-leb (nat_abs x) most 
 
 -- ---- a size
 module _ (k : ℤ) (f : SFits w64 k) where
-  pub not_below : le_z (pos 0) (held k) ≡ true → T (non_neg (held k)) × Fits w64 (nat_abs (held k))
-  not_below h = subst (λ (z : ℤ). T (non_neg z) × Fits w64 (nat_abs z)) (sym (to_z-of_z f)) (go k f (ap (λ (z : ℤ). le_z (pos 0) z) (sym (to_z-of_z f)) ∙ h))
-    where
-      go : (k : ℤ) → SFits w64 k → le_z (pos 0) k ≡ true → T (non_neg k) × Fits w64 (nat_abs k)
-      go (pos n) f e = let l = f.sfits in (tt, record { fits = omega (arith, l) })
-      go (negsuc n) f e = never (cc)
-
   pub size_same : nat_abs (held k) ≡ nat_abs k
   size_same = ap nat_abs (to_z-of_z f)
-
--- -1 − k, of a k below 0
-module _ (k : ℤ) (f : SFits w64 k) (h : le_z (pos 0) (held k) ≡ false) where
-  below : (negsuc 0 -ℤ held k ≡ pos (nat_abs k - 1)) × ((nat_abs k - 1 + 1 ≡ nat_abs k) × (nat_abs k - 1 < 2 ^ 63))
-  below =
-      subst (λ (z : ℤ). (negsuc 0 -ℤ z ≡ pos (nat_abs k - 1)) × ((nat_abs k - 1 + 1 ≡ nat_abs k) × (nat_abs k - 1 < 2 ^ 63))) (sym (to_z-of_z f))
-      (go k f (ap (λ (z : ℤ). le_z (pos 0) z) (sym (to_z-of_z f)) ∙ h))
-    where
-      go : (k : ℤ) → SFits w64 k → le_z (pos 0) k ≡ false → (negsuc 0 -ℤ k ≡ pos (nat_abs k - 1)) × ((nat_abs k - 1 + 1 ≡ nat_abs k) × (nat_abs k - 1 < 2 ^ 63))
-      go (pos n) f e = absurd (let l = leb-false 0 n e in omega (arith, l))
-      go (negsuc n) f e =
-          let l = f.sfits in
-          (alike (less (itself (negsuc 0)) (itself (negsuc n))) (itself (pos (suc n - 1))) (omega arith), (omega arith, omega (arith, l)))
-
-  pub below_fits : SFits w64 (negsuc 0 -ℤ held k)
-  below_fits = subst (λ (z : ℤ). SFits w64 z) (sym below.0) (fits (pos (nat_abs k - 1)) (nat_abs k - 1) (le_of_eq refl) below.1.1)
-
-  below_held : held (negsuc 0 -ℤ held k) ≡ pos (nat_abs k - 1)
-  below_held = to_z-of_z below_fits ∙ below.0
-
-  pub below_cast : T (non_neg (held (negsuc 0 -ℤ held k))) × Fits w64 (nat_abs (held (negsuc 0 -ℤ held k)))
-  below_cast =
-      let l = below.1.1 in
-      subst (λ (z : ℤ). T (non_neg z) × Fits w64 (nat_abs z)) (sym below_held) (tt, record { fits = omega (arith, l) })
-
-  pub below_sum : Fits w64 (nat_abs (held (negsuc 0 -ℤ held k)) + 1)
-  below_sum = let l = below.1.1 in subst (λ (z : ℤ). Fits w64 (nat_abs z + 1)) (sym below_held) (record { fits = omega (arith, l) })
-
-  pub below_is : nat_abs (held (negsuc 0 -ℤ held k)) + 1 ≡ nat_abs k
-  below_is = ap (λ (z : ℤ). nat_abs z + 1) below_held ∙ below.1.0
-
--- ---- raised by a bound
-parts_up : (k : ℤ) → le_z (pos 0) k ≡ true → (up k ≡ nat_abs k) × (down k ≡ 0)
-parts_up (pos n) e = (refl, refl)
-parts_up (negsuc n) e = never (cc)
-
-parts_down : (k : ℤ) → le_z (pos 0) k ≡ false → (up k ≡ 0) × (down k ≡ nat_abs k)
-parts_down (pos n) e = absurd (let l = leb-false 0 n e in omega (arith, l))
-parts_down (negsuc n) e = (refl, refl)
-
-module _ (most : ℕ) (k : ℤ) (t : Bool) (r : ℕ) (h : r ≤ 2 * most) where
-  as_it_is : t ≡ true → r + down k ≡ most + up k → (sub_ℕ r most ≡ turned t k) × (r ≤ 2 * most)
-  as_it_is e q = (is_sub (the k q) ∙ ap (λ (t : Bool). turned t k) (sym e), h)
-    where
-      the : (k : ℤ) → r + down k ≡ most + up k → Is k r most
-      the k q = record { is = q }
-
-  about : t ≡ false → most + down k ≡ r + up k → (sub_ℕ r most ≡ turned t k) × (r ≤ 2 * most)
-  about e q = (is_sub (negated (the k q)) ∙ ap (λ (t : Bool). turned t k) (sym e), h)
-    where
-      the : (k : ℤ) → most + down k ≡ r + up k → Is k most r
-      the k q = record { is = q }
-
-module _ (most m : ℕ) (k : ℤ) (f : SFits w64 k) (e : m ≡ nat_abs (held k)) (h : nat_abs k ≤ most) (t : Bool) where
-  up_parts : le_z (pos 0) (held k) ≡ true → (up k ≡ m) × (down k ≡ 0)
-  up_parts p = let q = parts_up k (ap (λ (z : ℤ). le_z (pos 0) z) (sym (to_z-of_z f)) ∙ p) in (q.0 ∙ sym (size_same k f) ∙ sym e, q.1)
-
-  down_parts : le_z (pos 0) (held k) ≡ false → (up k ≡ 0) × (down k ≡ m)
-  down_parts p = let q = parts_down k (ap (λ (z : ℤ). le_z (pos 0) z) (sym (to_z-of_z f)) ∙ p) in (q.0, q.1 ∙ sym (size_same k f) ∙ sym e)
-
-  pub size_le : m ≤ most
-  size_le = let q = e ∙ size_same k f in omega (arith, q)
-
-  pub up_raised : le_z (pos 0) (held k) ≡ true → t ≡ true → (sub_ℕ (most + m) most ≡ turned t k) × (most + m ≤ 2 * most)
-  up_raised p d = let q = up_parts p in as_it_is most k t (most + m) (omega (arith, size_le)) d (omega (arith, q))
-
-  pub up_lowered : le_z (pos 0) (held k) ≡ true → t ≡ false → (sub_ℕ (most - m) most ≡ turned t k) × (most - m ≤ 2 * most)
-  up_lowered p d = let q = up_parts p in about most k t (most - m) (omega arith) d (omega (arith, q, size_le))
-
-  pub down_lowered : le_z (pos 0) (held k) ≡ false → t ≡ true → (sub_ℕ (most - m) most ≡ turned t k) × (most - m ≤ 2 * most)
-  down_lowered p d = let q = down_parts p in as_it_is most k t (most - m) (omega arith) d (omega (arith, q, size_le))
-
-  pub down_raised : le_z (pos 0) (held k) ≡ false → t ≡ false → (sub_ℕ (most + m) most ≡ turned t k) × (most + m ≤ 2 * most)
-  down_raised p d = let q = down_parts p in about most k t (most + m) (omega (arith, size_le)) d (omega (arith, q))

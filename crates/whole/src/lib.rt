@@ -3,16 +3,14 @@
 
 ghost use Rattle.std.specs.Prelude.{◌≡◌, ◌*◌, ◌≤◌, nat_abs, length};
 ghost use Rattle.std.proofs.Math.IntN.{sub_ℕ};
+ghost use Rattle.error.specs.Found.{Found};
 ghost use Rattle.whole.specs.Held.{held_all, turned, small, first_large};
 
 // The size of a number: of the least i64 too, whose negative is no i64.
 pub fn size(k: i64) -> u64
     ensures { result ≡ nat_abs k }
 {
-    if 0 <= k {
-        return k as u64;
-    }
-    (-1 - k) as u64 + 1
+    k.unsigned_abs()
 }
 
 // Whether a whole number's size is at most `most`.
@@ -22,19 +20,11 @@ pub fn is_small(most: u64, k: i64) -> bool
     size(k) <= most
 }
 
-// The first number that is larger than `most` in size; how many there are if none is.
-pub fn first_large(most: u64, numbers: &[i64]) -> usize
-    ensures first { result ≡ first_large most (held_all numbers.now) }
-    ensures within { result ≤ length numbers.now }
+// The first number that is larger than `most` in size, if one is.
+pub fn first_large(most: u64, numbers: &[i64]) -> Option<usize>
+    ensures { Found (length numbers.now) (first_large most (held_all numbers.now)) result }
 {
-    let mut i = 0;
-    while i < numbers.len() {
-        if !is_small(most, numbers[i]) {
-            return i;
-        }
-        i += 1;
-    }
-    i
+    numbers.iter().position(|k| !is_small(most, *k))
 }
 
 // A number raised by `most`, so that it is not negative; where `up` is not said, its negative.
@@ -45,14 +35,5 @@ pub fn raised(most: u64, up: bool, k: i64) -> u64
     ensures most { result ≤ 2 * most }
 {
     let m = size(k);
-    if 0 <= k {
-        if up {
-            return most + m;
-        }
-        return most - m;
-    }
-    if up {
-        return most - m;
-    }
-    most + m
+    if up == (0 <= k) { most + m } else { most - m }
 }

@@ -1,5 +1,5 @@
 -- A sheet that is not fine, or a question about a curve.
-use Rattle.lines_machine.specs.Contract.{open_of}
+use Rattle.lines_machine.specs.Contract.{said_of}
 use Rattle.ask_verdict.specs.Contract.{Asks}
 use Rattle.ask.proofs.Steps.{as_text, bad_text, bad_after, fine_text_lem, fine_after, asks_on}
 use native.Mathlib.Omega.{arith}
@@ -13,7 +13,6 @@ answer-r-requires c = let a : Asks c.in-Fine.rows c.in-Fine.n c.in-Fine.span =
       enough = a.enough;
       few = a.few;
       span = a.short;
-      line = c.requires.line;
       labels = c.requires.labels;
       knots = c.requires.knots;
       room = c.requires.room;
@@ -21,8 +20,8 @@ answer-r-requires c = let a : Asks c.in-Fine.rows c.in-Fine.n c.in-Fine.span =
 
 pub returns-in-Bad : goal.returns-in-Bad
 returns-in-Bad c = rw c.in-Bad.is (record {
-  text = as_text (bad_text (open_of c.args.len c.args.line.now)) c.put_word.ensures;
-  held = bad_after (open_of c.args.len c.args.line.now);
+  text = as_text (bad_text (said_of c.args.line)) c.put_word.ensures;
+  held = bad_after (said_of c.args.line);
   askable = tt;
   short = omega (arith, c.put_word.ensures.next);
 })
@@ -30,8 +29,8 @@ returns-in-Bad c = rw c.in-Bad.is (record {
 pub returns-in-Fine : goal.returns-in-Fine
 returns-in-Fine c = let a : Asks c.in-Fine.rows c.in-Fine.n c.in-Fine.span = rw c.in-Fine.is at c.requires.held in rw
     c.in-Fine.is (record {
-      text = as_text (fine_text_lem _ _ _ _ (open_of c.args.len c.args.line.now)) c.answer-r.ensures.text;
-      held = fine_after _ _ _ _ (open_of c.args.len c.args.line.now) c.answer-r.ensures.span_after;
+      text = as_text (fine_text_lem _ _ _ _ (said_of c.args.line)) c.answer-r.ensures.text;
+      held = fine_after _ _ _ _ (said_of c.args.line) c.answer-r.ensures.span_after;
       askable = asks_on a c.answer-r.ensures.span_most;
       short = c.answer-r.ensures.short;
     })

@@ -14,10 +14,10 @@ returns-in_default c = no_word c.args.w.now c.args.s.now c.is_word.ensures c.if-
     c.in_default.is
 
 pub overflow_cast-n : goal.overflow_cast-n
-overflow_cast-n c = let few : c.in-Is.n < 100000 = number_small 5 c.args.s.now c.in-Is.n
-    (sym c.number_in.ensures ∙ c.in-Is.is) in
+overflow_cast-n c = let few : c.in-Some.n < 100000 = number_small 5 c.args.s.now c.in-Some.n
+    (sym c.number_in.ensures ∙ c.in-Some.is) in
     omega arith
 
 pub returns : goal.returns
 returns c = number_word c.args.w.now c.args.s.now c.is_word.ensures c.if-is_word.false c.number_in.ensures
-    c.in-Is.n c.in-Is.is c.by_number.ensures
+    c.in-Some.n c.in-Some.is c.by_number.ensures

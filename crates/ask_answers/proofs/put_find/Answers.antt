@@ -5,7 +5,7 @@ use mathlib.Core.Bool.{false}
 use Rattle.stopped.specs.Stopped.{stopped_of}
 use Rattle.table_span.specs.declared.Table.{Table}
 use Rattle.ask_sheet.specs.Contract.{labels_to}
-use Rattle.ask_verdict.proofs.Texts.{as_text}
+use Rattle.ask_verdict.proofs.Texts.{as_told}
 use Rattle.ask_answers.specs.Answers.{job_text}
 use Rattle.ask_answers.proofs.Answers.{table_short}
 use Rattle.ask_answers.proofs.Jobs.{placed}
@@ -22,9 +22,6 @@ put_job-requires c = record {
 }
 
 pub returns : goal.returns
-returns c = record {
-  text = as_text (ap (job_text c.args.k (labels_to c.args.labels.now c.args.rows) c.args.span c.args.y)
-      (c.stopped-j.ensures ∙ ap (λ (t : Table). stopped_of t c.args.y c.args.knots.now false)
-      c.table_by.ensures)) c.put_job.ensures.text;
-  short = c.put_job.ensures.short;
-}
+returns c = as_told (ap (job_text c.args.k (labels_to c.args.labels.now c.args.rows) c.args.span c.args.y)
+    (c.stopped-j.ensures ∙ ap (λ (t : Table). stopped_of t c.args.y c.args.knots.now false)
+    c.table_by.ensures)) c.put_job.ensures

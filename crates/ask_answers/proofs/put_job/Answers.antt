@@ -1,36 +1,36 @@
 -- A case for each answer.
+use Rattle.stopped.specs.declared.Job.TheVariants.{UnderWay}
+use mathlib.Core.Path.{ap, ◌∙◌}
+use Rattle.std.specs.Prelude.{Ok, Err}
 use native.Mathlib.Omega.{arith}
-use Rattle.stopped.specs.declared.Job.TheVariants as J
+use Rattle.text.proofs.Pens.{within}
 use Rattle.ask_answers.specs.Contract.{Placed}
 use Rattle.ask_answers.proofs.put_job.Goals as goal
 
 pub put_reached-requires : goal.put_reached-requires
-put_reached-requires c = let k : Placed (J.UnderWay c.in-UnderWay.s c.in-UnderWay.p) = rw c.in-UnderWay.is at c.requires.job in
+put_reached-requires c = let k : Placed (Ok (UnderWay c.in-Ok-UnderWay.s c.in-Ok-UnderWay.p)) = rw (c.in-Ok-UnderWay.is ∙ ap Ok (rw c.in-Ok-UnderWay.is at c.in-Ok-UnderWay.field-0-is)) at c.requires.job in
     record { rows = c.requires.rows; second = k.0; segment = k.1; labels = c.requires.labels; room = c.requires.room }
 
-pub returns-in-Refused : goal.returns-in-Refused
-returns-in-Refused c = rw c.in-Refused.is (record { text = c.put_refused.ensures.text; short = omega (arith, c.put_refused.ensures.short) })
+pub returns-in-Err-Refused : goal.returns-in-Err-Refused
+returns-in-Err-Refused c = rw (c.in-Err-Refused.is ∙ ap Err (rw c.in-Err-Refused.is at c.in-Err-Refused.field-0-is)) (within 86 c.put_refused.ensures (omega arith))
 
-pub returns-in-OffCurve : goal.returns-in-OffCurve
-returns-in-OffCurve c = rw c.in-OffCurve.is (record {
-  text = c.put_refused-in-OffCurve.ensures.text;
-  short = omega (arith, c.put_refused-in-OffCurve.ensures.short);
-})
+pub returns-in-Err-OffCurve : goal.returns-in-Err-OffCurve
+returns-in-Err-OffCurve c = rw (c.in-Err-OffCurve.is ∙ ap Err (rw c.in-Err-OffCurve.is at c.in-Err-OffCurve.field-0-is)) (within 86 c.put_refused-in-Err-OffCurve.ensures (omega arith))
 
-pub returns-in-Flat : goal.returns-in-Flat
-returns-in-Flat c = rw c.in-Flat.is (record { text = c.put_word.ensures; short = omega (arith, c.put_word.ensures.next) })
+pub returns-in-Ok-Flat : goal.returns-in-Ok-Flat
+returns-in-Ok-Flat c = rw (c.in-Ok-Flat.is ∙ ap Ok (rw c.in-Ok-Flat.is at c.in-Ok-Flat.field-0-is)) (within 86 c.word.ensures (omega arith))
 
-pub returns-in-Before : goal.returns-in-Before
-returns-in-Before c = rw c.in-Before.is (record { text = c.put_side.ensures.text; short = omega (arith, c.put_side.ensures.short) })
+pub returns-in-Ok-Before : goal.returns-in-Ok-Before
+returns-in-Ok-Before c = rw (c.in-Ok-Before.is ∙ ap Ok (rw c.in-Ok-Before.is at c.in-Ok-Before.field-0-is)) (within 86 c.put_side.ensures (omega arith))
 
-pub returns-in-Start : goal.returns-in-Start
-returns-in-Start c = rw c.in-Start.is (record { text = c.put_side-in-Start.ensures.text; short = omega (arith, c.put_side-in-Start.ensures.short) })
+pub returns-in-Ok-Start : goal.returns-in-Ok-Start
+returns-in-Ok-Start c = rw (c.in-Ok-Start.is ∙ ap Ok (rw c.in-Ok-Start.is at c.in-Ok-Start.field-0-is)) (within 86 c.put_side-in-Ok-Start.ensures (omega arith))
 
-pub returns-in-UnderWay : goal.returns-in-UnderWay
-returns-in-UnderWay c = rw c.in-UnderWay.is (record { text = c.put_reached.ensures.text; short = omega (arith, c.put_reached.ensures.short) })
+pub returns-in-Ok-UnderWay : goal.returns-in-Ok-UnderWay
+returns-in-Ok-UnderWay c = rw (c.in-Ok-UnderWay.is ∙ ap Ok (rw c.in-Ok-UnderWay.is at c.in-Ok-UnderWay.field-0-is)) (within 86 c.put_reached.ensures (omega arith))
 
-pub returns-in-End : goal.returns-in-End
-returns-in-End c = rw c.in-End.is (record { text = c.put_side-in-End.ensures.text; short = omega (arith, c.put_side-in-End.ensures.short) })
+pub returns-in-Ok-End : goal.returns-in-Ok-End
+returns-in-Ok-End c = rw (c.in-Ok-End.is ∙ ap Ok (rw c.in-Ok-End.is at c.in-Ok-End.field-0-is)) (within 86 c.put_side-in-Ok-End.ensures (omega arith))
 
-pub returns-in-Beyond : goal.returns-in-Beyond
-returns-in-Beyond c = rw c.in-Beyond.is (record { text = c.put_side-in-Beyond.ensures.text; short = omega (arith, c.put_side-in-Beyond.ensures.short) })
+pub returns-in-Ok-Beyond : goal.returns-in-Ok-Beyond
+returns-in-Ok-Beyond c = rw (c.in-Ok-Beyond.is ∙ ap Ok (rw c.in-Ok-Beyond.is at c.in-Ok-Beyond.field-0-is)) (within 86 c.put_side-in-Ok-Beyond.ensures (omega arith))

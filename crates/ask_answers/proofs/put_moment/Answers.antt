@@ -1,19 +1,13 @@
 -- The depth, or a refusal.
-use native.Mathlib.Omega.{arith}
-use Rattle.ask_verdict.proofs.Texts.{as_text}
+use Rattle.std.proofs.Common.{arith}
+use Rattle.text.proofs.Pens.{within, chained}
+use Rattle.ask_verdict.proofs.Texts.{as_told, still}
 use Rattle.ask_answers.proofs.Answers.{moment_value, moment_refused}
 use Rattle.ask_answers.proofs.put_moment.Goals as goal
 
-pub returns-in-Value : goal.returns-in-Value
-returns-in-Value c = record {
-  text = as_text (moment_value c.args.b c.args.knots.now c.args.span c.args.n c.spline-e.ensures _
-      c.in-Value.is) c.put_value.ensures.text;
-  short = c.put_value.ensures.short;
-}
+pub returns-in-Ok : goal.returns-in-Ok
+returns-in-Ok c = as_told (moment_value c.args.b c.args.knots.now c.args.span c.args.n c.spline-e.ensures _ c.in-Ok.is) c.put_value.ensures
 
-pub returns-in-Refused : goal.returns-in-Refused
-returns-in-Refused c = record {
-  text = as_text (moment_refused c.args.b c.args.knots.now c.args.span c.args.n c.spline-e.ensures _
-      c.in-Refused.is) c.put_refused.ensures.text;
-  short = omega (arith, c.put_refused.ensures.short);
-}
+pub returns-in-Err : goal.returns-in-Err
+returns-in-Err c = as_told (moment_refused c.args.b c.args.knots.now c.args.span c.args.n c.spline-e.ensures _ c.in-Err.is)
+    (within 40 c.put_refused.ensures (omega arith))

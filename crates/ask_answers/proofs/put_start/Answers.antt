@@ -1,12 +1,8 @@
 -- A tab, and the label.
-use mathlib.Core.Path.{ap}
-use Prim.Native.Nat.{ℕ}
-use native.Mathlib.Omega.{arith}
-use Rattle.text.proofs.Writing.{then}
-use Rattle.ask_verdict.proofs.Texts.{as_text}
-use mathlib.Core.List.{[]}
-use native.Mathlib.Nat.{mul-le-mul}
-use lib.ListN.{get_or}
+use Rattle.std.proofs.Common.{arith}
+use Rattle.text.proofs.Pens.{within, chained}
+use Rattle.ask_verdict.proofs.Texts.{as_told, still}
+use Rattle.std.proofs.Common.{ap, ℕ, [], get_or, mul-le-mul}
 use Rattle.ask_sheet.specs.Contract.{labels_to}
 use Rattle.ask_answers.proofs.Answers.{row_is}
 use Rattle.ask_answers.proofs.put_start.Goals as goal
@@ -18,9 +14,4 @@ pub overflow_add-i : goal.overflow_add-i
 overflow_add-i c = omega (arith, mul-le-mul c.requires.segment c.row_step.ensures.most, c.first_row.ensures.most)
 
 pub returns : goal.returns
-returns c = record {
-  text = then c.put_byte-a.ensures (as_text (ap (λ (i : ℕ). get_or (labels_to c.args.labels.now c.args.rows) i [])
-      (row_is c.args.k c.args.s c.first_row.ensures.answer c.row_step.ensures.answer))
-      c.put_label.ensures.text);
-  short = omega (arith, c.put_byte-a.ensures.next, c.put_label.ensures.short);
-}
+returns c = chained c.byte.ensures (as_told (ap (λ (i : ℕ). get_or (labels_to c.args.labels.now c.args.rows) i []) (row_is c.args.k c.args.s c.first_row.ensures.answer c.row_step.ensures.answer)) c.put_label.ensures)

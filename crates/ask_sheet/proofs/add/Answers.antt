@@ -33,22 +33,22 @@ pub returns-then-most_in-m : goal.returns-then-most_in-m
 returns-then-most_in-m c = record {
   sheet = too_large c.args.k c.args.n c.args.rows.now c.requires.count c.requires.rows (labels_to c.args.labels.now
       c.args.n) c.args.l.now c.place_of-t.result c.place_of-t.ensures.answer (omega arith) (omega arith) _ _
-      c.depth_line.ensures c.in-Is.is (omega (arith, c.most_in.ensures));
+      c.depth_line.ensures c.in-Some.is (omega (arith, c.most_in.ensures));
   line_after = omega arith;
 }
 
 pub whole_of-requires : goal.whole_of-requires
-whole_of-requires c = omega (arith, depth_small _ _ _ (sym c.depth_line.ensures ∙ c.in-Is.is))
+whole_of-requires c = omega (arith, depth_small _ _ _ (sym c.depth_line.ensures ∙ c.in-Some.is))
 
 pub returns-then-n-lt-MOST_KNOTS : goal.returns-then-n-lt-MOST_KNOTS
 returns-then-n-lt-MOST_KNOTS c = record {
   sheet = one_more c.args.k c.args.n c.args.rows.now c.requires.count c.requires.rows
       (labels_to c.args.labels.now c.args.n) c.args.l.now c.place_of-t.result
       c.place_of-t.ensures.answer (omega (arith, c.if-t-lt1.false)) (omega (arith, c.if-t-gt16.false)) _ _
-      c.depth_line.ensures c.in-Is.is (omega (arith, c.most_in.ensures, c.if-most_in-m.false))
-      (omega (arith, depth_small _ _ _ (sym c.depth_line.ensures ∙ c.in-Is.is)))
-      (omega (arith, c.if-n-lt-MOST_KNOTS.true)) (ap held c.whole_of.ensures ∙ whole_held c.in-Is.minus
-      c.in-Is.m (omega (arith, depth_small _ _ _ (sym c.depth_line.ensures ∙ c.in-Is.is))))
+      c.depth_line.ensures c.in-Some.is (omega (arith, c.most_in.ensures, c.if-most_in-m.false))
+      (omega (arith, depth_small _ _ _ (sym c.depth_line.ensures ∙ c.in-Some.is)))
+      (omega (arith, c.if-n-lt-MOST_KNOTS.true)) (ap held c.whole_of.ensures ∙ whole_held c.in-Some.minus
+      c.in-Some.m (omega (arith, depth_small _ _ _ (sym c.depth_line.ensures ∙ c.in-Some.is))))
       c.keep.ensures.labels;
   line_after = omega (arith, c.if-n-lt-MOST_KNOTS.true);
 }
@@ -57,7 +57,7 @@ pub returns : goal.returns
 returns c = record {
   sheet = too_many c.args.k c.args.n c.args.rows.now c.requires.count c.requires.rows
       (labels_to c.args.labels.now c.args.n) c.args.l.now c.place_of-t.result
-      c.place_of-t.ensures.answer (omega arith) (omega arith) _ _ c.depth_line.ensures c.in-Is.is
+      c.place_of-t.ensures.answer (omega arith) (omega arith) _ _ c.depth_line.ensures c.in-Some.is
       (omega (arith, c.most_in.ensures)) (omega arith);
   line_after = omega arith;
 }

@@ -10,4 +10,4 @@ returns-in_default c = record { sheet = (λ t s. ap named (sym c.in_default.is �
 
 pub returns : goal.returns
 unfolding labels_to
-returns c = record { sheet = (λ t s. ap named (sym c.in-Is.is ∙ c.kind_named.ensures)); line_after = omega arith }
+returns c = record { sheet = (λ t s. ap named (sym c.in-Some.is ∙ c.kind_named.ensures)); line_after = omega arith }

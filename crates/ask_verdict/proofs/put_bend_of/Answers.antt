@@ -1,6 +1,6 @@
 -- Rows that turn are told, else a segment that falls.
-use Rattle.text.proofs.Writing.{nothing}
-use Rattle.ask_verdict.proofs.Texts.{as_text}
+use Rattle.text.proofs.Pens.{within}
+use Rattle.ask_verdict.proofs.Texts.{as_told, still}
 use Rattle.whole.specs.Held.{held_all}
 use Rattle.whole.proofs.Held.{long}
 use Rattle.ask_verdict.proofs.Bends.{says_turns, says_falls, says_nothing}
@@ -18,11 +18,8 @@ put_number-requires c = record {
 }
 
 pub returns-then-is_turning : goal.returns-then-is_turning
-returns-then-is_turning c = record {
-  text = as_text (says_turns c.args.k c.args.up (held_all c.args.rows.now) (held_all c.args.knots.now) c.args.i
-      c.args.s c.requires.curve.is c.is_turning.ensures c.if-is_turning.true) c.put_number.ensures.text;
-  short = omega (arith, c.put_number.ensures.short);
-}
+returns-then-is_turning c = as_told (says_turns c.args.k c.args.up (held_all c.args.rows.now) (held_all c.args.knots.now) c.args.i
+    c.args.s c.requires.curve.is c.is_turning.ensures c.if-is_turning.true) (within 12 c.put_number.ensures (omega arith))
 
 pub is_falling-requires : goal.is_falling-requires
 is_falling-requires c = let e = long c.args.knots.now in
@@ -44,17 +41,11 @@ put_number-requires-then-is_falling c = record {
 }
 
 pub returns-then-is_falling : goal.returns-then-is_falling
-returns-then-is_falling c = record {
-  text = as_text (says_falls c.args.k c.args.up (held_all c.args.rows.now) (held_all c.args.knots.now) c.args.i
-      c.args.s c.requires.curve.is c.is_turning.ensures c.basis_of.ensures c.is_falling.ensures
-      c.if-is_turning.false c.if-is_falling.true) c.put_number-then-is_falling.ensures.text;
-  short = omega (arith, c.put_number-then-is_falling.ensures.short);
-}
+returns-then-is_falling c = as_told (says_falls c.args.k c.args.up (held_all c.args.rows.now) (held_all c.args.knots.now) c.args.i
+    c.args.s c.requires.curve.is c.is_turning.ensures c.basis_of.ensures c.is_falling.ensures
+    c.if-is_turning.false c.if-is_falling.true) (within 12 c.put_number-then-is_falling.ensures (omega arith))
 
-pub returns : goal.returns
-returns c = record {
-  text = as_text (says_nothing c.args.k c.args.up (held_all c.args.rows.now) (held_all c.args.knots.now) c.args.i
-      c.args.s c.requires.curve.is c.is_turning.ensures c.basis_of.ensures
-      c.is_falling.ensures c.if-is_turning.false c.if-is_falling.false) (nothing _ _);
-  short = omega arith;
-}
+pub returns-else-is_falling : goal.returns-else-is_falling
+returns-else-is_falling c = as_told (says_nothing c.args.k c.args.up (held_all c.args.rows.now) (held_all c.args.knots.now) c.args.i
+    c.args.s c.requires.curve.is c.is_turning.ensures c.basis_of.ensures
+    c.is_falling.ensures c.if-is_turning.false c.if-is_falling.false) (still 12 _)

@@ -1,10 +1,8 @@
 -- The word, the number, the reason.
-use Rattle.text.proofs.Writing.{then}
-use native.Mathlib.Omega.{arith}
+use Rattle.std.proofs.Common.{arith}
+use Rattle.text.proofs.Pens.{within, chained}
+use Rattle.ask_verdict.specs.Contract.{longest}
 use Rattle.ask_verdict.proofs.put_line.Goals as goal
 
 pub returns : goal.returns
-returns c = record {
-  text = then c.put_word-a.ensures (then c.put_decimal-b.ensures.text c.put_reason.ensures.text);
-  short = omega (arith, c.put_word-a.ensures.next, c.put_decimal-b.ensures.short, c.put_reason.ensures.short);
-}
+returns c = within longest (chained c.word.ensures (chained c.decimal.ensures c.put_reason.ensures)) (omega arith)

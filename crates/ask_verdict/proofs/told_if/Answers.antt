@@ -44,7 +44,6 @@ returns-in-Drawn c =
     let q : length (held_all (take c.args.n c.args.rows.now)) ≡ c.args.n = long (take c.args.n c.args.rows.now) ∙ l in
     rw c.in-Drawn.is (record {
       text = rw (e, l) at c.told_of.ensures.text;
-      short = c.told_of.ensures.short;
       held = rw (e, l) at c.told_of.ensures.held;
       few = c.told_of.ensures.few;
     })
@@ -52,7 +51,6 @@ returns-in-Drawn c =
 pub returns-in-Monotone : goal.returns-in-Monotone
 returns-in-Monotone c = rw c.in-Monotone.is (record {
   text = c.told_monotone.ensures.text;
-  short = c.told_monotone.ensures.short;
   held = c.told_monotone.ensures.held;
   few = c.told_monotone.ensures.few;
 })

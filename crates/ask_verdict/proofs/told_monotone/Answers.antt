@@ -65,7 +65,6 @@ returns c = let e : c.args.n - 0 ≡ c.args.n = omega arith in let d : 2 * c.arg
     2 * c.args.n = sym (long (take (2 * c.args.n) c.monotone.new.out)) ∙ ap length t ∙ table_long z ∙ ap (λ (x : ℕ). 2 * x) q
     in record {
       text = rw (e, l) at c.told_of.ensures.text;
-      short = c.told_of.ensures.short;
       held = rw (e, l) at c.told_of.ensures.held;
       few = c.told_of.ensures.few;
     }

@@ -14,13 +14,10 @@ use Rattle.ask_verdict.proofs.Telling.{faults_told, not_asked, fine_told, may_be
 use native.Mathlib.Omega.{arith}
 use Rattle.ask_verdict.proofs.told_of.Goals as goal
 
-pub returns-then-at-r : goal.returns-then-at-r
-returns-then-at-r c = record {
-  text = faults_told c.args.k (held_all c.args.rows.now) (labels_to c.args.labels.now (length c.args.rows.now))
-      c.put_faults-r.ensures.text c.if-at-r.true;
-  short = c.put_faults-r.ensures.short;
-  held = not_asked c.args.k (held_all c.args.rows.now) (labels_to c.args.labels.now (length c.args.rows.now))
-      c.put_faults-r.ensures.text c.if-at-r.true;
+pub returns-then-start-end : goal.returns-then-start-end
+returns-then-start-end c = record {
+  text = faults_told c.args.k (held_all c.args.rows.now) (labels_to c.args.labels.now (length c.args.rows.now)) c.put_faults.ensures (omega arith);
+  held = not_asked c.args.k (held_all c.args.rows.now) (labels_to c.args.labels.now (length c.args.rows.now)) c.put_faults.ensures (omega arith);
   few = tt;
 }
 
@@ -41,11 +38,8 @@ curve_ends-e-requires c = let l = cut_long c.args.whole.now _ c.fill.ensures.kno
       most = omega (arith, l, c.requires.curve.few, long c.args.whole.now);
     }
 
-pub put_fine-f-requires : goal.put_fine-f-requires
-put_fine-f-requires c = record {
-  number = omega (arith, c.requires.curve.rows, long c.args.rows.now);
-  room = omega (arith, c.put_faults-r.ensures.text.long, c.requires.room);
-}
+pub put_fine-requires : goal.put_fine-requires
+put_fine-requires c = record { number = omega (arith, c.requires.curve.rows, long c.args.rows.now); room = omega arith }
 
 pub returns : goal.returns
 returns c = let z = held_all c.args.rows.now in
@@ -53,11 +47,9 @@ returns c = let z = held_all c.args.rows.now in
     let d = ends_are c.args.k z (held_all c.args.whole.now) c.requires.curve.is c.basis_of-b.ensures
     (cut_doubles c.args.whole.now _ c.fill.ensures.knots)
     (c.segments.ensures ∙ ap (λ (n : ℕ). segments_of c.basis_of-b.result n) (sym l)) c.curve_ends-e.ensures in record {
-      text = fine_told c.args.k (held_all c.args.rows.now) (labels_to c.args.labels.now (length c.args.rows.now))
-          c.put_faults-r.ensures.text c.if-at-r.false (sym (long c.args.rows.now)) d c.put_fine-f.ensures.text;
-      short = c.put_fine-f.ensures.short;
-      held = may_be_asked c.args.k (held_all c.args.rows.now) (labels_to c.args.labels.now (length c.args.rows.now))
-          c.put_faults-r.ensures.text c.if-at-r.false
+      text = fine_told c.args.k z (labels_to c.args.labels.now (length c.args.rows.now)) c.put_faults.ensures (omega arith)
+          (sym (long c.args.rows.now)) d c.put_fine.ensures;
+      held = may_be_asked c.args.k z (labels_to c.args.labels.now (length c.args.rows.now)) c.put_faults.ensures (omega arith)
           (c.fill.ensures.knots ∙ ap (λ (y : List ℤ). map double_of y) c.requires.curve.is);
       few = may_ask c.args.k z (held_all c.args.whole.now) c.requires.curve (long c.args.rows.now)
           (long c.args.whole.now);

@@ -1,6 +1,5 @@
 -- Below 4 knots the definition's first test fails; from 4 on what is left of it is the callee's contract.
 use borrow.Author.Tests.{lt-leb, le-leb}
-use borrow.Author.Rules.{rules}
 use Rattle.basis.proofs.is_len_ok.Goals as goal
 
 pub returns-then-n-lt4 : goal.returns-then-n-lt4

@@ -1,19 +1,11 @@
--- The invariant: the knots before i are in range, so i and the first bad one from there on make the first bad one of all.
-use mathlib.Core.Path.{sym, ◌∙◌}
-use native.Mathlib.Omega.{arith}
-use Rattle.checks.proofs.Scan.{passed_over, stopped_at, none_bad}
+-- `position` stops at the first knot that is out of range.
+use Rattle.std.proofs.Common.{rules, tests, ◌≡◌, true, false}
+use Rattle.std.proofs.lemmas.Iterator.{YieldsList-from_slice, IsFirst-from_position}
+use Rattle.checks.specs.Checks.{in_range}
+use Rattle.checks.proofs.Scan.{bad_found}
 use Rattle.checks.proofs.first_bad.Goals as goal
 
-pub loop-i-init : goal.loop-i-init
-loop-i-init c = (omega arith, omega arith)
-
-pub returns-then-not-in_range : goal.returns-then-not-in_range
-returns-then-not-in_range c = let l = c.loop-i in
-    record { first = stopped_at _ l.i (omega arith) l.invariant.1 (sym (c.if-not-in_range.true) ∙ c.in_range.ensures); within = omega arith }
-
-pub loop-i-preserved : goal.loop-i-preserved
-loop-i-preserved c = let l = c.loop-i in
-    (omega arith, passed_over _ l.i (omega arith) l.invariant.1 (sym (c.if-not-in_range.false) ∙ c.in_range.ensures))
-
 pub returns : goal.returns
-returns c = record { first = none_bad _ c.loop-i.i (omega arith) c.loop-i.invariant.1; within = omega arith }
+returns c = bad_found c.args.knots.now c.position.result
+    (IsFirst-from_position _ _ _ (λ x. in_range x ≡ false) (λ x. in_range x ≡ true) c.position.ensures.ran
+    (YieldsList-from_slice c.args.knots.now cc) (λ x q k. search (rules, tests)) (λ x q k. search (rules, tests)))

@@ -1,19 +1,15 @@
 -- The listing after a knot holds what the keeper keeps; whether it found a place decides what is told.
+use mathlib.Core.Path.{ap}
+use Rattle.keeper.specs.Contract.{count_after}
 use Rattle.compare_lines.proofs.Entering.{knot_held, knot_taken, knot_dropped}
 use Rattle.compare_lines.proofs.add.Goals as goal
 
-pub returns-then-k : goal.returns-then-k
-returns-then-k c = let a = c.args in
-    record {
-      held = knot_held a.t a.n a.x a.knots.now c.keep_bits-k.ensures;
-      told = knot_taken a.t a.n a.x a.knots.now c.keep_bits-k.ensures c.if-k.true;
-      few = c.keep_bits-k.ensures.few;
-    }
+pub returns-in-Some : goal.returns-in-Some
+returns-in-Some c = let a = c.args in
+    let k = knot_held a.t a.n a.x a.knots.now c.keep.ensures _ (ap (count_after a.n) c.in-Some.is) in
+    record { held = k.0; told = knot_taken a.t a.n a.x a.knots.now c.keep.ensures _ c.in-Some.is; few = k.1 }
 
-pub returns : goal.returns
-returns c = let a = c.args in
-    record {
-      held = knot_held a.t a.n a.x a.knots.now c.keep_bits-k.ensures;
-      told = knot_dropped a.t a.n a.x a.knots.now c.keep_bits-k.ensures c.if-k.false;
-      few = c.keep_bits-k.ensures.few;
-    }
+pub returns-in-None : goal.returns-in-None
+returns-in-None c = let a = c.args in
+    let k = knot_held a.t a.n a.x a.knots.now c.keep.ensures _ (ap (count_after a.n) c.in-None.is) in
+    record { held = k.0; told = knot_dropped a.t a.n a.x a.knots.now c.keep.ensures c.in-None.is; few = k.1 }

@@ -6,4 +6,4 @@ pub returns-in_default : goal.returns-in_default
 returns-in_default c = simp (sym c.basis_named.ensures ∙ c.in_default.is)
 
 pub returns : goal.returns
-returns c = simp (sym c.basis_named.ensures ∙ c.in-Is.is)
+returns c = simp (sym c.basis_named.ensures ∙ c.in-Some.is)

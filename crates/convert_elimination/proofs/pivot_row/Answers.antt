@@ -1,20 +1,17 @@
--- The invariant: the rows passed have a zero in the column, so the first other one is looked for from k on.
-use lib.Ieee.{of_bits}
-use mathlib.Core.Path.{refl, ◌∙◌}
-use native.Mathlib.Omega.{arith}
+-- The rows passed have a zero in the column: the row that is found is the first other one, and where the rows end there is none.
+use lib.Ieee.{of_bits, ne}
+use mathlib.Core.Path.{◌∙◌}
+use borrow.Author.Tests.{not-true, not-false}
 use Rattle.convert_elimination.proofs.Steps.{passed_by, found, none_left}
 use Rattle.convert_elimination.proofs.pivot_row.Goals as goal
 
-pub loop-k-init : goal.loop-k-init
-loop-k-init c = (omega arith, refl)
+pub returns-then-a-k-clause-answer : goal.returns-then-a-k-clause-answer
+unfolding of_bits ne
+returns-then-a-k-clause-answer c = found _ _ _ c.loop-k-test.true (not-true _ c.if-a-k.true) ∙ c.loop-k.invariant
 
 pub loop-k-preserved : goal.loop-k-preserved
-unfolding of_bits
-loop-k-preserved c = (omega arith, passed_by _ _ _ c.loop-k-test.true c.if-a-k.true ∙ c.loop-k.invariant.1)
+unfolding of_bits ne
+loop-k-preserved c = passed_by _ _ _ c.loop-k-test.true (not-false _ c.if-a-k.false) ∙ c.loop-k.invariant
 
-pub returns-else-a-k : goal.returns-else-a-k
-unfolding of_bits
-returns-else-a-k c = record { answer = found _ _ _ c.loop-k-test.true c.if-a-k.false ∙ c.loop-k.invariant.1; found = c.loop-k-test.true }
-
-pub returns : goal.returns
-returns c = record { answer = none_left _ _ _ c.loop-k-test.false ∙ c.loop-k.invariant.1; found = tt }
+pub returns-clause-answer : goal.returns-clause-answer
+returns-clause-answer c = none_left _ _ _ c.loop-k-test.false ∙ c.loop-k.invariant

@@ -1,4 +1,5 @@
 -- Refused by a row before the seams, or by the seam that the scan finds; otherwise what is written is the plain conversion's. Assumes nothing.
+use Rattle.error.proofs.Exits.{exit}
 use mathlib.Core.Path.{sym, ap, ◌∙◌}
 use native.Mathlib.Nat.{le_trans, le_of_eq}
 use native.Mathlib.Omega.{arith}
@@ -11,28 +12,28 @@ use Rattle.convert_strict.proofs.Verdicts.{found, refused_before, plain_passes, 
 use Rattle.convert_strict.proofs.Call.{strict_refuses, strict_passes}
 use Rattle.convert_strict.proofs.convert_spline_strict.Goals as goal
 
-pub lost_seam-s-requires : goal.lost_seam-s-requires
-lost_seam-s-requires c = let a = c.args in
-    let p = sym c.allowed_verdict-v.ensures ∙ c.in-Passed.is in
+pub lost_seam-requires : goal.lost_seam-requires
+lost_seam-requires c = let a = c.args in
+    let p = sym c.allowed_verdict.ensures ∙ c.in_ok-allowed_verdict.was in
     let h = spline_passed a.from a.to a.knots.now (length a.out.now)
     (plain_passes a.from a.to a.knots.now a.allowance (length a.out.now) p) in
     record { step = c.step-step.ensures.positive; some = c.step-stride.ensures.positive; few = c.step-stride.ensures.most; enough = h.0.least; most = h.0.most }
 
-pub returns-then-s-gt0 : goal.returns-then-s-gt0
-returns-then-s-gt0 c = let a = c.args in
-    let p = sym c.allowed_verdict-v.ensures
-    ∙ c.in-Passed.is in
+pub returns-in-Some : goal.returns-in-Some
+returns-in-Some c = let a = c.args in
+    let p = sym c.allowed_verdict.ensures
+    ∙ c.in_ok-allowed_verdict.was in
     let s = found a.from a.to a.knots.now a.allowance c.conversion_matrix-m.ensures
-    c.step-step.ensures.answer c.step-stride.ensures.answer c.lost_seam-s.ensures.lowest in
+    c.step-step.ensures.answer c.step-stride.ensures.answer c.in-Some.ensures.lowest in
     let e = strict_refuses a.from a.to a.knots.now a.allowance (length a.out.now)
-    (seam_refused a.from a.to a.knots.now a.allowance (length a.out.now) p _ s c.if-s-gt0.true) in
+    (seam_refused a.from a.to a.knots.now a.allowance (length a.out.now) p _ s c.in-Some.ensures.later) in
     record { answer = sym (ap answer_of e); buffer = sym (ap (λ (x : Conversion). buffer_of x a.out.now) e) }
 
 pub put_windows-requires : goal.put_windows-requires
 put_windows-requires c = let a = c.args in
     let p =
-    sym c.allowed_verdict-v.ensures
-    ∙ c.in-Passed.is in
+    sym c.allowed_verdict.ensures
+    ∙ c.in_ok-allowed_verdict.was in
     let h =
     spline_passed a.from a.to a.knots.now (length a.out.now)
     (plain_passes a.from a.to a.knots.now a.allowance (length a.out.now) p) in
@@ -46,19 +47,22 @@ put_windows-requires c = let a = c.args in
           le_trans (le_of_eq (output_steps a.from a.to (length a.knots.now) _ _ c.step-step.ensures.answer c.step-stride.ensures.answer)) h.1.enough;
     }
 
-pub returns-in-Failed : goal.returns-in-Failed
-returns-in-Failed c = let a = c.args in
+pub returns-in_err-allowed_verdict : goal.returns-in_err-allowed_verdict
+returns-in_err-allowed_verdict c = let a = c.args in
     let e = strict_refuses a.from a.to a.knots.now a.allowance (length a.out.now) (refused_before a.from a.to a.knots.now
-    a.allowance (length a.out.now) (sym c.allowed_verdict-v.ensures ∙ c.in-Failed.is)) in
-    record { answer = sym (ap answer_of e); buffer = sym (ap (λ (x : Conversion). buffer_of x a.out.now) e) }
+    a.allowance (length a.out.now) (sym c.allowed_verdict.ensures ∙ c.in_err-allowed_verdict.was)) in
+    record {
+      answer = exit _ _ c.from_residual.ensures.1 ∙ sym (ap answer_of e);
+      buffer = sym (ap (λ (x : Conversion). buffer_of x a.out.now) e);
+    }
 
-pub returns-else-s-gt0 : goal.returns-else-s-gt0
-returns-else-s-gt0 c = let a = c.args in
-    let p = sym c.allowed_verdict-v.ensures ∙ c.in-Passed.is in
+pub returns : goal.returns
+returns c = let a = c.args in
+    let p = sym c.allowed_verdict.ensures ∙ c.in_ok-allowed_verdict.was in
     let s = found a.from a.to a.knots.now a.allowance c.conversion_matrix-m.ensures c.step-step.ensures.answer c.step-stride.ensures.answer
-    c.lost_seam-s.ensures.lowest in
+    (sym c.in_default.ensures.lowest) in
     let e = strict_passes a.from a.to a.knots.now a.allowance (length a.out.now) (seam_kept a.from a.to a.knots.now
-    a.allowance (length a.out.now) p _ s (omega (arith, c.if-s-gt0.false))) in
+    a.allowance (length a.out.now) p _ s (omega arith)) in
     let t = spline_written a.from a.to a.knots.now a.out.now _ _ _ _ _
     (plain_passes a.from a.to a.knots.now a.allowance (length a.out.now) p) c.conversion_matrix-m.ensures c.step-step.ensures.answer
     c.step-stride.ensures.answer c.step-stride.ensures.most c.put_windows.ensures.answer

@@ -21,8 +21,8 @@ returns-in_default c = let args = c.args in
 pub returns-in_default-d : goal.returns-in_default-d
 returns-in_default-d c = let args = c.args in
     let out = args.out.now in
-    let known = c.in-Known.is in
-    let from = c.in-Known.f in
+    let known = c.in-Some.is in
+    let from = c.in-Some.f in
     let unknown = c.in_default-d.is in record {
       answer = found no_basis (λ f. chosen (chosen_of args.to) no_basis (λ t. converted_reply (answer_of (converted_segment_of f t args.cv.now
           (length out))))) c.basis_of-c.ensures
@@ -35,9 +35,9 @@ returns-in_default-d c = let args = c.args in
 pub returns : goal.returns
 returns c = let args = c.args in
     let out = args.out.now in
-    let known = c.in-Known.is in
-    let from = c.in-Known.f in
-    let known-to = c.in-Known-d.is in
+    let known = c.in-Some.is in
+    let from = c.in-Some.f in
+    let known-to = c.in-Some-d.is in
     let reply = c.conversion_reply.ensures ∙ ap converted_reply c.convert_segment.ensures.answer in
     record {
       answer = found no_basis (λ f. chosen (chosen_of args.to) no_basis (λ t. converted_reply (answer_of (converted_segment_of f t args.cv.now

@@ -24,8 +24,8 @@ pub returns-in_default-d : goal.returns-in_default-d
 returns-in_default-d c = let args = c.args in
     let written = args.written.now in
     let out = args.out.now in
-    let known = c.in-Known.is in
-    let from = c.in-Known.f in
+    let known = c.in-Some.is in
+    let from = c.in-Some.f in
     let unknown = c.in_default-d.is in record {
       answer = found no_basis (λ f. chosen (chosen_of args.to) no_basis
           (λ t. converted_reply (answer_of (strict_of f t args.knots.now args.allowance (length out))))) c.basis_of-c.ensures known
@@ -42,9 +42,9 @@ pub returns : goal.returns
 returns c = let args = c.args in
     let written = args.written.now in
     let out = args.out.now in
-    let known = c.in-Known.is in
-    let from = c.in-Known.f in
-    let known-to = c.in-Known-d.is in
+    let known = c.in-Some.is in
+    let from = c.in-Some.f in
+    let known-to = c.in-Some-d.is in
     let reply = c.length_told.ensures.answer ∙ ap converted_reply c.convert_spline_strict.ensures.answer in
     let length-left = c.length_told.ensures.written ∙ ap (λ a. length_left a written) c.convert_spline_strict.ensures.answer in
     record {

@@ -20,8 +20,8 @@ pub returns-in_default-w : goal.returns-in_default-w
 returns-in_default-w c = let a = c.args in
     let w = way_of a.ends a.method in
     let most = a.most.now in
-    let known = c.in-Known.is in
-    let basis = c.in-Known.b in
+    let known = c.in-Some.is in
+    let basis = c.in-Some.b in
     let unknown = c.in_default-w.is in record {
       answer = found no_basis (λ b. way w no_basis (λ e m. 0)) c.basis_of-c.ensures known (way_unfound no_basis (λ e m. 0) c.way_of-w.ensures unknown);
       most = found most (λ b. way w most (λ e m. most_of e m b a.n a.limit)) c.basis_of-c.ensures known
@@ -32,9 +32,9 @@ pub returns : goal.returns
 returns c = let a = c.args in
     let w = way_of a.ends a.method in
     let most = a.most.now in
-    let known = c.in-Known.is in
-    let basis = c.in-Known.b in
-    let known-way = c.in-Known-w.is in record {
+    let known = c.in-Some.is in
+    let basis = c.in-Some.b in
+    let known-way = c.in-Some-w.is in record {
       answer = found no_basis (λ b. way w no_basis (λ e m. 0)) c.basis_of-c.ensures known (way_found no_basis (λ e m. 0) c.way_of-w.ensures known-way refl);
       most = found most (λ b. way w most (λ e m. most_of e m b a.n a.limit)) c.basis_of-c.ensures known
           (way_found most (λ e m. most_of e m basis a.n a.limit) c.way_of-w.ensures known-way c.most_evaluations.ensures);

@@ -26,8 +26,8 @@ returns-in_default-w c = let args = c.args in
     let place = args.place.now in
     let whole = args.whole.now in
     let w = way_of 0 args.method in
-    let known = c.in-Known.is in
-    let basis = c.in-Known.b in
+    let known = c.in-Some.is in
+    let basis = c.in-Some.b in
     let unknown = c.in_default-w.is in record {
       answer = found no_basis (λ b. way w no_basis (λ e m. inverted_reply (inverse_segment_by (rule_of m) b args.y args.cv.now args.limit args.precision)))
           c.basis_of-c.ensures known (way_unfound no_basis
@@ -45,9 +45,9 @@ returns c = let args = c.args in
     let place = args.place.now in
     let whole = args.whole.now in
     let w = way_of 0 args.method in
-    let known = c.in-Known.is in
-    let basis = c.in-Known.b in
-    let known-way = c.in-Known-w.is in
+    let known = c.in-Some.is in
+    let basis = c.in-Some.b in
+    let known-way = c.in-Some-w.is in
     record {
       answer = found no_basis (λ b. way w no_basis (λ e m. inverted_reply (inverse_segment_by (rule_of m) b args.y args.cv.now args.limit args.precision)))
           c.basis_of-c.ensures known (way_found no_basis

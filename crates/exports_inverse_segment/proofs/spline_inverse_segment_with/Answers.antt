@@ -23,7 +23,7 @@ pub returns : goal.returns
 returns c = let args = c.args in
     let place = args.place.now in
     let whole = args.whole.now in
-    let known = c.in-Known.is in
+    let known = c.in-Some.is in
     record {
       answer = found no_basis (λ b. inverted_reply (inverse_segment_of b args.y args.cv.now args.limit args.precision)) c.basis_of-c.ensures known
           (c.place_told.ensures.answer ∙ ap inverted_reply c.spline_inverse_segment_with.ensures);

@@ -1,9 +1,9 @@
 -- `exports_reply::basis_of` meets its contract: an arm knows its key, and the rest that the number is none of the six.
+use Rattle.std.specs.Prelude.{Some, None}
 use mathlib.Core.Path.{sym, ap}
 use mathlib.Core.List.{map}
 use native.Mathlib.Omega.{arith}
 use lib.ListN.{get_or-eq_default}
-use Rattle.exports_reply.specs.declared.BasisChoice.TheVariants.{Known, Unknown}
 use Rattle.exports_reply.specs.Replies.{bases, chosen_of}
 use Rattle.exports_reply.proofs.basis_of.Goals as goal
 
@@ -26,4 +26,4 @@ pub returns-in-5 : goal.returns-in-5
 returns-in-5 c = ap chosen_of (sym c.in-5.is)
 
 pub returns-in_default : goal.returns-in_default
-returns-in_default c = sym (get_or-eq_default (map Known bases) Unknown {n = c.args.n} (omega arith))
+returns-in_default c = sym (get_or-eq_default (map Some bases) None {n = c.args.n} (omega arith))

@@ -3,5 +3,5 @@ use mathlib.Core.Path.{sym, ap, ◌∙◌}
 use Rattle.exports_reply.specs.Replies.{converted_reply}
 use Rattle.exports_reply.proofs.conversion_reply.Goals as goal
 
-pub returns-in-Refused : goal.returns-in-Refused
-returns-in-Refused c = c.reply.ensures ∙ sym (ap converted_reply c.in-Refused.is)
+pub returns-in-Err : goal.returns-in-Err
+returns-in-Err c = c.reply.ensures ∙ sym (ap converted_reply c.in-Err.is)

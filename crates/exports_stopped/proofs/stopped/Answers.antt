@@ -14,5 +14,5 @@ pub returns : goal.returns
 returns c = let pair = let args = c.args in
     by_basis args.job.now args.place.now args.whole.now
     (λ b. stopped_of (table_of args.span b) args.y args.knots.now args.check) c.basis_of-c.ensures
-    c.in-Known.is c.stopped.ensures (c.job_told.ensures.answer, (c.job_told.ensures.job, (c.job_told.ensures.place, c.job_told.ensures.whole))) in
+    c.in-Some.is c.stopped.ensures (c.job_told.ensures.answer, (c.job_told.ensures.job, (c.job_told.ensures.place, c.job_told.ensures.whole))) in
     record { answer = pair.0; job = pair.1.0; place = pair.1.1.0; whole = pair.1.1.1 }

@@ -24,7 +24,7 @@ pub returns : goal.returns
 returns c = let args = c.args in
     let place = args.place.now in
     let whole = args.whole.now in
-    let known = c.in-Known.is in
+    let known = c.in-Some.is in
     record {
       answer = found no_basis (λ b. timed_reply (table_steady_of (table_of args.span b) args.y args.knots.now args.check)) c.basis_of-c.ensures known
           (c.timed_told.ensures.answer ∙ ap timed_reply c.table_spline_inverse_steady.ensures);

@@ -11,8 +11,8 @@ returns c = let old = c.args.holds.now in
     record {
       answer = found no_basis
           (λ b. claimed_reply (claim_of b c.args.y c.args.segment c.args.x c.args.precision c.args.knots.now))
-          c.basis_of-c.ensures c.in-Known.is (c.claimed_told.ensures.answer ∙ ap claimed_reply c.check_claim.ensures);
+          c.basis_of-c.ensures c.in-Some.is (c.claimed_told.ensures.answer ∙ ap claimed_reply c.check_claim.ensures);
       holds = found old
           (λ b. holds_left (claim_of b c.args.y c.args.segment c.args.x c.args.precision c.args.knots.now) old)
-          c.basis_of-c.ensures c.in-Known.is (c.claimed_told.ensures.holds ∙ ap (λ e. holds_left e old) c.check_claim.ensures);
+          c.basis_of-c.ensures c.in-Some.is (c.claimed_told.ensures.holds ∙ ap (λ e. holds_left e old) c.check_claim.ensures);
     }

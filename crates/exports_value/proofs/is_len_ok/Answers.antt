@@ -8,12 +8,12 @@ use Rattle.exports_value.proofs.is_len_ok.Goals as goal
 
 pub returns-then-is_len_ok : goal.returns-then-is_len_ok
 returns-then-is_len_ok c = let args = c.args in
-    let known = c.in-Known.is in
+    let known = c.in-Some.is in
     let ok = sym c.is_len_ok.ensures ∙ c.if-is_len_ok.true in
     found no_basis (λ b. cond (length_ok b args.n) 1 0) c.basis_of-c.ensures known (sym (ap (λ t. cond t 1 0) ok))
 
 pub returns-else-is_len_ok : goal.returns-else-is_len_ok
 returns-else-is_len_ok c = let args = c.args in
-    let known = c.in-Known.is in
+    let known = c.in-Some.is in
     let ok = sym c.is_len_ok.ensures ∙ c.if-is_len_ok.false in
     found no_basis (λ b. cond (length_ok b args.n) 1 0) c.basis_of-c.ensures known (sym (ap (λ t. cond t 1 0) ok))

@@ -7,7 +7,7 @@ use Rattle.exports_value.proofs.spline_segment.Goals as goal
 
 pub returns : goal.returns
 returns c = let args = c.args in
-    let known = c.in-Known.is in
+    let known = c.in-Some.is in
     let old = args.value.now in
     record {
       answer = found no_basis (λ b. evaluated_reply (spline_segment_of b args.x args.cv.now)) c.basis_of-c.ensures known

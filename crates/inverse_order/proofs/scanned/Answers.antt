@@ -1,18 +1,12 @@
--- The invariant: the flag, together with the pairs still to come, is the test of all pairs.
-use mathlib.Core.Path.{refl}
-use native.Mathlib.Omega.{arith}
-use Rattle.inverse_order.proofs.Scan.{scanned, scanned_all}
+-- The invariant: the flag, together with the pairs still to come, is the test of all pairs; the second of each pair comes right after the first.
+use Rattle.std.proofs.Common.{inl, inr}
+use Rattle.inverse_order.proofs.Scan.{pair_more, pairs_done}
 use Rattle.inverse_order.proofs.scanned.Goals as goal
 
-pub overflow_sub-i-end : goal.overflow_sub-i-end
-overflow_sub-i-end c = omega arith
-
-pub loop-i-init : goal.loop-i-init
-loop-i-init c = (omega arith, omega arith, refl)
-
-pub loop-i-preserved : goal.loop-i-preserved
-loop-i-preserved c = let l = c.loop-i
-    in (omega arith, omega arith, scanned _ _ l.i l.good _ (omega arith) l.invariant.2 c.follows_in-good.ensures)
+pub loop-a-preserved : goal.loop-a-preserved
+loop-a-preserved c = pair_more c.args.rising c.loop-a.good _ c.loop-a.invariant.0 c.loop-a.invariant.1 c.in-Some.ensures.steps.0
+    c.in-Some.ensures.steps.1 c.follows_in-good.ensures
 
 pub returns : goal.returns
-returns c = let l = c.loop-i in scanned_all _ _ l.i _ (omega arith) l.invariant.2
+returns c = pairs_done c.args.rising _ c.loop-a.good c.loop-a.invariant.0 c.loop-a.invariant.1
+    (elim c.in-None.ensures.steps [ inl p ↦ inl p.1.0 | inr p ↦ inr p.1.0 ])

@@ -1,13 +1,8 @@
--- The invariant: the flag, together with the pairs still to come, is the test of all pairs.
-use mathlib.Core.Path.{◌≡◌}
-use mathlib.Core.Bool.{◌&&◌}
-use Prim.Native.Nat.{◌+◌, ◌-◌, ◌≤◌}
-use lib.ListN.{length, drop}
+-- The invariant: the flag, together with the pairs still to come, is the test of all pairs; the second of each pair comes right after the first.
+use Rattle.std.proofs.Common.{◌≡◌, ◌&&◌, drop}
 use Rattle.inverse_order.specs.Contract.{kept}
 use Rattle.inverse_order.proofs.scanned.Given as goal
 
-abbrev pub invariant-loop-i : goal.invariant-loop-i
-invariant-loop-i l = (l.i + 1 ≤ length l.knots) × (1 ≤ l.i) × ((l.good && kept l.rising (drop l.i l.knots)) ≡ kept l.rising (drop 1 l.knots))
-
-abbrev pub decreases-loop-i : goal.decreases-loop-i
-decreases-loop-i l = length l.knots - l.i
+abbrev pub invariant-loop-a : goal.invariant-loop-a
+invariant-loop-a l = ((l.good && kept l.rising l.a-iterator.a.rest.now) ≡ kept l.rising (drop 1 l.knots))
+    × (l.a-iterator.b.rest.now ≡ drop 1 l.a-iterator.a.rest.now)

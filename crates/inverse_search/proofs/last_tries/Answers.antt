@@ -5,7 +5,7 @@ use Rattle.inverse_search.proofs.last_tries.Goals as goal
 
 pub tries-requires : goal.tries-requires
 tries-requires c = record {
-  inside = fits_le c.lesser-end.result c.args.k _ _ (omega arith) c.requires.inside;
+  inside = fits_le c.min-end.result c.args.k _ _ (omega arith) c.requires.inside;
   most = c.requires.most;
   last = omega arith;
   first = omega arith;
@@ -14,6 +14,6 @@ tries-requires c = record {
 
 pub returns : goal.returns
 returns c = let a = c.args in
-    last_tried a.how a.b a.knots.now a.y a.precision a.limit a.k a.left c.one_less-first.result c.lesser-end.result c.one_less-first.ensures
-    c.lesser-end.ensures
+    last_tried a.how a.b a.knots.now a.y a.precision a.limit a.k a.left c.saturating_sub-first.result c.min-end.result c.saturating_sub-first.ensures
+    c.min-end.ensures
     c.tries.ensures

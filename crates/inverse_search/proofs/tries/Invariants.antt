@@ -5,8 +5,5 @@ use Rattle.inverse_search.proofs.Glue.{Carried}
 use Rattle.inverse_search.proofs.tries.Given as goal
 
 abbrev pub invariant-loop-s : goal.invariant-loop-s
-invariant-loop-s l = (l.first ≤ l.s) × (l.s ≤ l.end) × (l.made ≤ l.count + 2 * (l.s - l.first))
+invariant-loop-s l = (l.made ≤ l.count + 2 * (l.s - l.first))
     × Carried l.how l.b l.knots l.y l.precision l.limit l.first l.end l.count l.s l.made
-
-abbrev pub decreases-loop-s : goal.decreases-loop-s
-decreases-loop-s l = l.end - l.s

@@ -6,15 +6,15 @@ use Rattle.lines_answer.specs.Answer.{places}
 use Rattle.lines_answer.proofs.Answers.{turn_written, turn_refused}
 use Rattle.lines_answer.proofs.converted_to.Goals as goal
 
-pub returns-in-Written : goal.returns-in-Written
-returns-in-Written c = let pair = let a = c.args in
+pub returns-in-Ok : goal.returns-in-Ok
+returns-in-Ok c = let pair = let a = c.args in
     turn_written a.t.span a.c (converted_of a.t.basis a.c a.knots.now places) _ a.converted.now _
-    (sym c.in-Written.is ∙ rw c.requires at c.convert_spline-i.ensures.answer)
+    (sym c.in-Ok.is ∙ rw c.requires at c.convert_spline-i.ensures.answer)
     (rw c.requires at c.convert_spline-i.ensures.out) (omega arith) in record { reply = pair.0; lent = pair.1 }
 
-pub returns-in-Refused : goal.returns-in-Refused
-returns-in-Refused c = let a = c.args in record {
+pub returns-in-Err : goal.returns-in-Err
+returns-in-Err c = let a = c.args in record {
   reply = turn_refused a.t.span a.c (converted_of a.t.basis a.c a.knots.now places) _
-      (sym c.in-Refused.is ∙ rw c.requires at c.convert_spline-i.ensures.answer);
+      (sym c.in-Err.is ∙ rw c.requires at c.convert_spline-i.ensures.answer);
   lent = omega arith;
 }

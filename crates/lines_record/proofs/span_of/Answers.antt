@@ -9,8 +9,8 @@ pub returns-in_default : goal.returns-in_default
 returns-in_default c = simp (sym c.number_in.ensures ∙ c.in_default.is)
 
 pub overflow_cast-result : goal.overflow_cast-result
-overflow_cast-result c = let h : c.in-Is.n < 10 ^ 5 = number_small 5 _ _ (sym c.number_in.ensures ∙ c.in-Is.is)
+overflow_cast-result c = let h : c.in-Some.n < 10 ^ 5 = number_small 5 _ _ (sym c.number_in.ensures ∙ c.in-Some.is)
     in omega arith
 
 pub returns : goal.returns
-returns c = simp (sym c.number_in.ensures ∙ c.in-Is.is)
+returns c = simp (sym c.number_in.ensures ∙ c.in-Some.is)

@@ -7,18 +7,18 @@ use Rattle.many.proofs.spline_many.Goals as goal
 pub put_values-requires : goal.put_values-requires
 put_values-requires c = let a = c.args in
     let h = many_sound a.b a.xs.now a.knots.now (length a.out.now)
-    (sym c.verdict-v.ensures ∙ c.in-Passed.is) in
+    (sym c.verdict-v.ensures ∙ c.in-Ok.is) in
     record { enough = h.enough; most = h.most; numbers = h.numbers; room = h.fits }
 
-pub returns-in-Failed : goal.returns-in-Failed
-returns-in-Failed c = let a = c.args in
+pub returns-in-Err : goal.returns-in-Err
+returns-in-Err c = let a = c.args in
     let t = refused a.b a.xs.now a.knots.now a.out.now _ (sym
-    c.verdict-v.ensures ∙ c.in-Failed.is) c.told.ensures in
+    c.verdict-v.ensures ∙ c.in-Err.is) c.told.ensures in
     record { answer = t.answer; out = t.left }
 
-pub returns-in-Passed : goal.returns-in-Passed
-returns-in-Passed c = let a = c.args in
+pub returns-in-Ok : goal.returns-in-Ok
+returns-in-Ok c = let a = c.args in
     let t = written a.b a.xs.now a.knots.now a.out.now _ (sym
-    c.verdict-v.ensures ∙ c.in-Passed.is)
+    c.verdict-v.ensures ∙ c.in-Ok.is)
     c.put_values.ensures in
     record { answer = t.answer; out = t.left }

@@ -1,11 +1,11 @@
 -- The invariant: the pairs of the rows until i stand at the front, and behind them the slice is as it was lent. Assumes nothing.
-use mathlib.Core.Path.{◌≡◌, refl, sym, ap, ◌∙◌}
+use mathlib.Core.Path.{◌≡◌, sym, ap, ◌∙◌}
 use mathlib.Core.List.{List, ◌++◌}
 use Prim.Native.Nat.{ℕ, ◌*◌}
 use native.Mathlib.Omega.{arith}
 use lib.Dec.{lit<}
 use lib.IntN.{ℤ}
-use lib.ListN.{length, drop, length-set}
+use lib.ListN.{length, drop}
 use Rattle.whole.specs.Held.{held, held_all}
 use Rattle.whole.proofs.Held.{knot, long}
 use Rattle.monotone.specs.Slope.{slope_at}
@@ -16,63 +16,21 @@ use Rattle.monotone.proofs.Pairs.{none_written, next_pair}
 use Rattle.monotone.proofs.fill.Goals as goal
 
 pub loop-i-init : goal.loop-i-init
-loop-i-init c = (omega arith, refl, sym (none_written (held_all c.args.rows.now) c.args.out.now))
-
-pub slope_at-m-requires : goal.slope_at-m-requires
-slope_at-m-requires c = record { many = omega arith; inside = omega arith; small = c.requires.small }
-
-pub offset_bounds-rows-i : goal.offset_bounds-rows-i
-offset_bounds-rows-i c = omega arith
-
-pub bounds-rows-i : goal.bounds-rows-i
-bounds-rows-i c = omega arith
-
-pub overflow_mul-i : goal.overflow_mul-i
-overflow_mul-i c = omega arith
-
-pub offset_bounds-out-i : goal.offset_bounds-out-i
-offset_bounds-out-i c = omega arith
-
-pub bounds-out-i : goal.bounds-out-i
-bounds-out-i c = omega arith
-
-pub overflow_mul-m : goal.overflow_mul-m
-overflow_mul-m c = omega arith
-
-pub overflow_add-m : goal.overflow_add-m
-overflow_add-m c = omega arith
-
-pub offset_bounds-out-i-in-loop-i : goal.offset_bounds-out-i-in-loop-i
-offset_bounds-out-i-in-loop-i c = omega arith
-
-pub bounds-out-i-in-loop-i : goal.bounds-out-i-in-loop-i
-bounds-out-i-in-loop-i c = simp length-set (omega arith)
-
-pub overflow_add-i : goal.overflow_add-i
-overflow_add-i c = omega arith
-
-pub loop-i-smaller : goal.loop-i-smaller
-loop-i-smaller c = omega arith
+loop-i-init c = sym (none_written (held_all c.args.rows.now) c.args.out.now)
 
 pub loop-i-preserved : goal.loop-i-preserved
 loop-i-preserved c = let l = c.loop-i in
-    let ks = c.args.rows.now in (
-      omega arith,
-      simp length-set l.invariant.1,
-      next_pair (held_all ks) c.args.out.now l.out l.i _ _ (omega arith) l.invariant.2 (sym (knot ks l.i))
-          (ap held c.slope_at-m.ensures ∙ back (slope_at (held_all ks) l.i) 1000000000000
-          (slope_le (held_all ks) c.requires.small (omega (arith, long ks)) l.i (omega (arith, long ks))) (lit< tt)),
-    )
-
-pub shape_of-out : goal.shape_of-out
-shape_of-out c = c.loop-i.invariant.1
+    let ks = c.args.rows.now in
+    next_pair (held_all ks) c.args.out.now l.out l.i _ _ (omega arith) l.invariant (sym (knot ks l.i))
+    (ap held c.slope_at.ensures ∙ back (slope_at (held_all ks) l.i) 1000000000000
+    (slope_le (held_all ks) c.requires.small (omega (arith, long ks)) l.i (omega (arith, long ks))) (lit< tt))
 
 pub returns : goal.returns
 returns c = let l = c.loop-i in
     let a = c.args in
     let ks = a.rows.now in
     let e : l.i ≡ length ks = omega arith in
-    l.invariant.2 ∙ all (held_all ks) a.out.now (e ∙ sym (long ks)) e
+    l.invariant ∙ all (held_all ks) a.out.now (e ∙ sym (long ks)) e
   where
     all : (z out : List ℤ) {i k m : ℕ} → i ≡ k → i ≡ m → pairs z 0 i ++ drop (2 * i) out ≡ pairs z 0 k ++ drop (2 * m) out
     all z out {i} {k} {m} p q = ap (λ (n : ℕ). pairs z 0 n ++ drop (2 * i) out) p ∙ ap (λ (n : ℕ). pairs z 0 k ++ drop (2 * n) out) q

@@ -20,15 +20,15 @@ returns-then-room-rows c = let a = c.args in
     let e = long a.rows.now in
     too_short (held_all a.rows.now) a.room (omega (arith, e)) (omega (arith, e)) (omega (arith, e))
 
-pub returns-then-i-rows : goal.returns-then-i-rows
-returns-then-i-rows c = let a = c.args in
+pub returns-in-Some : goal.returns-in-Some
+returns-in-Some c = let a = c.args in
     let e = long a.rows.now in
     too_large (held_all a.rows.now) a.room (omega (arith, e)) (omega (arith, e)) (omega (
       arith,
       e,
-    )) c.first_large-i.result c.first_large-i.ensures.first (omega (arith, e))
+    )) c.in-Some.i c.in-Some.ensures.0 (omega (arith, e, c.in-Some.ensures))
 
 pub returns : goal.returns
 returns c = let a = c.args in
     let e = long a.rows.now in
-    passes (held_all a.rows.now) a.room (omega (arith, e)) (omega (arith, e)) (omega (arith, e)) (omega (arith, e, c.first_large-i.ensures.first))
+    passes (held_all a.rows.now) a.room (omega (arith, e)) (omega (arith, e)) (omega (arith, e)) (omega (arith, e, c.in_default.ensures))

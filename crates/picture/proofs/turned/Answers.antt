@@ -3,10 +3,10 @@ use mathlib.Core.Path.{sym, ◌∙◌}
 use Rattle.picture.proofs.Steps.{not_turned, turn_refused}
 use Rattle.picture.proofs.turned.Goals as goal
 
-pub returns-in-Passed : goal.returns-in-Passed
-returns-in-Passed c = let a = c.args in λ f s l.
-    not_turned a.b a.c a.knots.now f s (sym c.spline_verdict-v.ensures ∙ c.in-Passed.is)
+pub returns-in-Ok : goal.returns-in-Ok
+returns-in-Ok c = let a = c.args in λ f s l.
+    not_turned a.b a.c a.knots.now f s (sym c.spline_verdict-v.ensures ∙ c.in-Ok.is)
 
-pub returns-in-Failed : goal.returns-in-Failed
-returns-in-Failed c = let a = c.args in λ f s l.
-    turn_refused a.b a.c a.knots.now f s _ (sym c.spline_verdict-v.ensures ∙ c.in-Failed.is)
+pub returns-in-Err : goal.returns-in-Err
+returns-in-Err c = let a = c.args in λ f s l.
+    turn_refused a.b a.c a.knots.now f s _ (sym c.spline_verdict-v.ensures ∙ c.in-Err.is)

@@ -1,58 +1,8 @@
--- The parts one after another, each where the last ended (`then`).
-use native.Mathlib.Omega.{arith}
-use Rattle.text.proofs.Writing.{then}
+-- The parts, one after another.
+use Rattle.std.proofs.Common.{arith}
+use Rattle.text.proofs.Pens.{within, chained}
 use Rattle.picture_axes.proofs.put_depth.Goals as goal
 
-pub put_label-g-requires : goal.put_label-g-requires
-put_label-g-requires c = record {
-  height = omega (arith, c.requires.height);
-  room = omega (
-    arith,
-    c.requires.room,
-    c.put_number-a.ensures.short,
-    c.put_word-b.ensures.next,
-    c.put_size-c.ensures.short,
-    c.put_number-d.ensures.short,
-    c.put_word-f.ensures.next,
-    c.put_number-a.ensures.text.long,
-    c.put_word-b.ensures.long,
-    c.put_size-c.ensures.text.long,
-    c.put_number-d.ensures.text.long,
-    c.put_word-f.ensures.long,
-  );
-}
-
-pub put_word-requires : goal.put_word-requires
-put_word-requires c = omega (
-  arith,
-  c.requires.room,
-  c.put_number-a.ensures.short,
-  c.put_word-b.ensures.next,
-  c.put_size-c.ensures.short,
-  c.put_number-d.ensures.short,
-  c.put_word-f.ensures.next,
-  c.put_label-g.ensures.short,
-  c.put_number-a.ensures.text.long,
-  c.put_word-b.ensures.long,
-  c.put_size-c.ensures.text.long,
-  c.put_number-d.ensures.text.long,
-  c.put_word-f.ensures.long,
-  c.put_label-g.ensures.text.long,
-)
-
 pub returns : goal.returns
-returns c = record {
-  text = (then (then (then (then (then (then (rw c.row-y.ensures.answer at c.put_number-a.ensures.text) c.put_word-b.ensures)
-      c.put_size-c.ensures.text) (rw c.row-y.ensures.answer at c.put_number-d.ensures.text))
-      c.put_word-f.ensures) c.put_label-g.ensures.text) c.put_word.ensures);
-  short = omega (
-    arith,
-    c.put_number-a.ensures.short,
-    c.put_word-b.ensures.next,
-    c.put_size-c.ensures.short,
-    c.put_number-d.ensures.short,
-    c.put_word-f.ensures.next,
-    c.put_label-g.ensures.short,
-    c.put_word.ensures.next,
-  );
-}
+returns c = rw (← c.row-y.ensures.answer) (within 128 (chained (chained (chained (chained (chained (chained c.put_number.ensures c.word.ensures)
+    c.put_size.ensures) c.put_number-2.ensures) c.word-2.ensures) c.put_label.ensures) c.word-3.ensures) (omega arith))

@@ -1,12 +1,13 @@
--- A case for each answer of the inversion.
-use native.Mathlib.Omega.{arith}
+-- A note on either refusal.
+use Rattle.std.proofs.Common.{arith, ap, ◌∙◌}
+use Rattle.std.specs.Prelude.{Err}
+use Rattle.text.proofs.Pens.{within}
 use Rattle.picture_finds.proofs.put_found.Goals as goal
 
-pub returns-in-Refused : goal.returns-in-Refused
-returns-in-Refused c = record { text = rw c.in-Refused.is c.put_note.ensures.text; short = omega (arith, c.put_note.ensures.short) }
+pub returns-in-Err-Refused : goal.returns-in-Err-Refused
+returns-in-Err-Refused c = rw (c.in-Err-Refused.is ∙ ap Err (rw c.in-Err-Refused.is at c.in-Err-Refused.field-0-is))
+    (within 288 c.put_note.ensures (omega arith))
 
-pub returns-in-OffCurve : goal.returns-in-OffCurve
-returns-in-OffCurve c = record { text = rw c.in-OffCurve.is c.put_note-in-OffCurve.ensures.text; short = omega (arith, c.put_note-in-OffCurve.ensures.short) }
-
-pub returns-in-At : goal.returns-in-At
-returns-in-At c = record { text = rw c.in-At.is c.put_at.ensures.text; short = c.put_at.ensures.short }
+pub returns-in-Err-OffCurve : goal.returns-in-Err-OffCurve
+returns-in-Err-OffCurve c = rw (c.in-Err-OffCurve.is ∙ ap Err (rw c.in-Err-OffCurve.is at c.in-Err-OffCurve.field-0-is))
+    (within 288 c.put_note-in-Err-OffCurve.ensures (omega arith))

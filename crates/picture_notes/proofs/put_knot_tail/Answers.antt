@@ -1,11 +1,7 @@
--- The parts one after another, each where the last ended (`then`).
-use native.Mathlib.Omega.{arith}
-use Rattle.text.proofs.Writing.{then}
+-- The parts, one after another.
+use Rattle.std.proofs.Common.{arith}
+use Rattle.text.proofs.Pens.{within, chained}
 use Rattle.picture_notes.proofs.put_knot_tail.Goals as goal
 
 pub returns : goal.returns
-returns c = record {
-  text = (then (then c.put_number-a.ensures.text (rw c.knot_column-x.ensures.answer at c.put_number-c.ensures.text))
-      c.put_word.ensures);
-  short = omega (arith, c.put_number-a.ensures.short, c.put_number-c.ensures.short, c.put_word.ensures.next);
-}
+returns c = rw (← c.knot_column-x.ensures.answer) (within 80 (chained (chained c.put_number.ensures c.put_number-2.ensures) c.word.ensures) (omega arith))

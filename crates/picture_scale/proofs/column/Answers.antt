@@ -10,4 +10,4 @@ returns-then-m-eq0 c = record { answer = simp (eq-eqb _ _ c.if-m-eq0.true); most
 
 pub returns : goal.returns
 unfolding column_of
-returns c = record { answer = simp (ne_eqb _ _ c.if-m-eq0.false, c.lesser.ensures); most = omega (arith, c.lesser.ensures) }
+returns c = record { answer = simp (ne_eqb _ _ c.if-m-eq0.false) (omega (arith, c.min.ensures)); most = omega (arith, c.min.ensures) }

@@ -4,18 +4,18 @@ use mathlib.Core.Path.{refl}
 use Rattle.picture_scale.specs.Scale.{curve_height}
 use Rattle.picture_scale.proofs.curve_height.Goals as goal
 
-pub returns-in-Value : goal.returns-in-Value
+pub returns-in-Ok : goal.returns-in-Ok
 unfolding curve_height
-returns-in-Value c = record {
-  answer = rw (← c.double_of.ensures, ← c.double_of-2.ensures, ← c.spline-e.ensures, c.in-Value.is)
+returns-in-Ok c = record {
+  answer = rw (← c.double_of.ensures, ← c.double_of-2.ensures, ← c.spline-e.ensures, c.in-Ok.is)
       c.height.ensures.answer;
   between = c.height.ensures.between;
 }
 
-pub returns-in-Refused : goal.returns-in-Refused
+pub returns-in-Err : goal.returns-in-Err
 unfolding curve_height
-returns-in-Refused c = record {
-  answer = rw (← c.double_of.ensures, ← c.double_of-2.ensures, ← c.spline-e.ensures, c.in-Refused.is)
+returns-in-Err c = record {
+  answer = rw (← c.double_of.ensures, ← c.double_of-2.ensures, ← c.spline-e.ensures, c.in-Err.is)
       refl;
   between = (omega arith, omega arith);
 }

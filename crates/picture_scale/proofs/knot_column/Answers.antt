@@ -5,12 +5,12 @@ use Rattle.picture_scale.proofs.knot_column.Goals as goal
 pub returns-in-Bspline : goal.returns-in-Bspline
 unfolding knot_column
 returns-in-Bspline c = rw c.in-Bspline.is
-    (record { answer = rw (c.above.ensures, c.above-in-Bspline.ensures) at c.column.ensures.answer; most = c.column.ensures.most })
+    (record { answer = rw (c.saturating_sub.ensures, c.saturating_sub-in-Bspline.ensures) at c.column.ensures.answer; most = c.column.ensures.most })
 
 pub returns-in-Bezier : goal.returns-in-Bezier
 unfolding knot_column
 returns-in-Bezier c = rw c.in-Bezier.is (record {
-  answer = rw c.above-in-Bezier.ensures at c.column-in-Bezier.ensures.answer;
+  answer = rw c.saturating_sub-in-Bezier.ensures at c.column-in-Bezier.ensures.answer;
   most = c.column-in-Bezier.ensures.most;
 })
 
@@ -18,14 +18,14 @@ pub returns-in-CatmullRom : goal.returns-in-CatmullRom
 unfolding knot_column
 returns-in-CatmullRom c = rw c.in-CatmullRom.is
     (record {
-      answer = rw (c.above-in-CatmullRom.ensures, c.above-in-CatmullRom-2.ensures) at c.column-in-CatmullRom.ensures.answer;
+      answer = rw (c.saturating_sub-in-CatmullRom.ensures, c.saturating_sub-in-CatmullRom-2.ensures) at c.column-in-CatmullRom.ensures.answer;
       most = c.column-in-CatmullRom.ensures.most;
     })
 
 pub returns-in-Hermite : goal.returns-in-Hermite
 unfolding knot_column
 returns-in-Hermite c = rw c.in-Hermite.is (record {
-  answer = rw c.above-in-Hermite.ensures at c.column-in-Hermite.ensures.answer;
+  answer = rw c.saturating_sub-in-Hermite.ensures at c.column-in-Hermite.ensures.answer;
   most = c.column-in-Hermite.ensures.most;
 })
 
@@ -33,7 +33,7 @@ pub returns-in-Linear : goal.returns-in-Linear
 unfolding knot_column
 returns-in-Linear c = rw c.in-Linear.is
     (record {
-      answer = rw (c.above-in-Linear.ensures, c.above-in-Linear-2.ensures) at c.column-in-Linear.ensures.answer;
+      answer = rw (c.saturating_sub-in-Linear.ensures, c.saturating_sub-in-Linear-2.ensures) at c.column-in-Linear.ensures.answer;
       most = c.column-in-Linear.ensures.most;
     })
 

@@ -5,4 +5,4 @@ use Rattle.picture_scale.proofs.pieces.Goals as goal
 
 pub returns : goal.returns
 unfolding pieces_of
-returns c = record { answer = rw c.segments.ensures.answer at c.lesser.ensures; most = omega (arith, c.lesser.ensures) }
+returns c = record { answer = rw (← c.segments.ensures.answer) (omega (arith, c.min.ensures)); most = omega (arith, c.min.ensures) }

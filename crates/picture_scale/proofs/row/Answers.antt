@@ -7,4 +7,4 @@ use Rattle.picture_scale.proofs.row.Goals as goal
 
 pub returns : goal.returns
 unfolding row_of
-returns c = record { answer = ap (λ x. 6400 - x) (rw c.above.ensures at c.lesser.ensures); most = omega arith }
+returns c = record { answer = ap (λ x. 6400 - x) (omega (arith, rw c.saturating_sub.ensures at c.min.ensures)); most = omega arith }

@@ -4,10 +4,10 @@ use Rattle.picture_scale.proofs.widen.Goals as goal
 
 pub returns : goal.returns
 returns c = record {
-  answer = simp (c.lesser.ensures, c.greater.ensures);
+  answer = simp (c.min.ensures, c.max.ensures);
   narrow_after = record {
-    low = omega (arith, c.lesser.ensures);
-    ordered = omega (arith, c.lesser.ensures, c.greater.ensures);
-    high = omega (arith, c.greater.ensures);
+    low = omega (arith, c.min.ensures);
+    ordered = omega (arith, c.min.ensures, c.max.ensures);
+    high = omega (arith, c.max.ensures);
   };
 }

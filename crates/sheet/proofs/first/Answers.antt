@@ -8,4 +8,4 @@ pub returns-in_default : goal.returns-in_default
 returns-in_default c = record { sheet = (λ t. ap named (sym c.in_default.is ∙ c.basis_named.ensures)); count_after = omega arith }
 
 pub returns : goal.returns
-returns c = record { sheet = (λ t. ap named (sym c.in-Is.is ∙ c.basis_named.ensures)); count_after = omega arith }
+returns c = record { sheet = (λ t. ap named (sym c.in-Some.is ∙ c.basis_named.ensures)); count_after = omega arith }

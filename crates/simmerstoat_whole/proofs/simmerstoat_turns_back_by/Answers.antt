@@ -10,7 +10,7 @@ use Rattle.simmerstoat_whole.proofs.simmerstoat_turns_back_by.Goals as goal
 pub returns : goal.returns
 returns c = let args = c.args in
     let old = args.turning.now in
-    let known = c.in-Known.is in
+    let known = c.in-Some.is in
     record {
       answer = found no_basis (λ b. turning_reply (turns_back_by_of b args.up (held_all args.knots.now))) c.basis_of-c.ensures known
           (c.turning_told.ensures.answer ∙ ap turning_reply c.turns_back_by.ensures);

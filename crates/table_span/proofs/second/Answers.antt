@@ -1,24 +1,9 @@
--- The invariant says that the second lies from `low` to `high`; each comparison keeps it, and the distance between the two falls.
-use Prim.Native.Nat.{◌+◌, ◌/◌}
-use native.Mathlib.Omega.{arith}
-use Rattle.doubles.proofs.WholePart.{begun, raised, lowered, met}
+-- The second is the greatest whole number up to the span that is at most the product, as the definition has it.
 use Rattle.table_span.proofs.Largest.{told}
 use Rattle.table_span.proofs.second.Goals as goal
 
-pub int_to_float-y : goal.int_to_float-y
-int_to_float-y c = tt
-
-pub loop-low-init : goal.loop-low-init
-loop-low-init c = begun _ _
-
-pub int_to_float-mid : goal.int_to_float-mid
-int_to_float-mid c = tt
-
-pub loop-low-preserved-then-mid-y : goal.loop-low-preserved-then-mid-y
-loop-low-preserved-then-mid-y c = raised ((c.loop-low.low + c.loop-low.high + 1) / 2) (omega arith) c.loop-low.invariant c.if-mid-y.true
-
-pub loop-low-preserved : goal.loop-low-preserved
-loop-low-preserved c = lowered ((c.loop-low.low + c.loop-low.high + 1) / 2) (omega arith) (omega arith) c.loop-low.invariant c.if-mid-y.false
+pub int_to_float-span : goal.int_to_float-span
+int_to_float-span c = tt
 
 pub returns : goal.returns
-returns c = let pair = told _ _ (met c.loop-low.invariant (omega arith)) in record { answer = pair.0; most = pair.1 }
+returns c = let pair = told _ _ c.by_halving.ensures.answer in record { answer = pair.0; most = pair.1 }

@@ -2,8 +2,8 @@
 use Rattle.table_span.proofs.Spans.{by_length, by_span}
 use Rattle.table_span.proofs.without_span.Goals as goal
 
-pub returns-in-Failed : goal.returns-in-Failed
-returns-in-Failed c = by_length c.args.b c.args.n _ c.curve_length-l.ensures c.in-Failed.is
+pub returns-in-Err : goal.returns-in-Err
+returns-in-Err c = by_length c.args.b c.args.n _ c.curve_length.ensures c.in-Err.is
 
-pub returns-in-Passed : goal.returns-in-Passed
-returns-in-Passed c = by_span c.args.b c.args.n c.curve_length-l.ensures c.in-Passed.is
+pub returns-in-Ok : goal.returns-in-Ok
+returns-in-Ok c = by_span c.args.b c.args.n c.curve_length.ensures c.in-Ok.is

@@ -1,32 +1,7 @@
--- The invariant: both words agree until i, so comparing what is left is comparing all.
-use borrow.Author.Rules.{rules}
-use native.Mathlib.Omega.{arith}
-use Prim.Native.Nat.{◌≤◌, ◌-◌}
-use mathlib.Core.Path.{◌≡◌, refl, sym, ◌∙◌}
-use lib.ListN.{length, drop}
-use Rattle.text.specs.Text.{same}
-use Rattle.text.proofs.Words.{same_long, same_step, same_stop, same_done}
+-- `==` compares the words byte by byte, as `same` does.
+use Rattle.std.proofs.Common.{sym, ◌∙◌}
+use Rattle.text.proofs.Words.{same_is}
 use Rattle.text.proofs.is_word.Goals as goal
 
-pub returns-then-s-w : goal.returns-then-s-w
-returns-then-s-w c = sym (same_long _ _ c.if-s-w.true)
-
-pub loop-i-init : goal.loop-i-init
-loop-i-init c = (omega arith, omega arith, refl)
-
-pub returns-then-s-i : goal.returns-then-s-i
-returns-then-s-i c = sym (sym c.loop-i.invariant.2
-    ∙ same_stop c.args.s.now c.args.w.now
-    c.loop-i.i (omega arith) (omega arith) c.if-s-i.true)
-
-pub loop-i-preserved : goal.loop-i-preserved
-loop-i-preserved c = (
-  omega arith,
-  omega arith,
-  same_step c.args.s.now c.args.w.now
-      c.loop-i.i (omega arith) (omega arith) c.if-s-i.false ∙ c.loop-i.invariant.2,
-)
-
 pub returns : goal.returns
-returns c = sym (sym c.loop-i.invariant.2 ∙ same_done c.args.s.now c.args.w.now c.loop-i.i (omega arith) (omega arith)
-    (omega arith))
+returns c = c.eq.ensures ∙ sym (same_is _ _)

@@ -1,21 +1,10 @@
--- The invariant: the byte does not stand before i, so i and its first place from there on make its first place of all.
-use borrow.Author.Rules.{rules}
-use native.Mathlib.Omega.{arith}
-use Prim.Native.Nat.{◌≤◌, ◌-◌, ◌+◌}
-use mathlib.Core.Path.{◌≡◌, ◌∙◌}
-use lib.ListN.{length, drop}
-use Rattle.text.specs.Text.{place_of}
-use Rattle.text.proofs.Words.{place_step, place_stop, place_done}
+-- `position` finds the first byte that is b: `place_of` counts those before it.
+use Rattle.std.proofs.Common.{rules, tests, ◌≡◌, ◌≢◌, ◌∙◌}
+use Rattle.std.proofs.lemmas.Iterator.{YieldsList-from_slice, IsFirst-from_position}
+use Rattle.text.proofs.Words.{place_found}
 use Rattle.text.proofs.place_of.Goals as goal
 
-pub loop-i-init : goal.loop-i-init
-loop-i-init c = (omega arith, omega arith)
-
-pub returns-then-s-i : goal.returns-then-s-i
-returns-then-s-i c = record { answer = place_stop _ _ _ (omega arith) c.if-s-i.true ∙ c.loop-i.invariant.1; most = omega arith }
-
-pub loop-i-preserved : goal.loop-i-preserved
-loop-i-preserved c = (omega arith, place_step _ _ _ (omega arith) c.if-s-i.false ∙ c.loop-i.invariant.1)
-
-pub returns : goal.returns
-returns c = record { answer = place_done _ _ _ (omega arith) (omega arith) ∙ c.loop-i.invariant.1; most = omega arith }
+pub returns-clause-answer : goal.returns-clause-answer
+returns-clause-answer c = c.unwrap_or.ensures ∙ place_found c.args.b c.args.s.now c.position.result
+    (IsFirst-from_position _ _ _ (λ x. x ≡ c.args.b) (λ x. x ≢ c.args.b) c.position.ensures.ran (YieldsList-from_slice c.args.s.now cc)
+    (λ x q k. search (rules, tests)) (λ x q k. search (rules, tests)))

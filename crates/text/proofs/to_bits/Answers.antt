@@ -1,5 +1,4 @@
 -- Only NaN differs from itself; its pattern is the quiet one. Any other double has its own bits.
-use borrow.Author.Rules.{rules}
 use mathlib.Core.Path.{sym, ap, subst}
 use lib.Dec.{T}
 use lib.Ieee.{to_bits, binary64}

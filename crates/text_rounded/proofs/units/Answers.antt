@@ -8,37 +8,37 @@ use Rattle.text_rounded.proofs.units.Goals as goal
 pub returns-then-s-gt74 : goal.returns-then-s-gt74
 returns-then-s-gt74 c = record { answer = no_units c.args.d c.args.a (omega arith) (omega arith) (omega arith); most = omega arith }
 
-pub power-scale-requires : goal.power-scale-requires
-power-scale-requires c = record { base = omega arith; fits = omega (arith, ten_power c.args.d (omega arith)) }
+pub pow-scale-requires : goal.pow-scale-requires
+pow-scale-requires c = omega (arith, ten_power c.args.d (omega arith))
 
 pub overflow_mul-low : goal.overflow_mul-low
-overflow_mul-low c = omega (arith, low_room c.significand-m.result c.power-scale.result (omega (arith, ten_power c.args.d (omega arith))))
+overflow_mul-low c = omega (arith, low_room c.significand-m.result c.pow-scale.result (omega (arith, ten_power c.args.d (omega arith))))
 
 pub overflow_mul-high : goal.overflow_mul-high
 overflow_mul-high c = omega (
   arith,
-  high_room c.significand-m.result c.power-scale.result (omega arith)
+  high_room c.significand-m.result c.pow-scale.result (omega arith)
       (omega (arith, ten_power c.args.d (omega arith))),
 )
 
 pub overflow_add-high : goal.overflow_add-high
 overflow_add-high c = omega (
   arith,
-  low_room c.significand-m.result c.power-scale.result (omega (arith, ten_power c.args.d (omega arith))),
-  high_room c.significand-m.result c.power-scale.result (omega arith) (omega (arith, ten_power c.args.d (omega arith))),
+  low_room c.significand-m.result c.pow-scale.result (omega (arith, ten_power c.args.d (omega arith))),
+  high_room c.significand-m.result c.pow-scale.result (omega arith) (omega (arith, ten_power c.args.d (omega arith))),
 )
 
-pub power-requires : goal.power-requires
-power-requires c = record { base = omega arith; fits = omega (arith, half_room c.shift-s.result (omega arith)) }
+pub pow-requires : goal.pow-requires
+pow-requires c = omega (arith, half_room c.shift-s.result (omega arith))
 
 pub nearest-requires : goal.nearest-requires
 nearest-requires c = record {
   low = omega arith;
   high = omega (
     arith,
-    low_room c.significand-m.result c.power-scale.result
+    low_room c.significand-m.result c.pow-scale.result
         (omega (arith, ten_power c.args.d (omega arith))),
-    high_room c.significand-m.result c.power-scale.result (omega arith)
+    high_room c.significand-m.result c.pow-scale.result (omega arith)
         (omega (arith, ten_power c.args.d (omega arith))),
   );
   some = omega (arith, pow_pos (c.shift-s.result - 12));
@@ -46,6 +46,6 @@ nearest-requires c = record {
 }
 
 pub returns : goal.returns
-returns c = let pair = units_are c.args.d c.args.a c.significand-m.result c.shift-s.result c.power-scale.result
-    c.power.result _ c.significand-m.ensures.answer c.significand-m.ensures.short c.shift-s.ensures.answer
-    c.shift-s.ensures.least c.power-scale.ensures c.power.ensures c.nearest.ensures in record { answer = pair.0; most = pair.1 }
+returns c = let pair = units_are c.args.d c.args.a c.significand-m.result c.shift-s.result c.pow-scale.result
+    c.pow.result _ c.significand-m.ensures.answer c.significand-m.ensures.short c.shift-s.ensures.answer
+    c.shift-s.ensures.least c.pow-scale.ensures c.pow.ensures c.nearest.ensures in record { answer = pair.0; most = pair.1 }

@@ -13,11 +13,9 @@ pub segments-n-requires : goal.segments-n-requires
 segments-n-requires c = c.requires.enough
 
 pub loop-s-init : goal.loop-s-init
-loop-s-init c = let a = c.args in (
-  omega arith,
-  from_none a.b (turned_all a.up (held_all a.knots.now)) c.segments-n.result
-      (c.segments-n.ensures ∙ ap (λ (n : ℕ). segments_of a.b n) (sym (turned_long a.up (held_all a.knots.now) ∙ long a.knots.now))),
-)
+loop-s-init c = let a = c.args in
+    from_none a.b (turned_all a.up (held_all a.knots.now)) c.segments-n.result
+    (c.segments-n.ensures ∙ ap (λ (n : ℕ). segments_of a.b n) (sym (turned_long a.up (held_all a.knots.now) ∙ long a.knots.now)))
 
 pub is_segment_never_falling-requires : goal.is_segment_never_falling-requires
 is_segment_never_falling-requires c = record {
@@ -31,24 +29,19 @@ is_segment_never_falling-requires c = record {
 
 pub returns-then-not-is_segment_never_falling : goal.returns-then-not-is_segment_never_falling
 returns-then-not-is_segment_never_falling c = let l = c.loop-s in
-    let a = c.args in record {
-      first = falls_here a.b (turned_all a.up (held_all a.knots.now)) c.segments-n.result l.s (omega arith) l.invariant.1
-          (sym (c.if-not-is_segment_never_falling.true) ∙ c.is_segment_never_falling.ensures);
-      within = omega (arith, c.segments-n.ensures);
-    }
+    let a = c.args in (
+      falls_here a.b (turned_all a.up (held_all a.knots.now)) c.segments-n.result l.s (omega arith) l.invariant
+          (sym (c.if-not-is_segment_never_falling.true) ∙ c.is_segment_never_falling.ensures),
+      omega (arith, c.segments-n.ensures),
+    )
 
 pub loop-s-preserved : goal.loop-s-preserved
 loop-s-preserved c = let l = c.loop-s in
-    let a = c.args in (
-      omega arith,
-      rising_on a.b (turned_all a.up (held_all a.knots.now)) c.segments-n.result l.s (omega arith) l.invariant.1
-          (sym (c.if-not-is_segment_never_falling.false) ∙ c.is_segment_never_falling.ensures),
-    )
+    let a = c.args in
+    rising_on a.b (turned_all a.up (held_all a.knots.now)) c.segments-n.result l.s (omega arith) l.invariant
+    (sym (c.if-not-is_segment_never_falling.false) ∙ c.is_segment_never_falling.ensures)
 
 pub returns : goal.returns
 returns c = let l = c.loop-s in
-    let a = c.args in record {
-      first =
-          none_falls a.b (turned_all a.up (held_all a.knots.now)) c.segments-n.result l.s l.invariant.0 (omega arith) l.invariant.1;
-      within = omega (arith, c.segments-n.ensures);
-    }
+    let a = c.args in
+    sym (none_falls a.b (turned_all a.up (held_all a.knots.now)) c.segments-n.result l.s (omega arith) (omega arith) l.invariant) ∙ omega (arith, c.segments-n.ensures)

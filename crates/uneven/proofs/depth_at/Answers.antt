@@ -9,14 +9,14 @@ pub suited-requires : goal.suited-requires
 suited-requires c = let a = c.args in
     room a.tb a.y a.times.now a.limit a.precision c.ranges.limit.fits c.spline_inverse_with-a.ensures
 
-pub returns-in-Failed : goal.returns-in-Failed
-returns-in-Failed c = let a = c.args in
+pub returns-in-Err : goal.returns-in-Err
+returns-in-Err c = let a = c.args in
     answered a.tb a.db a.times.now a.depths.now a.y a.limit a.precision c.spline_inverse_with-a.ensures
     (c.spline-e.ensures ∙ ap (λ (x : Float). spline_of a.db x a.depths.now) c.asked_at.ensures) c.segments.ensures c.segments-2.ensures
-    c.depths_verdict-v.ensures c.in-Failed.is c.unsuited.ensures
+    c.depths_verdict-v.ensures c.in-Err.is c.unsuited.ensures
 
-pub returns-in-Passed : goal.returns-in-Passed
-returns-in-Passed c = let a = c.args in
+pub returns-in-Ok : goal.returns-in-Ok
+returns-in-Ok c = let a = c.args in
     answered a.tb a.db a.times.now a.depths.now a.y a.limit a.precision c.spline_inverse_with-a.ensures
     (c.spline-e.ensures ∙ ap (λ (x : Float). spline_of a.db x a.depths.now) c.asked_at.ensures) c.segments.ensures c.segments-2.ensures
-    c.depths_verdict-v.ensures c.in-Passed.is c.suited.ensures
+    c.depths_verdict-v.ensures c.in-Ok.is c.suited.ensures

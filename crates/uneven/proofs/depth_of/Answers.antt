@@ -3,8 +3,8 @@ use mathlib.Core.Path.{sym, ap}
 use Rattle.uneven.specs.Uneven.{depth_at}
 use Rattle.uneven.proofs.depth_of.Goals as goal
 
-pub returns-in-Value : goal.returns-in-Value
-returns-in-Value c = sym (ap (depth_at c.args.p) c.in-Value.is)
+pub returns-in-Ok : goal.returns-in-Ok
+returns-in-Ok c = sym (ap (depth_at c.args.p) c.in-Ok.is)
 
-pub returns-in-Refused : goal.returns-in-Refused
-returns-in-Refused c = sym (ap (depth_at c.args.p) c.in-Refused.is)
+pub returns-in-Err : goal.returns-in-Err
+returns-in-Err c = sym (ap (depth_at c.args.p) c.in-Err.is)

@@ -10,24 +10,24 @@ use Rattle.valve.proofs.simmerstoat_valve.Goals as goal
 
 pub row-requires : goal.row-requires
 row-requires c = let a = c.args in
-    let p = passed a.step a.knots.now (sym c.verdict-v.ensures ∙ c.in-Passed.is) in
+    let p = passed a.step a.knots.now (sym c.verdict-v.ensures ∙ c.in-Ok.is) in
     let few = p.step in
     search rules
 
 pub weighted_sum-requires : goal.weighted_sum-requires
 weighted_sum-requires c = let a = c.args in
-    let p = passed a.step a.knots.now (sym c.verdict-v.ensures ∙ c.in-Passed.is) in
+    let p = passed a.step a.knots.now (sym c.verdict-v.ensures ∙ c.in-Ok.is) in
     record { few = c.row.ensures.few; enough = p.many; small = p.knots }
 
-pub returns-in-Failed : goal.returns-in-Failed
-returns-in-Failed c = let a = c.args in
-    let is = is_refused a.step a.knots.now _ (sym c.verdict-v.ensures ∙ c.in-Failed.is) in
+pub returns-in-Err : goal.returns-in-Err
+returns-in-Err c = let a = c.args in
+    let is = is_refused a.step a.knots.now _ (sym c.verdict-v.ensures ∙ c.in-Err.is) in
     record { answer = c.reply.ensures ∙ sym (ap mixture_reply is); sum = sym (ap (λ m. sum_left m a.sum.now) is) }
 
-pub returns-in-Passed : goal.returns-in-Passed
-returns-in-Passed c = let a = c.args in
+pub returns-in-Ok : goal.returns-in-Ok
+returns-in-Ok c = let a = c.args in
     let is =
-    is_mixed a.step a.knots.now (sym c.verdict-v.ensures ∙ c.in-Passed.is) in record {
+    is_mixed a.step a.knots.now (sym c.verdict-v.ensures ∙ c.in-Ok.is) in record {
       answer = sym (ap mixture_reply is);
       sum = to_z-of_z {w = w64} (record { sfits = c.weighted_sum.type_inv }) ∙ c.weighted_sum.ensures ∙ by_four a.knots.now a.step _ _ _ _ c.row.ensures
           ∙ sym (ap (λ m. sum_left m a.sum.now) is);

@@ -1,7 +1,6 @@
 -- The invariant says that the answer lies from `low` to `high`; each comparison keeps it, and the distance between the two falls.
-use Rattle.std.proofs.Common.{◌+◌, ◌-◌, ◌/◌, sym, ap, ◌∙◌, arith, rules}
-use lib.Ieee.{Float, le}
-use Rattle.doubles.proofs.WholePart.{Halving, begun, raised, lowered, met}
+use Rattle.std.proofs.Common.{◌-◌}
+use Rattle.doubles.proofs.WholePart.{Halving}
 use Rattle.doubles.proofs.whole.by_halving.Given as goal
 
 abbrev pub invariant-loop-low : goal.invariant-loop-low

@@ -1,6 +1,5 @@
 -- Only the bound 4096 is claimed, so only the wrapped difference needs a fact: the sum is no NaN, and so it has bits.
 use Rattle.doubles.proofs.Order.{no_nan}
-use Rattle.std.proofs.Common.{rules}
 use Rattle.doubles.proofs.whole.guess.Goals as goal
 
 pub float_to_bits-g : goal.float_to_bits-g

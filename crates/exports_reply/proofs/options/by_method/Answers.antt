@@ -1,9 +1,10 @@
 -- `exports_reply::options::by_method` meets its contract: an arm knows its key, and the rest that the number is none of the three. Assumes nothing.
+use Rattle.std.specs.Prelude.{Some, None}
 use mathlib.Core.Path.{sym, ap}
 use mathlib.Core.List.{map}
 use native.Mathlib.Omega.{arith}
 use lib.ListN.{get_or-eq_default}
-use Rattle.exports_reply.specs.declared.options.Way.TheVariants.{Known, Unknown}
+use Rattle.inverse_segment.specs.declared.Method.{Method}
 use Rattle.exports_reply.specs.Options.{methods, method_of}
 use Rattle.exports_reply.proofs.options.by_method.Goals as goal
 
@@ -17,5 +18,5 @@ pub returns-in-2 : goal.returns-in-2
 returns-in-2 c = ap (method_of c.args.ends) (sym c.in-2.is)
 
 pub returns-in_default : goal.returns-in_default
-returns-in_default c = sym (get_or-eq_default (map (Known c.args.ends) methods) Unknown {n = c.args.n}
+returns-in_default c = sym (get_or-eq_default (map (λ (m : Method). Some (c.args.ends, m)) methods) None {n = c.args.n}
     (omega arith))

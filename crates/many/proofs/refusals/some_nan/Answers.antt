@@ -3,11 +3,11 @@ use Rattle.std.proofs.Common.{refl, arith}
 use Rattle.many.proofs.Scan.{scanned, scanned_all}
 use Rattle.many.proofs.refusals.some_nan.Goals as goal
 
-pub loop-i-init : goal.loop-i-init
-loop-i-init c = (omega arith, refl)
+pub loop-x-init : goal.loop-x-init
+loop-x-init c = refl
 
-pub loop-i-preserved : goal.loop-i-preserved
-loop-i-preserved c = let l = c.loop-i in (omega arith, scanned _ l.i l.found (omega arith) l.invariant.1)
+pub loop-x-preserved : goal.loop-x-preserved
+loop-x-preserved c = let l = c.loop-x in scanned _ l.x-index l.found _ (omega arith) l.invariant c.is_nan-found.ensures.value
 
 pub returns : goal.returns
-returns c = scanned_all _ c.loop-i.i _ (omega arith) c.loop-i.invariant.1
+returns c = scanned_all _ c.loop-x.x-index _ (omega arith) c.loop-x.invariant

@@ -1,20 +1,10 @@
 -- Five words, one after another.
-use native.Mathlib.Omega.{arith}
-use Rattle.text.proofs.Writing.{then}
+use Rattle.std.proofs.Common.{arith}
+use Rattle.text.proofs.Pens.{within, chained}
 use Rattle.picture.specs.Picture.{head_text}
 use Rattle.picture.proofs.draw.put_head.Goals as goal
 
 pub returns : goal.returns
 unfolding head_text
-returns c = record {
-  text = (then (then (then (then c.put_word-a.ensures c.put_word-b.ensures) c.put_word-c.ensures)
-      c.put_word-d.ensures) c.put_word.ensures);
-  short = omega (
-    arith,
-    c.put_word-a.ensures.next,
-    c.put_word-b.ensures.next,
-    c.put_word-c.ensures.next,
-    c.put_word-d.ensures.next,
-    c.put_word.ensures.next,
-  );
-}
+returns c = within 900 (chained (chained (chained (chained c.word.ensures c.word-2.ensures) c.word-3.ensures) c.word-4.ensures) c.word-5.ensures)
+    (omega arith)

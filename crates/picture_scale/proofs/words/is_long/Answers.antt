@@ -6,8 +6,8 @@ use Rattle.picture_scale.proofs.words.is_long.Goals as goal
 
 pub returns-then-u-eq0 : goal.returns-then-u-eq0
 unfolding is_long
-returns-then-u-eq0 c = rw (← c.above.ensures, ← c.above-2.ensures, eq-eqb _ _ c.if-u-eq0.true) refl
+returns-then-u-eq0 c = rw (← c.abs_diff-u.ensures, eq-eqb _ _ c.if-u-eq0.true) refl
 
 pub returns : goal.returns
 unfolding is_long
-returns c = rw (← c.above.ensures, ← c.above-2.ensures, ne_eqb _ _ c.if-u-eq0.false) refl
+returns c = rw (← c.abs_diff-u.ensures, ne_eqb _ _ c.if-u-eq0.false) refl

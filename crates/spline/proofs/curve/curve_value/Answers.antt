@@ -33,22 +33,22 @@ offset_bounds-knots-start c = omega (
       c.place-z.ensures,
 )
 
-pub slice_bounds-value_in-count : goal.slice_bounds-value_in-count
-slice_bounds-value_in-count c = omega (
+pub slice_bounds-segment_value-count : goal.slice_bounds-segment_value-count
+slice_bounds-segment_value-count c = omega (
   arith,
   starts c.args.b (length c.args.knots.now) c.requires.enough c.segments-k.ensures c.step.ensures.answer
       c.place-z.ensures,
 )
 
-pub slice_bounds-value_in-start : goal.slice_bounds-value_in-start
-slice_bounds-value_in-start c = omega (
+pub slice_bounds-segment_value-start : goal.slice_bounds-segment_value-start
+slice_bounds-segment_value-start c = omega (
   arith,
   starts c.args.b (length c.args.knots.now) c.requires.enough c.segments-k.ensures c.step.ensures.answer
       c.place-z.ensures,
 )
 
-pub value_in-requires : goal.value_in-requires
-value_in-requires c = simp (rest, length-drop) (omega (
+pub segment_value-requires : goal.segment_value-requires
+segment_value-requires c = simp (rest, length-drop) (omega (
   arith,
   starts c.args.b (length c.args.knots.now) c.requires.enough c.segments-k.ensures c.step.ensures.answer
       c.place-z.ensures,
@@ -56,4 +56,4 @@ value_in-requires c = simp (rest, length-drop) (omega (
 
 pub returns : goal.returns
 returns c = put_together c.args.b c.args.x c.args.knots.now c.segments-k.ensures
-    c.step.ensures.answer c.place-z.ensures refl c.value_in.ensures
+    c.step.ensures.answer c.place-z.ensures refl c.segment_value.ensures

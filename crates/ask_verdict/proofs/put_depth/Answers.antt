@@ -1,9 +1,0 @@
--- The pattern, rounded.
-use mathlib.Core.Path.{ap}
-use Prim.Native.Nat.{ℕ}
-use Rattle.text_rounded.specs.Rounded.{rounded_text}
-use Rattle.ask_verdict.proofs.Texts.{as_text}
-use Rattle.ask_verdict.proofs.put_depth.Goals as goal
-
-pub returns : goal.returns
-returns c = record { text = as_text (ap (λ (n : ℕ). rounded_text 3 n) c.to_bits.ensures) c.put_rounded.ensures.text; short = c.put_rounded.ensures.short }
