@@ -4,7 +4,8 @@ use Rattle.stopped.specs.declared.Job.{Job}
 use Rattle.inverse_segment.specs.declared.Miss.{Miss}
 use Rattle.stopped.specs.declared.Job.TheVariants.{UnderWay, Flat, Before, Start, End, Beyond}
 use Rattle.inverse_segment.specs.declared.Miss.TheVariants.{Refused, OffCurve}
-use Rattle.std.specs.Prelude.{false, cond, ◌&&◌, List, [], ◌∷◌, ◌++◌, ℕ, zero, suc, ◌+◌, ◌-◌, ◌*◌, ◌/◌, leb, Float, length, get_or, Ok, Err, Result}
+use Rattle.std.specs.Prelude.{false, cond, ◌&&◌, List, [], ◌∷◌, ◌++◌, ℕ, zero, suc, ◌+◌, ◌-◌, ◌*◌, ◌/◌, leb, Float, length, get_or}
+use Rattle.std.specs.Prelude.{Ok, Err, Result}
 use Rattle.std.specs.Float.Ieee.{to_bits, div}
 use Rattle.std.specs.Float.{binary64}
 use Rattle.doubles.specs.Whole.{double}

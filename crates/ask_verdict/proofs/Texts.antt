@@ -60,7 +60,8 @@ pub all_rows : (k : Kind) (w : Way) (z : List ℤ) (ls : List (List ℕ)) {p q r
     → Writes p (faults_text (faults_of k z ls)) (m + n) r
 unfolding faults_of
 all_rows k w z ls e a b =
-    as_told (texts_append (faults_to k w z ls (length z)) (flat_by w) ∙ ap (λ (v : Way). faults_text (faults_to k v z ls (length z) ++ flat_by v)) e) (chained a b)
+    as_told (texts_append (faults_to k w z ls (length z)) (flat_by w) ∙ ap
+    (λ (v : Way). faults_text (faults_to k v z ls (length z) ++ flat_by v)) e) (chained a b)
 
 -- nothing is written where there is no fault, and something where there is one
 some_length : (f : Fault) → 0 < length (fault_text f)

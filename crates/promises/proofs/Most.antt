@@ -74,7 +74,8 @@ pub spline_inverse_steady_most : Keeps spline_inverse_steady.Learnt (λ κs a z 
 spline_inverse_steady_most κs a z e p = within Knots Steady a.0 a.1.1.0.now steady_limit a.1.0 a.1.1.1.0 default_precision z p
 
 -- ---- what others link: where it does not return 0 it writes nothing
-kept : (c : Option Basis) (w : Option (EndsBy × Method)) (f : Basis → EndsBy → Method → ℕ) (old : ℕ) → NotZero (chosen c no_basis (λ b. way w no_basis (λ e m. 0)))
+kept : (c : Option Basis) (w : Option (EndsBy × Method)) (f : Basis → EndsBy → Method → ℕ) (old : ℕ)
+    → NotZero (chosen c no_basis (λ b. way w no_basis (λ e m. 0)))
     → chosen c old (λ b. way w old (f b)) ≡ old
 kept None w f old h = refl
 kept (Some b) None f old h = refl

@@ -77,7 +77,8 @@ use Rattle.promises.proofs.Valve.{mix_refuses}
 use Rattle.promises.proofs.Claims.{check_claim_checked}
 
 -- ---- a table with a span
-pub timed_owed : (us : Uses) (z : Result (Place × ℕ) Miss) → Refuses (λ a. Err (Refused a)) us z → Owes (number_by us) (timed_number z) (Counts (λ a. Err (OffCurve a)) z)
+pub timed_owed : (us : Uses) (z : Result (Place × ℕ) Miss) → Refuses (λ a. Err (Refused a)) us z
+    → Owes (number_by us) (timed_number z) (Counts (λ a. Err (OffCurve a)) z)
 timed_owed us (Err (Refused r)) d = inl (row_first us r ((d r).0 refl))
 timed_owed us (Err (OffCurve n)) d = inr (sym (none_first us (λ r f. let h : Err (OffCurve n) ≡ Err (Refused r) = (d r).1 f in never (cc))), refl, (n, refl))
 timed_owed us (Ok (q, s)) d = inl (none_first us (λ r f. let h : ◌≡◌ {A = Result (Place × ℕ) Miss} (Ok (q, s)) (Err (Refused r)) = (d r).1 f in never (cc)))
@@ -96,12 +97,14 @@ pub table_spline_inverse_by_number : Keeps table_spline_inverse_by.Learnt
     (λ κs a z e. TableInversionNumber
     (bad_span a.1.0.span ∷ inverse_uses a.1.0.basis a.1.1.0 a.1.1.1.0.now a.0.check a.0.limit a.0.precision)
     z)
-table_spline_inverse_by_number κs a z e p = by_places timed_number (λ a. Err (Refused a)) (λ a. Err (OffCurve a)) timed_owed _ z refl refl (table_spline_inverse_by_refuses κs a z e p)
+table_spline_inverse_by_number κs a z e p = by_places timed_number (λ a. Err (Refused a)) (λ a. Err (OffCurve a))
+    timed_owed _ z refl refl (table_spline_inverse_by_refuses κs a z e p)
 
 pub table_spline_inverse_number : Keeps table_spline_inverse.Learnt
     (λ κs a z e. TableInversionNumber
     (bad_span a.0.span ∷ inverse_uses a.0.basis a.1.0 a.1.1.0.now a.1.1.1.0 default_limit default_precision) z)
-table_spline_inverse_number κs a z e p = by_places timed_number (λ a. Err (Refused a)) (λ a. Err (OffCurve a)) timed_owed _ z refl refl (table_spline_inverse_refuses κs a z e p)
+table_spline_inverse_number κs a z e p = by_places timed_number (λ a. Err (Refused a)) (λ a. Err (OffCurve a))
+    timed_owed _ z refl refl (table_spline_inverse_refuses κs a z e p)
 
 pub table_convert_spline_number : Keeps table_convert_spline.Learnt
     (λ κs a z e. RowNumber
@@ -158,7 +161,8 @@ module _ (tb : Basis) (ts : List Float) (db : Basis) (ds : List Float) (y : Floa
   abbrev depths : Uses
   depths = depth_uses tb (length ts) db ds
 
-  sounded_owed : (z : Result Depth DepthMiss) → Sounds tb ts db ds y limit ε z → Owes (number_by_both times depths) (sounded_number z) (Counts (λ a. Err (OffCurve a)) z)
+  sounded_owed : (z : Result Depth DepthMiss) → Sounds tb ts db ds y limit ε z
+      → Owes (number_by_both times depths) (sounded_number z) (Counts (λ a. Err (OffCurve a)) z)
   sounded_owed (Err (Refused Times r)) s =
       inl (ap (λ (x : Verdict). number_in (either_of x (first depths))) (sym (first_complete rows times r ((s.times r).0 refl))))
   sounded_owed (Err (Refused Depths r)) s = let f = (s.depths r).0 refl in inl (both times depths f.0 (first_complete rows depths r f.1))

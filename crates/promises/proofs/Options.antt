@@ -56,7 +56,8 @@ place_kept (Some b) (Some (e, m)) f old h = go (f b e m) h
     go (Err (OffCurve n)) h = refl
     go (Err (Refused r)) h = refl
 
-whole_kept : (c : Option Basis) (w : Option (EndsBy × Method)) (f : Basis → EndsBy → Method → Inversion) (old : List ℕ) → NotZero (reply c w f) → (reply c w f ≡ 11 → ⊥)
+whole_kept : (c : Option Basis) (w : Option (EndsBy × Method)) (f : Basis → EndsBy → Method → Inversion) (old : List ℕ) → NotZero (reply c w f)
+    → (reply c w f ≡ 11 → ⊥)
     → chosen c old (λ b. way w old (λ e m. whole_left (f b e m) old)) ≡ old
 whole_kept None w f old h g = refl
 whole_kept (Some b) None f old h g = refl

@@ -125,7 +125,8 @@ by_value : (v : Verdict) (a : Evaluation) (r : Refusal) → (v ≡ Ok tt → a �
 by_value (Ok _) a r k = (λ p. absurd (k refl p), λ p. never (cc))
 by_value (Err q) a r k = (λ p. let s : q ≡ r = cc in ap Err s, λ p. let s : q ≡ r = cc in ap Err s)
 
-by_timed : (v : Verdict) (a : Result (Place × ℕ) Miss) (r : Refusal) → (v ≡ Ok tt → a ≡ Err (Refused r) → ⊥) → Exactly (timed_unless v a ≡ Err (Refused r)) (v ≡ Err r)
+by_timed : (v : Verdict) (a : Result (Place × ℕ) Miss) (r : Refusal) → (v ≡ Ok tt → a ≡ Err (Refused r) → ⊥)
+    → Exactly (timed_unless v a ≡ Err (Refused r)) (v ≡ Err r)
 by_timed (Ok _) a r k = (λ p. absurd (k refl p), λ p. never (cc))
 by_timed (Err q) a r k = (λ p. let s : q ≡ r = cc in ap Err s, λ p. let s : q ≡ r = cc in ap (λ a. Err (Refused a)) s)
 

@@ -66,7 +66,8 @@ module _ (tb : Basis) (ts : List Float) (db : Basis) (ds : List Float) (y : Floa
     pub depths : (r : Refusal)
         → Exactly (z ≡ Err (Refused Depths r)) ((first (inverse_uses tb y ts true limit ε) ≡ Ok tt) × First (depth_uses tb (length ts) db ds) rows r)
     -- 11 exactly where no row of the depths applies and the inversion says it, with its count
-    pub off : (n : ℕ) → Exactly (z ≡ Err (OffCurve n)) ((first (depth_uses tb (length ts) db ds) ≡ Ok tt) × (inverse_of tb y ts true limit ε ≡ Err (OffCurve n)))
+    pub off : (n : ℕ) → Exactly (z ≡ Err (OffCurve n)) ((first (depth_uses tb (length ts) db ds) ≡ Ok tt)
+        × (inverse_of tb y ts true limit ε ≡ Err (OffCurve n)))
     pub off_made : (n : ℕ) → z ≡ Err (OffCurve n) → n ≡ length (inverse_evaluations tb y ts true limit ε)
     -- where both tables pass and the inversion finds a place: its record, the depths' value at its parameter, which is never refused, and one evaluation more
     pub both_calls : first (depth_uses tb (length ts) db ds) ≡ Ok tt → (p : Place) → inverse_of tb y ts true limit ε ≡ Ok p

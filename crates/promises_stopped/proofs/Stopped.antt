@@ -49,7 +49,8 @@ module _ (t : Table) (y : Float) (ks : List Float) (check : Bool) where
 
   pub record Which (z : Result Job Miss) : Type 0 where
     pub refused : (r : Refusal) → Exactly (z ≡ Err (Refused r)) (First (bad_span t.span ∷ stopped_uses t y ks check) rows r)
-    pub off : (n : ℕ) → Exactly (z ≡ Err (OffCurve n)) (Passes t y ks check × T (is_between (ends t y ks check) y) × (inversion t y ks check ≡ Err (OffCurve n)))
+    pub off : (n : ℕ) → Exactly (z ≡ Err (OffCurve n)) (Passes t y ks check × T (is_between (ends t y ks check) y)
+        × (inversion t y ks check ≡ Err (OffCurve n)))
     pub is_flat : Exactly (z ≡ Ok Flat) (Passes t y ks check × T flat)
     pub before : Exactly (z ≡ Ok Before) (Passes t y ks check × T (not flat) × T (is_before (ends t y ks check) y))
     pub start : Exactly (z ≡ Ok Start) (Passes t y ks check × T (not flat) × T (eq y (ends t y ks check).low))

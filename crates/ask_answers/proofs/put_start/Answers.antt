@@ -14,4 +14,5 @@ pub overflow_add-i : goal.overflow_add-i
 overflow_add-i c = omega (arith, mul-le-mul c.requires.segment c.row_step.ensures.most, c.first_row.ensures.most)
 
 pub returns : goal.returns
-returns c = chained c.byte.ensures (as_told (ap (λ (i : ℕ). get_or (labels_to c.args.labels.now c.args.rows) i []) (row_is c.args.k c.args.s c.first_row.ensures.answer c.row_step.ensures.answer)) c.put_label.ensures)
+returns c = chained c.byte.ensures (as_told (ap (λ (i : ℕ). get_or (labels_to c.args.labels.now c.args.rows) i [])
+    (row_is c.args.k c.args.s c.first_row.ensures.answer c.row_step.ensures.answer)) c.put_label.ensures)

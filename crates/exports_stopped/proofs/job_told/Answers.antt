@@ -6,7 +6,8 @@ use Rattle.exports_stopped.proofs.job_told.Goals as goal
 
 pub returns-in-Err-Refused : goal.returns-in-Err-Refused
 returns-in-Err-Refused c = let pair = let args = c.args
-    in left args.job.now args.place.now args.whole.now (c.in-Err-Refused.is ∙ ap Err (rw c.in-Err-Refused.is at c.in-Err-Refused.field-0-is)) (c.reply.ensures, (refl, (refl, refl))) in
+    in left args.job.now args.place.now args.whole.now (c.in-Err-Refused.is ∙ ap Err (rw c.in-Err-Refused.is at c.in-Err-Refused.field-0-is))
+    (c.reply.ensures, (refl, (refl, refl))) in
     record { answer = pair.0; job = pair.1.0; place = pair.1.1.0; whole = pair.1.1.1 }
 
 pub returns-in-Err-OffCurve : goal.returns-in-Err-OffCurve
@@ -32,12 +33,16 @@ returns-in-Ok-Flat c = let pair = let args = c.args
 
 pub returns-in-Ok-Before : goal.returns-in-Ok-Before
 returns-in-Ok-Before c = let pair = let args = c.args
-    in left args.job.now args.place.now args.whole.now (c.in-Ok-Before.is ∙ ap Ok (rw c.in-Ok-Before.is at c.in-Ok-Before.field-0-is)) (refl, (refl, (refl, refl))) in
+    in left args.job.now args.place.now args.whole.now (c.in-Ok-Before.is ∙ ap Ok (rw c.in-Ok-Before.is at c.in-Ok-Before.field-0-is))
+    (refl, (refl, (refl, refl))) in
     record { answer = pair.0; job = pair.1.0; place = pair.1.1.0; whole = pair.1.1.1 }
 
 pub returns-in-Ok-Start : goal.returns-in-Ok-Start
 returns-in-Ok-Start c = let pair = let args = c.args
-    in left args.job.now args.place.now args.whole.now (c.in-Ok-Start.is ∙ ap Ok (rw c.in-Ok-Start.is at c.in-Ok-Start.field-0-is)) (refl, (refl, (refl, refl))) in
+    in left args.job.now args.place.now args.whole.now (c.in-Ok-Start.is ∙ ap Ok (rw c.in-Ok-Start.is at c.in-Ok-Start.field-0-is)) (
+      refl,
+      (refl, (refl, refl)),
+    ) in
     record { answer = pair.0; job = pair.1.0; place = pair.1.1.0; whole = pair.1.1.1 }
 
 pub returns-in-Ok-End : goal.returns-in-Ok-End
@@ -47,5 +52,6 @@ returns-in-Ok-End c = let pair = let args = c.args
 
 pub returns-in-Ok-Beyond : goal.returns-in-Ok-Beyond
 returns-in-Ok-Beyond c = let pair = let args = c.args
-    in left args.job.now args.place.now args.whole.now (c.in-Ok-Beyond.is ∙ ap Ok (rw c.in-Ok-Beyond.is at c.in-Ok-Beyond.field-0-is)) (refl, (refl, (refl, refl))) in
+    in left args.job.now args.place.now args.whole.now (c.in-Ok-Beyond.is ∙ ap Ok (rw c.in-Ok-Beyond.is at c.in-Ok-Beyond.field-0-is))
+    (refl, (refl, (refl, refl))) in
     record { answer = pair.0; job = pair.1.0; place = pair.1.1.0; whole = pair.1.1.1 }
