@@ -3,3 +3,4 @@ pub mod Bends
 pub mod Doubles
 pub mod Texts
 pub mod Telling
+pub mod Words
