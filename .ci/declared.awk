@@ -129,10 +129,27 @@ function logic(    i, d, top, k, around, kind) {
     }
 }
 
+# what a trait's members are for a type: its constants and its ghost members, beside the type's own text
+function members(i,    j, t, u, type, any) {
+    t = trimmed(line[i])
+    type = t
+    sub(/^.* for /, "", type)
+    sub(/[^A-Za-z0-9_].*$/, "", type)
+    for (j = i + 1; j <= last && line[j] !~ /^[}]/; j++) {
+        if (line[j] !~ /^    (const|ghost) / || line[j] ~ /^    ghost use /) continue
+        if (line[j] ~ /^    ghost /) any = 1
+        u = trimmed(line[j])
+        while (u !~ /;$/ && j < last) u = u " " trimmed(line[++j])
+        t = t " " u
+    }
+    if (any) print file "#" type "\tpub\t" t " }\t" t " }"
+}
+
 function code(    i, j, t, w, n, d, s) {
     for (i = 1; i <= last; i++) {
         if (line[i] ~ /^ *ghost use( |$)/) { s = whole(i, ".", ";"); sub(/^ghost /, "", s); sub(/ *;$/, "", s); import(s, i); continue }
         if (line[i] ~ /^ *(pub )?use /) { s = whole(i, ".", ";"); rust(s); continue }
+        if (line[i] ~ /^impl[ <][^{]* for [A-Za-z0-9_]+.* [{]$/) { members(i); continue }
         if (!match(line[i], /(^|[ \t])(fn|const|struct|enum|trait) [A-Za-z0-9_]+/)) continue
         n = split(substr(line[i], RSTART, RLENGTH), w, " ")
         d = indent(line[i])

@@ -98,12 +98,12 @@ fn end(
 }
 
 // bin/ask between two lines: what is held of the sheet, its depths and labels, and room for the knots.
-#[derive(Drop)]
+#[derive(Clone, Copy)]
 pub struct Questions {
     pub held: AskHeld,
-    pub rows: [i64; 4096],
+    pub rows: [i64; basis::MOST_KNOTS],
     pub labels: [u8; 69632],
-    pub knots: [f64; 4096],
+    pub knots: [f64; basis::MOST_KNOTS],
 }
 
 impl Questions {
@@ -114,9 +114,9 @@ impl Questions {
     {
         Questions {
             held: AskHeld::Reading(SheetHeld::Unbegun),
-            rows: [0; 4096],
+            rows: [0; basis::MOST_KNOTS],
             labels: [0; 69632],
-            knots: [0.0; 4096],
+            knots: [0.0; basis::MOST_KNOTS],
         }
     }
 }

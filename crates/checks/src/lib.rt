@@ -76,9 +76,10 @@ pub fn knots(knots: &[f64]) -> Result<(), Refusal>
     if all_in_range(knots) {
         return Ok(());
     }
+    // One is out of range, so the last arm cannot come. It refuses too: where it answered, the frame of a conversion was a word larger.
     match first_bad(knots) {
         Some(i) => Err(Refusal::BadKnot(i as u16)),
-        None => Ok(()),
+        None => Err(Refusal::BadKnot(0)),
     }
 }
 

@@ -145,7 +145,7 @@ fn put_checked(
 }
 
 // The checker of claims, which holds what the line program does.
-#[derive(Drop)]
+#[derive(Clone, Copy)]
 pub struct Claims {
     pub lines: Lines,
 }

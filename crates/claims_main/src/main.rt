@@ -1,12 +1,40 @@
 // bin/claims, the checker of claims: it reads, feeds and writes, in large pieces and fixed memory.
 #![tactic(auto)]
 
-use claims::Claims;
+ghost use Rattle.std.specs.Prelude.{◌≡◌, ◌≤◌, length};
+ghost use Rattle.lines_answer.specs.Contract.{curve_of};
+ghost use Rattle.lines_reply.specs.Contract.{longest};
+ghost use Rattle.lines_machine.specs.Bytes.{state_at};
+ghost use Rattle.stream.specs.Stream.{Reached};
+ghost use Rattle.claims.specs.Claims.{claims_program};
 
-// The program and the buffers, once, and then all of the input. What failed was told on standard error.
+use claims::Claims;
+use lines_machine::{LineSoFar, Machine};
+use std::io::Stdin;
+use stream::Failure;
+
+// All of the input, read and fed to the checker of claims, and what it writes.
+fn read_all(
+    input: Stdin,
+    program: &mut Claims,
+    line: &mut LineSoFar,
+    chunk: &mut [u8],
+    out: &mut [u8],
+) -> Result<(), Failure>
+    requires room { longest ≤ length out.old }
+    ensures state { Reached claims_program (state_at line.old (curve_of program.old.lines.held program.old.lines.table))
+        (state_at line.new (curve_of program.new.lines.held program.new.lines.table)) }
+    ensures long { length out.new ≡ length out.old }
+{
+    stream::read_all(input, program, line, chunk, out)
+}
+
+// The program and the buffers, once, then all of the input, and its end. What failed was told on standard error.
 fn main(rt: HostRuntime) {
     let mut program = Claims::new();
+    let mut line = Claims::begin();
     let mut chunk = [0u8; 65536];
     let mut out = [0u8; 188416];
-    let _ = stream::whole(rt.stdin(), &mut program, &mut chunk, &mut out);
+    let read = read_all(rt.stdin(), &mut program, &mut line, &mut chunk, &mut out);
+    let _ = stream::ended(read, &mut program, &line, &mut out);
 }

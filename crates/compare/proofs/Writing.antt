@@ -92,7 +92,17 @@ pub record Upto (p : Pen) (ks ls : List ℕ) (i : ℕ) (q : Pen) (n : ℕ) : Typ
 module _ (ks ls : List ℕ) where
   pub upto_none : (p : Pen) → Upto p ks ls 0 p 0
   unfolding places_in lines_text
-  upto_none p = record { told = []; wrote = record { text = sym (nothing p); short = omega arith; room = refl }; count = refl; most = omega arith; whole = refl }
+  upto_none p = record {
+    told = [];
+    wrote = record {
+      text = sym (nothing p);
+      short = omega arith;
+      room = refl;
+    };
+    count = refl;
+    most = omega arith;
+    whole = refl;
+  }
 
   pub upto_more : (i : ℕ) {p q r : Pen} {n₁ n₂ : ℕ} → (length ks ≤ i → i < length ls) → Upto p ks ls i q n₁
       → Writes q (lines_text (at_place i ks ls)) 44 r → n₂ ≡ places_in (at_place i ks ls) → n₂ ≤ 1 → Upto p ks ls (i + 1) r (n₁ + n₂)

@@ -344,11 +344,11 @@ pub fn end(h: Comparison, old: &[u64], new: &[u64], out: &mut [u8], at: usize) -
 }
 
 // The comparison between two lines: both listings, whose knots are the first of `old` and of `new`.
-#[derive(Drop)]
+#[derive(Clone, Copy)]
 pub struct Comparisons {
     pub held: Comparison,
-    pub old: [u64; 4096],
-    pub new: [u64; 4096],
+    pub old: [u64; basis::MOST_KNOTS],
+    pub new: [u64; basis::MOST_KNOTS],
     ghost few: { count_of held ≤ places },
 }
 
@@ -359,8 +359,8 @@ impl Comparisons {
     {
         Comparisons {
             held: Comparison::Before(Listing::Nothing),
-            old: [0; 4096],
-            new: [0; 4096],
+            old: [0; basis::MOST_KNOTS],
+            new: [0; basis::MOST_KNOTS],
         }
     }
 }

@@ -15,7 +15,8 @@ pub unfound : {A : Type 0} {c k : Option Basis} (d : A) (f : Basis → A) → c 
 unfound d f asked unknown = sym (ap (λ x. chosen x d f) (sym asked ∙ unknown))
 
 -- ---- the same of a way
-pub way_found : {A : Type 0} {c k : Option (EndsBy × Method)} {e : EndsBy} {m : Method} {r : A} (d : A) (f : EndsBy → Method → A) → c ≡ k → c ≡ Some (e, m) → r ≡ f e m
+pub way_found : {A : Type 0} {c k : Option (EndsBy × Method)} {e : EndsBy} {m : Method} {r : A} (d : A) (f : EndsBy → Method → A)
+    → c ≡ k → c ≡ Some (e, m) → r ≡ f e m
     → r ≡ way k d f
 way_found d f asked known answered = answered ∙ sym (ap (λ x. way x d f) (sym asked ∙ known))
 

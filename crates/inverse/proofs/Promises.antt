@@ -93,7 +93,8 @@ module _ (m : EndsBy) (how : Method) (b : Basis) (y : Float) (ks : List Float) (
   abbrev pub Premise : Type 0
   Premise = Supposed rule.ends rule.made (segment_of b ks) k y ε limit
 
-  pub by_verdict : (P : Inversion → Type 0) → ((r : Refusal) → P (Err (Refused r))) → (Admitted b y ks check → P here) → P (inverse_by m how b y ks check limit ε)
+  pub by_verdict : (P : Inversion → Type 0) → ((r : Refusal) → P (Err (Refused r))) → (Admitted b y ks check → P here)
+      → P (inverse_by m how b y ks check limit ε)
   unfolding inverse_by
   by_verdict P f h = go (first (inverse_uses b y ks check limit ε)) refl
     where

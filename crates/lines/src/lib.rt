@@ -26,11 +26,11 @@ pub fn said(line: Option<&[u8]>) -> Record
 }
 
 // The line program between two lines: the curve, whose knots are the first of the table, and room for a conversion.
-#[derive(Drop)]
+#[derive(Clone, Copy)]
 pub struct Lines {
     pub held: Session,
     pub table: [f64; 4096],
-    pub converted: [f64; 4096],
+    pub converted: [f64; basis::MOST_KNOTS],
     ghost few: { count_of held ≤ places },
 }
 
@@ -42,7 +42,7 @@ impl Lines {
         Lines {
             held: Session::Nothing,
             table: [0.0; 4096],
-            converted: [0.0; 4096],
+            converted: [0.0; basis::MOST_KNOTS],
         }
     }
 

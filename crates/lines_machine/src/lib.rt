@@ -3,7 +3,7 @@
 
 ghost use Rattle.std.specs.Prelude.{◌≡◌, ◌≤◌, ◌<◌, ◌+◌, ℕ, [], length, take};
 ghost use Rattle.text.specs.Wrote.{Wrote};
-ghost use Rattle.lines_machine.specs.Program.{Line, so, Program};
+ghost use Rattle.lines_machine.specs.Program.{Line, widest, so, Program};
 ghost use Rattle.lines_machine.specs.Bytes.{state_at, push, end_of};
 ghost use Rattle.lines_machine.specs.Contract.{open_of, said_of, unbegun, Fits, Stretch, Fed};
 
@@ -62,12 +62,7 @@ impl LineSoFar {
     pub fn pushed(&mut self, byte: u8)
         ensures { self.new ≡ push self.old byte }
     {
-        if self.len < WIDEST {
-            self.bytes[self.len] = byte;
-            self.len += 1;
-        } else {
-            self.len = WIDEST + 1;
-        }
+        self.len = put(self.len, byte, &mut self.bytes);
     }
 
     // The bytes of the chunk from `from` up to the end of the line, or to the chunk's own, go onto the line. The answer is where they stop.
@@ -75,14 +70,49 @@ impl LineSoFar {
         requires { from ≤ length chunk.now }
         ensures { Stretch chunk.now from self.old result self.new }
     {
-        for i in from..chunk.len() {
-            let b = chunk[i];
-            if b == b'\n' {
-                return i;
-            }
-            self.pushed(b);
+        let cut = stretch(chunk, from, self.len, &mut self.bytes);
+        self.len = cut.len;
+        cut.stop
+    }
+}
+
+// A byte of a line, of which `len` bytes stand in the lent 64. The answer is how many stand there now; 65 means that the line is too long.
+fn put(len: usize, byte: u8, bytes: &mut [u8]) -> usize
+    requires { length bytes.old ≡ widest }
+    ensures { open_of result bytes.new ≡ push (open_of len bytes.old) byte }
+{
+    if len < WIDEST {
+        bytes[len] = byte;
+        return len + 1;
+    }
+    WIDEST + 1
+}
+
+// Where a stretch of one line stops, and how many bytes of the line stand in the lent 64.
+#[derive(Clone, Copy)]
+struct Cut {
+    stop: usize,
+    len: usize,
+}
+
+// The stretch of a line that begins at `from`. The number of bytes is handed on by value: in the lent line it would go through memory for
+// each byte.
+fn stretch(chunk: &[u8], from: usize, len: usize, bytes: &mut [u8]) -> Cut
+    requires long { length bytes.old ≡ widest }
+    requires start { from ≤ length chunk.now }
+    ensures { Stretch chunk.now from (open_of len bytes.old) result.stop (open_of result.len bytes.new) }
+{
+    let mut n = len;
+    for i in from..chunk.len() {
+        let b = chunk[i];
+        if b == b'\n' {
+            return Cut { stop: i, len: n };
         }
-        chunk.len()
+        n = put(n, b, &mut *bytes);
+    }
+    Cut {
+        stop: chunk.len(),
+        len: n,
     }
 }
 

@@ -83,7 +83,8 @@ arm b c xs ks out now end {k} q e r p l =
 -- ---- the answer
 pub told_which : (r : Refusal) (xs : List Float) {n i : ℕ} → n ≡ number_of r → n ≡ 5 → i ≡ first_nan xs → Err (NotANumberAt i) ≡ told_of r xs
 told_which r xs a b e =
-    ap (λ a. Err (NotANumberAt a)) e ∙ sym (ap (λ (t : Bool). cond t (Err (NotANumberAt (first_nan xs))) (Err (Refused r))) (eq-eqb (number_of r) 5 (sym a ∙ b)))
+    ap (λ a. Err (NotANumberAt a)) e ∙ sym (ap (λ (t : Bool). cond t (Err (NotANumberAt (first_nan xs))) (Err (Refused r)))
+    (eq-eqb (number_of r) 5 (sym a ∙ b)))
 
 pub told_same : (r : Refusal) (xs : List Float) {n : ℕ} → n ≡ number_of r → (n ≡ 5 → Prim.⊥) → Err (Refused r) ≡ told_of r xs
 told_same r xs a b = sym (ap (λ (t : Bool). cond t (Err (NotANumberAt (first_nan xs))) (Err (Refused r))) (ne_eqb (number_of r) 5 (λ e. b (a ∙ e))))

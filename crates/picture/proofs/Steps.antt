@@ -69,7 +69,8 @@ fault_so f (Find y) a a' h = h f
 fault_so f (Turn c) a a' h = h f
 fault_so f Bad a a' h = h f
 
-pub drawn_so : (o : Line) (f₀ : List Float) (g₀ : Option Refusal) {r : Record} {c : Curve} {f : List Float} {g : Option Refusal} {a : SessionReply} {table : List Float}
+pub drawn_so : (o : Line) (f₀ : List Float) (g₀ : Option Refusal) {r : Record} {c : Curve} {f : List Float}
+    {g : Option Refusal} {a : SessionReply} {table : List Float}
     → r ≡ says o → Takes c r a table → f ≡ finds_after f₀ r → ((l : List Float) → g ≡ fault_after g₀ r (reply_of a.told l))
     → record { curve = curve_of a.held table; finds = f; fault = g } ≡ drawn (record { curve = c; finds = f₀; fault = g₀ }) (says o)
 drawn_so o f₀ g₀ {r} {c} {f} {g} {a} {table} e w v u =

@@ -162,21 +162,19 @@ fn taken(h: Session, r: Record, table: &mut [f64]) -> SessionReply
     }
 }
 
-// What is drawn after a line.
-pub fn line(h: PictureState, line: Option<&[u8]>, table: &mut [f64]) -> PictureState
-    requires held { count_of h ≤ places }
+// What is drawn after a line. In place: by value, the eight targets were copied for every line.
+pub fn line(h: &mut PictureState, line: Option<&[u8]>, table: &mut [f64])
+    requires held { count_of h.old ≤ places }
     requires table { length table.old ≡ places }
-    ensures state { drawing_of result table.new ≡ picture_program.after (drawing_of h table.old)
+    ensures state { drawing_of h.new table.new ≡ picture_program.after (drawing_of h.old table.old)
         (said_of line.entry) }
-    ensures few { count_of result ≤ places }
+    ensures few { count_of h.new ≤ places }
 {
     let r = lines::said(line);
     let a = taken(h.curve, r, table);
-    PictureState {
-        curve: a.held,
-        finds: finds_after(h.finds, r),
-        fault: fault_after(h.fault, r, a.told),
-    }
+    h.curve = a.held;
+    h.finds = finds_after(h.finds, r);
+    h.fault = fault_after(h.fault, r, a.told);
 }
 
 // The picture of what is held.
@@ -214,10 +212,10 @@ pub fn end(h: PictureState, table: &[f64], out: &mut [u8], at: usize) -> usize
 }
 
 // The drawing program between two lines: what is drawn; the knots are the first of the table.
-#[derive(Drop)]
+#[derive(Clone, Copy)]
 pub struct Pictures {
     pub held: PictureState,
-    pub table: [f64; 4096],
+    pub table: [f64; basis::MOST_KNOTS],
     ghost few: { count_of held ≤ places },
 }
 
@@ -232,7 +230,7 @@ impl Pictures {
                 finds: picture_finds::none(),
                 fault: None,
             },
-            table: [0.0; 4096],
+            table: [0.0; basis::MOST_KNOTS],
         }
     }
 }
@@ -255,7 +253,7 @@ impl Machine for Pictures {
     ghost Keeps = { λ p. Unit };
 
     fn line(&mut self, line: Option<&[u8]>, _out: &mut [u8], at: usize) -> usize {
-        self.held = crate::line(self.held, line, &mut self.table);
+        crate::line(&mut self.held, line, &mut self.table);
         at
     }
 

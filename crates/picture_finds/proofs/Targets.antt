@@ -72,6 +72,7 @@ module _ (span : ℕ) (m : EndsBy) (b : Basis) (ks : List Float) (e : Extent) (l
   unfolding finds_text
   no_finds = refl
 
-  pub finds_go_on : (i : ℕ) {y : Float} → get_or l i nan ≡ y → finds_text span m b ks e l (i + 1) ≡ finds_text span m b ks e l i ++ find_text span m b ks e (i + 2) y
+  pub finds_go_on : (i : ℕ) {y : Float} → get_or l i nan ≡ y
+      → finds_text span m b ks e l (i + 1) ≡ finds_text span m b ks e l i ++ find_text span m b ks e (i + 2) y
   unfolding finds_text
   finds_go_on i h = rw (add-one i, h) refl

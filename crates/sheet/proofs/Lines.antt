@@ -96,7 +96,8 @@ depth_small l b n e = go (ltb (tab_of l) (length l) && leb 1 (tab_of l) && leb (
     go false h = never h
 
 -- ---- a knot more
-module _ (b : Basis) (n : ℕ) (table : List Float) (minus : Bool) (d : ℕ) {e f : Option (Bool × ℕ)} (p : e ≡ f) (q : e ≡ Some (minus, d)) {x : Float} (r : x ≡ depth_of minus d)
+module _ (b : Basis) (n : ℕ) (table : List Float) (minus : Bool) (d : ℕ) {e f : Option (Bool × ℕ)} (p : e ≡ f) (q : e ≡ Some (minus, d))
+    {x : Float} (r : x ≡ depth_of minus d)
     {k : Option ℕ} {table' : List Float} (h : Keeps x n table k table') where
   said : f ≡ Some (minus, d)
   said = sym p ∙ q

@@ -150,10 +150,10 @@ pub fn end(h: SheetState, table: &[f64], out: &mut [u8], at: usize) -> usize
 }
 
 // The reader of sheets between two lines: the sheet, whose depths are the first of the table.
-#[derive(Drop)]
+#[derive(Clone, Copy)]
 pub struct Sheets {
     pub held: SheetState,
-    pub table: [f64; 4096],
+    pub table: [f64; basis::MOST_KNOTS],
     ghost few: { count_of held ≤ most },
 }
 
@@ -164,7 +164,7 @@ impl Sheets {
     {
         Sheets {
             held: SheetState::Unbegun,
-            table: [0.0; 4096],
+            table: [0.0; basis::MOST_KNOTS],
         }
     }
 }

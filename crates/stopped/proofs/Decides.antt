@@ -86,7 +86,8 @@ module _ (t : Table) (y : Float) (ks : List Float) (check : Bool) (g : good_span
   -- ---- by the end rule
   pub at_ends : by_end i ≡ true → {j : Result Job Miss} → j ≡ said_of (ends_of t.basis ks) y (timed_of t.span i) → j ≡ stopped_of t y ks check
   at_ends h p =
-      p ∙ ap (λ (x : Result (Place × ℕ) Miss). said_of (ends_of t.basis ks) y x) (sym told) ∙ sym (passed t y ks check (passes (no_row_applies Curve t y ks check q h)))
+      p ∙ ap (λ (x : Result (Place × ℕ) Miss). said_of (ends_of t.basis ks) y x) (sym told)
+      ∙ sym (passed t y ks check (passes (no_row_applies Curve t y ks check q h)))
 
   -- ---- not by the end rule
   inside : first (stopped_uses t y ks check) ≡ Ok tt → by_end i ≡ false → T (is_between (ends t y ks check) y)

@@ -3,7 +3,7 @@
 #![tactic(auto)]
 
 ghost use Rattle.std.specs.Prelude.{◌≡◌, ◌+◌, ◌≤◌, ◌<◌, length, Err, IfOk, IfErr, IfSome};
-ghost use Rattle.stream.specs.Stream.{got_of, moved};
+ghost use Rattle.stream.specs.Stream.{got_of, left_of, moved, Reached};
 ghost use Rattle.lines_machine.specs.Bytes.{state_at, ran_of};
 
 use lines_machine::{LineSoFar, Machine};
@@ -78,23 +78,52 @@ pub fn feed_all<M: Machine>(
     wrote
 }
 
-// One read, fed and written: whether there is more.
-fn piece<M: Machine>(
+// How many reads are left: one fewer than before, or none. It begins with more than any run makes.
+pub fn left(before: u64, more: bool) -> u64
+    requires { 0 < before }
+    ensures answer { result ≡ left_of before more }
+    ensures fewer { result < before }
+{
+    if more { before - 1 } else { 0 }
+}
+
+// All that is read, fed and written, until a read brings nothing or something failed.
+pub fn read_all<M: Machine>(
     input: Stdin,
     m: &mut M,
     line: &mut LineSoFar,
     chunk: &mut [u8],
     out: &mut [u8],
-) -> Result<bool, Failure>
+) -> Result<(), Failure>
     requires keeps { M.Keeps m.old }
     requires room { M.LINE_ROOM ≤ length out.old }
+    ensures state { Reached M.program (state_at line.old (M.held m.old)) (state_at line.new (M.held m.new)) }
     ensures kept { M.Keeps m.new }
+    ensures long { length out.new ≡ length out.old }
 {
-    let Some(n) = read(input, &mut *chunk)? else {
-        return Ok(false);
-    };
-    feed_all(m, line, &chunk[..n], out)?;
-    Ok(true)
+    let mut reads = u64::MAX;
+    while reads > 0 {
+        let got = read(input, &mut *chunk)?;
+        let n = got.unwrap_or(0);
+        feed_all(&mut *m, &mut *line, &chunk[..n], &mut *out)?;
+        reads = left(reads, got.is_some());
+    }
+    Ok(())
+}
+
+// The end of the input, written where nothing failed before.
+pub fn ended<M: Machine>(
+    before: Result<(), Failure>,
+    m: &mut M,
+    line: &LineSoFar,
+    out: &mut [u8],
+) -> Result<(), Failure>
+    requires keeps { M.Keeps m.old }
+    requires room { M.LINE_ROOM + M.END_ROOM ≤ length out.old }
+    ensures { IfErr before (λ f. result ≡ Err f) }
+{
+    let at = m.finish(line, &mut *out);
+    written(before, &out[..at])
 }
 
 // The whole input; its end is written where nothing failed.
@@ -108,12 +137,6 @@ pub fn whole<M: Machine>(
     requires room { M.LINE_ROOM + M.END_ROOM ≤ length out.old }
 {
     let mut line = M::begin();
-    // more reads than any run makes
-    for _ in 0..u64::MAX {
-        if !piece(input, &mut *m, &mut line, &mut *chunk, &mut *out)? {
-            break;
-        }
-    }
-    let at = m.finish(&line, &mut *out);
-    written(Ok(()), &out[..at])
+    let read = read_all(input, &mut *m, &mut line, chunk, &mut *out);
+    ended(read, m, &line, out)
 }

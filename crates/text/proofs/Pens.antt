@@ -54,6 +54,11 @@ pub nothing : (p : Pen) → with p [] ≡ p
 unfolding patch
 nothing p = rw (add-zero p.at, take-append-drop p.at p.out.now) refl
 
+-- of a text without a byte nothing has to be written
+pub none_written : (p : Pen) (t : List ℕ) → length t ≡ 0 → Writes p t (length t) p
+none_written p [] e = record { text = sym (nothing p); short = omega arith; room = refl }
+none_written p (b ∷ t) e = absurd (omega (arith, e))
+
 -- one text, then another, as one
 pub chained : {p q r : Pen} {t u : List ℕ} {m n : ℕ} → Writes p t m q → Writes q u n r → Writes p (t ++ u) (m + n) r
 chained {p} {q} {r} {t} {u} a b = record {

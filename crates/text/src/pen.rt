@@ -37,22 +37,25 @@ impl<'a> Pen<'a> {
         self.at += 1;
     }
 
-    // Writes a word.
+    // Writes a word. Of an empty one nothing is copied: the copying costs as much for no byte as for some.
     #[tactic(auto, using(crate::proofs::Pens::pens, crate::proofs::Pens::patch_word))]
     pub fn word(&mut self, w: &[u8])
         requires { HasRoom self.old (length w.now) }
         ensures { Writes self.old w.now (length w.now) self.new }
     {
-        let end = self.at + w.len();
-        self.out[self.at..end].copy_from_slice(w);
-        self.at = end;
+        if !w.is_empty() {
+            let end = self.at + w.len();
+            self.out[self.at..end].copy_from_slice(w);
+            self.at = end;
+        }
     }
 
     // Writes the k lowest hexadecimal digits of n.
     #[tactic(auto, using(crate::proofs::Pens::pens, crate::proofs::Numbers::hex_zero, crate::proofs::Numbers::hex_step))]
     pub fn hex(&mut self, n: u64, k: usize)
         requires { HasRoom self.old k }
-        ensures { Writes self.old (hex_text k n) k self.new }
+        ensures text { Writes self.old (hex_text k n) k self.new }
+        ensures long { self.new.at ≡ self.old.at + k }
     {
         if k > 0 {
             self.hex(n / 16, k - 1);
@@ -78,7 +81,8 @@ impl<'a> Pen<'a> {
     // Writes a double as the sixteen digits of its bits.
     pub fn double(&mut self, x: f64)
         requires { HasRoom self.old 16 }
-        ensures { Writes self.old (double_text x) 16 self.new }
+        ensures text { Writes self.old (double_text x) 16 self.new }
+        ensures long { self.new.at ≡ self.old.at + 16 }
     {
         self.hex(crate::to_bits(x), 16);
     }

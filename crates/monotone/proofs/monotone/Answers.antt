@@ -16,7 +16,8 @@ fill-requires c = let a = c.args in
 
 pub returns-in_err-verdict : goal.returns-in_err-verdict
 returns-in_err-verdict c = let pair = let a = c.args in
-    refuses (held_all a.rows.now) a.out.now c.verdict.ensures c.in_err-verdict.was in record { answer = exit _ _ c.from_residual.ensures.1 ∙ pair.0; out = pair.1 }
+    refuses (held_all a.rows.now) a.out.now c.verdict.ensures c.in_err-verdict.was
+    in record { answer = exit _ _ c.from_residual.ensures.1 ∙ pair.0; out = pair.1 }
 
 pub returns : goal.returns
 returns c = let pair = let a = c.args in

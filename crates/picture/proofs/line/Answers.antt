@@ -6,8 +6,8 @@ use Rattle.picture.proofs.line.Goals as goal
 
 pub returns : goal.returns
 returns c = let a = c.args in record {
-  state = drawn_so (said_of a.line) (targets_of a.h.finds) a.h.fault c.said-r.ensures
-      c.taken-a.ensures c.finds_after.ensures
-      c.fault_after.ensures;
+  state = drawn_so (said_of a.line) (targets_of a.h.now.finds) a.h.now.fault c.said-r.ensures
+      c.taken-a.ensures c.finds_after-h.ensures
+      c.fault_after-h.ensures;
   few = c.taken-a.ensures.few;
 }

@@ -9,7 +9,8 @@ pub returns-then-is_empty : goal.returns-then-is_empty
 returns-then-is_empty c =
     elim c.then-is_empty.branch [
       | then-is_empty-via-then-is_empty w ↦ number_short _ _ (omega (arith, eqb-true _ _ (sym c.is_empty.ensures ∙ w.if-is_empty.true)))
-      | then-is_empty-via-else-is_empty+then-most-s w ↦ number_long _ _ (omega (arith, eqb-false _ _ (sym c.is_empty.ensures ∙ w.if-is_empty.false))) (omega arith)
+      | then-is_empty-via-else-is_empty+then-most-s w ↦ number_long _ _ (omega (arith, eqb-false _ _ (sym c.is_empty.ensures ∙ w.if-is_empty.false)))
+          (omega arith)
     ]
 
 pub returns-in_err-d : goal.returns-in_err-d

@@ -44,4 +44,5 @@ loop-s-preserved c = let l = c.loop-s in
 pub returns : goal.returns
 returns c = let l = c.loop-s in
     let a = c.args in
-    sym (none_falls a.b (turned_all a.up (held_all a.knots.now)) c.segments-n.result l.s (omega arith) (omega arith) l.invariant) ∙ omega (arith, c.segments-n.ensures)
+    sym (none_falls a.b (turned_all a.up (held_all a.knots.now)) c.segments-n.result l.s (omega arith) (omega arith) l.invariant)
+    ∙ omega (arith, c.segments-n.ensures)

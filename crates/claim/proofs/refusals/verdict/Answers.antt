@@ -7,7 +7,8 @@ use Rattle.claim.proofs.Cases.{claim_stops, claim_target, claim_place, claim_pre
 use Rattle.claim.proofs.refusals.verdict.Goals as goal
 
 pub returns-in_err-curve_length : goal.returns-in_err-curve_length
-returns-in_err-curve_length c = exit _ _ c.from_residual.ensures.1 ∙ sym c.in_err-curve_length.was ∙ (claim_stops c.args.b c.args.y c.args.s c.args.x c.args.precision c.args.knots.now
+returns-in_err-curve_length c = exit _ _ c.from_residual.ensures.1 ∙ sym c.in_err-curve_length.was
+    ∙ (claim_stops c.args.b c.args.y c.args.s c.args.x c.args.precision c.args.knots.now
     c.curve_length.ensures c.in_err-curve_length.was)
 
 pub returns-then-y : goal.returns-then-y

@@ -48,11 +48,13 @@ returns-in-Bezier c = let a = c.args in
 
 pub returns-in-CatmullRom : goal.returns-in-CatmullRom
 returns-in-CatmullRom c = let a = c.args in
-    arm a.b CatmullRom a.xs.now a.knots.now a.out.now _ _ c.in-CatmullRom.is c.segments-k.ensures c.requires.room c.put_scaled.ensures c.put_in_place-in-CatmullRom.ensures
+    arm a.b CatmullRom a.xs.now a.knots.now a.out.now _ _ c.in-CatmullRom.is c.segments-k.ensures
+    c.requires.room c.put_scaled.ensures c.put_in_place-in-CatmullRom.ensures
 
 pub returns-in-Hermite : goal.returns-in-Hermite
 returns-in-Hermite c = let a = c.args in
-    arm a.b Hermite a.xs.now a.knots.now a.out.now _ _ c.in-Hermite.is c.segments-k.ensures c.requires.room c.put_scaled.ensures c.put_in_place-in-Hermite.ensures
+    arm a.b Hermite a.xs.now a.knots.now a.out.now _ _ c.in-Hermite.is c.segments-k.ensures
+    c.requires.room c.put_scaled.ensures c.put_in_place-in-Hermite.ensures
 
 pub returns-in-Linear : goal.returns-in-Linear
 returns-in-Linear c = let a = c.args in
