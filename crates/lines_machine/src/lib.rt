@@ -167,6 +167,20 @@ pub trait Machine {
         LineSoFar::new()
     }
 
+    // Before the first byte of a next line.
+    fn next_line(line: &mut LineSoFar)
+        ensures { line.new ≡ so [] }
+    {
+        line.clear();
+    }
+
+    // Whether the input ends behind a line's end: then there is no last line without one.
+    fn ends_whole(line: &LineSoFar) -> bool
+        ensures { result ≡ unbegun line.now }
+    {
+        line.is_empty()
+    }
+
     // The bytes of a chunk, as long as `out` has room for any line's text.
     fn feed(&mut self, line: &mut LineSoFar, chunk: &[u8], out: &mut [u8]) -> Taken
         requires keeps { Keeps self.old }
@@ -187,7 +201,7 @@ pub trait Machine {
             i = line.cut(chunk, i);
             if i < chunk.len() {
                 at = self.line(line.said(), &mut *out, at);
-                line.clear();
+                Self::next_line(&mut *line);
                 i += 1;
             }
         }
@@ -201,7 +215,7 @@ pub trait Machine {
         ensures wrote { Wrote out.old 0 (end_of program (state_at line.now (held self.old))) out.new result }
         ensures short { result ≤ LINE_ROOM + END_ROOM }
     {
-        if line.is_empty() {
+        if Self::ends_whole(line) {
             return self.end(out, 0);
         }
         let at = self.line(line.said(), &mut *out, 0);

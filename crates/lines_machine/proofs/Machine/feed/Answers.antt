@@ -21,7 +21,7 @@ loop-i-preserved-then-i-chunk g c =
       omega arith,
       omega (arith, c.line-at.ensures.wrote.long, c.line-at.ensures.short),
       (λ e. omega arith),
-      rw (c.clear.ensures) (fed_line m.program a.chunk.now 0 c.cut-i.result (omega arith) t
+      rw (c.next_line.ensures) (fed_line m.program a.chunk.now 0 c.cut-i.result (omega arith) t
           (fed_stretch m.program a.chunk.now 0 l.i c.cut-i.result (omega arith) l.invariant.0 l.invariant.3 c.cut-i.ensures)
           (c.cut-i.ensures.end t) s w),
       c.line-at.ensures.kept,
