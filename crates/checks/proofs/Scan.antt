@@ -8,7 +8,8 @@ use native.Mathlib.Numerals.{add-one}
 use lib.ListN.{length, drop, get_or, drop_of_length-le}
 use lib.Seq.{drop-cons}
 use lib.Ieee.{Float, nan}
-use Rattle.std.proofs.Common.{Option, MatchOption, HoldsAt}
+use Rattle.std.proofs.Common.{Option, Some, None, MatchOption, HoldsAt}
+use Rattle.std.proofs.lemmas.List.{get_or_default}
 use Rattle.std.specs.List.{AllWithin}
 use Rattle.error.specs.Found.{Found}
 use Rattle.error.proofs.Found.{found_first}
@@ -37,6 +38,16 @@ pub bad_found : (ks : List Float) (r : Option ℕ)
 unfolding first_bad
 bad_found ks r h = found_first first_bad (λ x. in_range x ≡ false) (λ x. in_range x ≡ true) refl (λ x xs e. simp e)
     (λ x xs e. rw e (sym (add-one _))) ks r h
+
+-- the same, where the places are told one by one
+pub bad_among : (ks : List Float) (r : Option ℕ)
+    → MatchOption r ((k : ℕ) → 0 ≤ k → k < length ks → in_range (get_or ks k nan) ≡ true)
+    (λ i. (0 ≤ i) × (i < length ks) × (in_range (get_or ks i nan) ≡ false) × ((k : ℕ) → 0 ≤ k → k < i → in_range (get_or ks k nan) ≡ true))
+    → Found (length ks) (first_bad ks) r
+bad_among ks None h = bad_found ks None (λ k d l g. rw (get_or_default ks k d nan g) (h k l g))
+bad_among ks (Some i) h =
+    bad_found ks (Some i)
+    (h.1, (λ d. rw (get_or_default ks i d nan h.1) h.2), (λ k d l g. rw (get_or_default ks k d nan (omega (arith, g, h.1))) (h.3 k l g)))
 
 -- where some knot is out of range: the number is that of a knot that is, and each before it is in range
 pub first_bad_is : (ks : List Float) → all_in_range ks ≡ false

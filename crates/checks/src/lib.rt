@@ -65,7 +65,7 @@ fn all_in_range(knots: &[f64]) -> bool
 fn first_bad(knots: &[f64]) -> Option<usize>
     ensures { Found (length knots.now) (first_bad knots.now) result }
 {
-    knots.iter().position(|x| !in_range(*x))
+    (0..knots.len()).find(|i| !in_range(knots[*i]))
 }
 
 // Refusal 4. Which knot is out of range is looked for only where one is. The length has been tested, so that its number fits 16 bits.
